@@ -1,0 +1,4 @@
+pub mod ChoiceLaws
+pub mod EachLaws
+pub mod Tables
+pub mod Stores
