@@ -2,11 +2,12 @@
 -- Assumes nothing.
 use mathlib.Core.Path.{_≡_, refl, ap, sym, _∙_}
 use mathlib.Core.List.{List, [], _∷_, map}
-use Prim.Native.Nat.{ℕ, zero, suc, _+_, _<_}
+use Prim.Native.Nat.{ℕ, zero, suc, _+_, _-_, _<_, _≤_}
 use native.Mathlib.Omega.{arith}
 use native.Mathlib.Nat.{add-zero, zero-add, add-suc, suc-add, le-of-suc-le-suc, not-suc-le-zero}
 use native.Mathlib.Numerals.{add-one}
-use lib.ListN.{getD, set, length, length-map}
+use lib.ListN.{getD, set, length, drop, length-map}
+use lib.Seq.{drop-cons, drop-length}
 use Rattle.choice.specs.Each.{each, eachFrom}
 
 module _ {A : Type 0} (f : ℕ → A → A) where
@@ -63,6 +64,16 @@ module _ {A : Type 0} (f : ℕ → A → A) where
   pub worked-all : (n : ℕ) (xs : List A) → length xs ≡ n → worked n xs ≡ each f xs
   unfolding worked each
   worked-all n xs e = rw (← e) (all 0 xs)
+
+-- a value gathered from a list's end to its start, one element a turn: where a loop down the numbers stands
+module _ {A B : Type 0} (g : List A → B) (h : A → B → B) (step : (x : A) (xs : List A) → g (x ∷ xs) ≡ h x (g xs)) where
+  pub gathered-turn : (i : ℕ) (xs : List A) (d : A) → 0 < i → i ≤ length xs → h (getD xs (i - 1) d) (g (drop i xs)) ≡ g (drop (i - 1) xs)
+  gathered-turn i xs d p q =
+      let e : suc (i - 1) ≡ i = omega arith in
+      sym (ap g (drop-cons xs (i - 1) d (omega arith) ∙ ap (λ (n : ℕ). getD xs (i - 1) d ∷ drop n xs) e) ∙ step (getD xs (i - 1) d) (drop i xs))
+
+  pub gathered-none : (n : ℕ) (xs : List A) → length xs ≡ n → g (drop n xs) ≡ g []
+  gathered-none n xs e = ap g (ap (λ (k : ℕ). drop k xs) (sym e) ∙ drop-length xs)
 
 -- an array's length, from what owning it tells, where its elements are not their own machine values
 pub length-mapped : {A B : Type 0} (f : A → B) (l : List A) (n : ℕ) → length (map f l) ≡ n → length l ≡ n

@@ -1,0 +1,72 @@
+-- `stage` meets its contract: after i turns the first i modules are worked.
+-- Assumes nothing.
+use Prim.Native.Nat.{_-_, _≤_}
+use mathlib.Core.Path.{_≡_, _∙_}
+use native.Mathlib.Omega.{arith}
+use Rattle.choice.proofs.EachLaws.{worked, worked-none, worked-turn, worked-all, length-mapped}
+use Rattle.modules.specs.Stage.{moduleSecond, stageOf}
+use borrow.Author.Needs.{needs}
+use Rattle.modules.proofs.stage.stage.Statement.{statement}
+use Rattle.modules.proofs.stage.stage.Tie as tie
+
+abbrev Inv-loop : tie.InvT-loop
+Inv-loop allowed shorts next₀ i₀ next i = record { low : i ≤ 8; done : next ≡ worked (moduleSecond allowed shorts) i next₀ }
+
+abbrev μ-loop : tie.MeasureT-loop
+μ-loop allowed shorts next₀ i₀ next i = 8 - i
+
+loop-holds : tie.Need-loop-holds Inv-loop μ-loop
+loop-holds c = record { low = search needs; done = worked-none _ _ }
+
+mul-m : tie.Need-mul-m Inv-loop μ-loop
+mul-m c = search needs
+
+array-copy-out-m : tie.Need-array-copy-out-m Inv-loop μ-loop
+array-copy-out-m c = search needs
+
+has-requires : tie.Need-has-requires Inv-loop μ-loop
+has-requires c κs = search needs
+
+has-requires-2 : tie.Need-has-requires-2 Inv-loop μ-loop
+has-requires-2 c κs = search needs
+
+second-requires : tie.Need-second-requires Inv-loop μ-loop
+second-requires c κs = search needs
+
+mul-next : tie.Need-mul-next Inv-loop μ-loop
+mul-next c = search needs
+
+array-set-from-next : tie.Need-array-set-from-next Inv-loop μ-loop
+array-set-from-next c = search needs
+
+add-i : tie.Need-add-i Inv-loop μ-loop
+add-i c = search needs
+
+loop-less : tie.Need-loop-less Inv-loop μ-loop
+loop-less c = search needs
+
+loop-again : tie.Need-loop-again Inv-loop μ-loop
+loop-again c = record { low = omega arith; done = simp (c .second .ensures, c .before .has2 .ensures, c .before .before .before .has .ensures, c .before .before .before .before .before .before .loop .inv .done) (worked-turn _ _ _ _) }
+
+returns : tie.Need-returns Inv-loop μ-loop
+unfolding stageOf
+returns c = let e : c .before .loop .i ≡ 8 = omega arith in (rw e at (c .before .loop .inv .done)) ∙ worked-all _ 8 (c .before .before .args .modules) (search (needs, length-mapped))
+
+pub stage-spec : {M : Type 1} → statement M
+stage-spec =
+    tie.close
+    (tie.spec
+    Inv-loop
+    μ-loop
+    loop-holds
+    mul-m
+    array-copy-out-m
+    has-requires
+    has-requires-2
+    second-requires
+    mul-next
+    array-set-from-next
+    add-i
+    loop-less
+    loop-again
+    returns)

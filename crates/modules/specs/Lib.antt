@@ -1,0 +1,3 @@
+pub mod Power
+pub mod Stage
+pub mod Masks

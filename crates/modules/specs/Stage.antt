@@ -1,0 +1,27 @@
+-- All eight modules by their numbers: the module stage, requests set by a mask, the ranges of check 1.
+-- Assumes nothing.
+use Prim.Native.Nat.{ℕ}
+use mathlib.Core.Bool.{Bool, true, false, _&&_}
+use mathlib.Core.List.{List, [], _∷_}
+use Rattle.choice.specs.Choice.{if_then_else_, bit}
+use Rattle.choice.specs.Each.{each}
+use Rattle.modules.specs.Power.{switched, powerInRange}
+use Rattle.modules.specs.declared.power.Module.{Module}
+
+-- a module is wanted if requested and allowed; with its bit of the short mask
+abbrev pub moduleSecond : (allowed shorts : ℕ) → ℕ → Module → Module
+moduleSecond allowed shorts i m = record { power = switched (m .requested && bit i allowed) (bit i shorts) (m .power); requested = m .requested }
+
+unfoldable pub stageOf : (allowed shorts : ℕ) → List Module → List Module
+stageOf allowed shorts modules = each (moduleSecond allowed shorts) modules
+
+-- the modules of a mask are requested on, or off; the others keep their request
+abbrev pub moduleRequested : (mask : ℕ) (on : Bool) → ℕ → Module → Module
+moduleRequested mask on i m = record { power = m .power; requested = if bit i mask then on else m .requested }
+
+unfoldable pub requestedBy : (mask : ℕ) (on : Bool) → List Module → List Module
+requestedBy mask on modules = each (moduleRequested mask on) modules
+
+unfoldable pub modulesInRange : List Module → Bool
+modulesInRange [] = true
+modulesInRange (m ∷ ms) = powerInRange (m .power) && modulesInRange ms

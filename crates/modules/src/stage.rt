@@ -1,0 +1,72 @@
+// All eight modules: the module stage of a tick, requests set by a mask, and the ranges of check 1.
+ghost use mathlib.Core.Path.{_≡_};
+ghost use Prim.Native.Nat.{_<_};
+ghost use Rattle.choice.specs.Choice.{if_then_else_, bit};
+ghost use Rattle.modules.specs.Stage.{stageOf, requestedBy, modulesInRange};
+use crate::power::Module;
+
+// Bit i of a mask.
+fn has(mask: u8, i: usize) -> bool
+    requires { ⌜ i < 8 ⌝ }
+    ensures { λ r. ⌜ r ≡ bit i mask ⌝ }
+{
+    (mask >> i) % 2 == 1
+}
+
+fn chosen(test: bool, yes: bool, no: bool) -> bool
+    ensures { λ r. ⌜ r ≡ (if test then yes else no) ⌝ }
+{
+    if test { yes } else { no }
+}
+
+// The modules after one second, given the mask of those allowed and the mask of shorts.
+pub fn stage(modules: [Module; 8], allowed: u8, shorts: u8) -> [Module; 8]
+    ensures { λ r. ⌜ r ≡ stageOf allowed shorts modules ⌝ }
+{
+    let mut next = modules;
+    let mut i: usize = 0;
+    while i < 8 {
+        let m = next[i];
+        let power = m.power;
+        let wanted = m.requested & has(allowed, i);
+        next[i] = Module {
+            power: power.second(wanted, has(shorts, i)),
+            requested: m.requested,
+        };
+        i += 1;
+    }
+    next
+}
+
+// The modules with the request of each module of the mask set to on or off.
+pub fn request(modules: [Module; 8], mask: u8, on: bool) -> [Module; 8]
+    ensures { λ r. ⌜ r ≡ requestedBy mask on modules ⌝ }
+{
+    let mut next = modules;
+    let mut i: usize = 0;
+    while i < 8 {
+        let m = next[i];
+        let power = m.power;
+        next[i] = Module {
+            power,
+            requested: chosen(has(mask, i), on, m.requested),
+        };
+        i += 1;
+    }
+    next
+}
+
+// Whether every module's tries or seconds are in their range.
+pub fn in_range(modules: [Module; 8]) -> bool
+    ensures { λ r. ⌜ r ≡ modulesInRange modules ⌝ }
+{
+    let mut ok = true;
+    let mut i: usize = 8;
+    while 0 < i {
+        i -= 1;
+        let m = modules[i];
+        let power = m.power;
+        ok = power.in_range() & ok;
+    }
+    ok
+}
