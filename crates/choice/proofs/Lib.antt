@@ -2,3 +2,4 @@ pub mod ChoiceLaws
 pub mod EachLaws
 pub mod Tables
 pub mod Stores
+pub mod BitLaws

@@ -1,16 +1,18 @@
 // All eight modules: the module stage of a tick, requests set by a mask, and the ranges of check 1.
 ghost use mathlib.Core.Path.{_≡_};
-ghost use Prim.Native.Nat.{_<_};
 ghost use Rattle.choice.specs.Choice.{if_then_else_, bit};
 ghost use Rattle.modules.specs.Stage.{stageOf, requestedBy, modulesInRange};
 use crate::power::Module;
 
-// Bit i of a mask.
-fn has(mask: u8, i: usize) -> bool
-    requires { ⌜ i < 8 ⌝ }
+// Whether module i is in a mask: its bit i. No mask has a module from 8 on.
+pub fn has(mask: u8, i: usize) -> bool
     ensures { λ r. ⌜ r ≡ bit i mask ⌝ }
 {
-    (mask >> i) % 2 == 1
+    if i < 8 {
+        (mask >> i) % 2 == 1
+    } else {
+        false
+    }
 }
 
 fn chosen(test: bool, yes: bool, no: bool) -> bool
