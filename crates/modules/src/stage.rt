@@ -8,11 +8,7 @@ use crate::power::Module;
 pub fn has(mask: u8, i: usize) -> bool
     ensures { λ r. ⌜ r ≡ bit i mask ⌝ }
 {
-    if i < 8 {
-        (mask >> i) % 2 == 1
-    } else {
-        false
-    }
+    if i < 8 { (mask >> i) % 2 == 1 } else { false }
 }
 
 fn chosen(test: bool, yes: bool, no: bool) -> bool

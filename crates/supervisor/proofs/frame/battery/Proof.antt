@@ -1,0 +1,32 @@
+use borrow.Author.Needs.{needs}
+use Rattle.supervisor.proofs.frame.battery.Statement.{statement}
+use Rattle.supervisor.proofs.frame.battery.Tie as tie
+
+shared-slice-read-number : tie.Need-shared-slice-read-number
+shared-slice-read-number c = search needs
+
+shared-slice-read-number-2 : tie.Need-shared-slice-read-number-2
+shared-slice-read-number-2 c = search needs
+
+number-requires : tie.Need-number-requires
+number-requires c κs = search needs
+
+is-reading-requires : tie.Need-is-reading-requires
+is-reading-requires c κs = search needs
+
+returns : tie.Need-returns
+returns c = search needs
+
+returns-2 : tie.Need-returns-2
+returns-2 c = search needs
+
+pub battery-spec : {M : Type 1} → statement M
+battery-spec =
+    tie.close
+    (tie.spec
+    shared-slice-read-number
+    shared-slice-read-number-2
+    number-requires
+    is-reading-requires
+    returns
+    returns-2)

@@ -1,0 +1,88 @@
+use borrow.Author.Needs.{needs}
+use Rattle.supervisor.proofs.report.write.Statement.{statement}
+use Rattle.supervisor.proofs.report.write.Tie as tie
+
+head-of-requires : tie.Need-head-of-requires
+head-of-requires c κs = search needs
+
+masks-of-requires : tie.Need-masks-of-requires
+masks-of-requires c κs = search needs
+
+slice-write-room : tie.Need-slice-write-room
+slice-write-room c = search needs
+
+slice-write-room-2 : tie.Need-slice-write-room-2
+slice-write-room-2 c = search needs
+
+slice-write-room-3 : tie.Need-slice-write-room-3
+slice-write-room-3 c = search needs
+
+cast-room : tie.Need-cast-room
+cast-room c = search needs
+
+slice-write-room-4 : tie.Need-slice-write-room-4
+slice-write-room-4 c = search needs
+
+cast-room-2 : tie.Need-cast-room-2
+cast-room-2 c = search needs
+
+slice-write-room-5 : tie.Need-slice-write-room-5
+slice-write-room-5 c = search needs
+
+number-requires : tie.Need-number-requires
+number-requires c κs = search needs
+
+slice-write-room-6 : tie.Need-slice-write-room-6
+slice-write-room-6 c = search needs
+
+number-requires-2 : tie.Need-number-requires-2
+number-requires-2 c κs = search needs
+
+slice-write-room-7 : tie.Need-slice-write-room-7
+slice-write-room-7 c = search needs
+
+slice-write-room-8 : tie.Need-slice-write-room-8
+slice-write-room-8 c = search needs
+
+slice-write-room-9 : tie.Need-slice-write-room-9
+slice-write-room-9 c = search needs
+
+slice-write-room-10 : tie.Need-slice-write-room-10
+slice-write-room-10 c = search needs
+
+due-number-requires : tie.Need-due-number-requires
+due-number-requires c κs = search needs
+
+slice-write-room-11 : tie.Need-slice-write-room-11
+slice-write-room-11 c = search needs
+
+same-length : tie.Need-same-length
+same-length c = search needs
+
+returns : tie.Need-returns
+returns c = search needs
+
+pub write-spec : {M : Type 1} → statement M
+write-spec =
+    tie.close
+    (tie.spec
+    head-of-requires
+    masks-of-requires
+    slice-write-room
+    slice-write-room-2
+    slice-write-room-3
+    cast-room
+    slice-write-room-4
+    cast-room-2
+    slice-write-room-5
+    number-requires
+    slice-write-room-6
+    number-requires-2
+    slice-write-room-7
+    slice-write-room-8
+    slice-write-room-9
+    slice-write-room-10
+    due-number-requires
+    slice-write-room-11
+    same-length
+    returns)

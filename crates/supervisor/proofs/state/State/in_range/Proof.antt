@@ -1,0 +1,19 @@
+use borrow.Author.Needs.{needs}
+use Rattle.supervisor.proofs.state.State.in_range.Statement.{statement}
+use Rattle.supervisor.proofs.state.State.in_range.Tie as tie
+
+in-range-requires : tie.Need-in-range-requires
+in-range-requires c κs = search needs
+
+in-range-requires-2 : tie.Need-in-range-requires-2
+in-range-requires-2 c κs = search needs
+
+in-range-requires-3 : tie.Need-in-range-requires-3
+in-range-requires-3 c κs = search needs
+
+returns : tie.Need-returns
+returns c = search needs
+
+pub in-range-spec : {M : Type 1} → statement M
+in-range-spec =
+    tie.close (tie.spec in-range-requires in-range-requires-2 in-range-requires-3 returns)

@@ -1,0 +1,25 @@
+use borrow.Author.Needs.{needs}
+use Rattle.supervisor.proofs.state.State.request.Statement.{statement}
+use Rattle.supervisor.proofs.state.State.request.Tie as tie
+
+returns : tie.Need-returns
+returns c = search needs
+
+mul-m : tie.Need-mul-m
+mul-m c = search needs
+
+element-copy-out-m : tie.Need-element-copy-out-m
+element-copy-out-m c = search needs
+
+mul-t9 : tie.Need-mul-t9
+mul-t9 c = search needs
+
+element-set-from-self : tie.Need-element-set-from-self
+element-set-from-self c = search needs
+
+returns-2 : tie.Need-returns-2
+returns-2 c = search needs
+
+pub request-spec : {M : Type 1} → statement M
+request-spec =
+    tie.close (tie.spec returns mul-m element-copy-out-m mul-t9 element-set-from-self returns-2)

@@ -1,0 +1,31 @@
+-- The fresh start.
+-- Assumes nothing.
+use mathlib.Core.Bool.{Bool, true, false}
+use mathlib.Core.List.{List, [], _∷_}
+use Rattle.modules.specs.Power.{fullTries}
+use Rattle.modules.specs.declared.power.Power.the-variants.{Off}
+use Rattle.modules.specs.declared.power.Module.{Module}
+use Rattle.supervisor.specs.declared.state.Phase.the-variants.{Waiting}
+use Rattle.supervisor.specs.declared.state.Mode.the-variants.{DeployWait}
+use Rattle.supervisor.specs.declared.state.State.{State}
+
+-- every module off with 5 tries
+abbrev pub offRequested : Bool → Module
+offRequested requested = record { power = Off fullTries; requested = requested }
+
+-- core four (0, 1, 2, 5) requested on, mission four requested off
+abbrev pub freshModules : List Module
+freshModules =
+    offRequested true ∷ offRequested true ∷ offRequested true ∷ offRequested false
+    ∷ offRequested false ∷ offRequested true ∷ offRequested false ∷ offRequested false ∷ []
+
+-- DEPLOY_WAIT, waited 0 seconds, antennas folded, tension 0, ascend 7,400, descend 7,000, both counts 0, both last serials 0
+unfoldable pub freshState : State
+freshState =
+    record {
+      watch = record { mode = DeployWait (Waiting 0); control = 0; beacon = 0 };
+      antennas = false;
+      battery = record { tension = 0; ascend = 7400; descend = 7000 };
+      serials = record { ground = 0; payload = 0 };
+      modules = freshModules;
+    }

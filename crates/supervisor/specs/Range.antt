@@ -1,0 +1,56 @@
+-- The ranges of check 1, and of the fields of frames.
+-- Assumes nothing.
+use Prim.Native.Nat.{ℕ}
+use mathlib.Core.Bool.{Bool, _&&_, _||_}
+use lib.Dec.{leb, ltb, eqb}
+use Rattle.choice.specs.Choice.{within}
+use Rattle.modules.specs.Stage.{modulesInRange}
+use Rattle.supervisor.specs.declared.state.Phase.{Phase}
+use Rattle.supervisor.specs.declared.state.Phase.the-variants.{Waiting, Settling}
+use Rattle.supervisor.specs.declared.state.Mode.{Mode}
+use Rattle.supervisor.specs.declared.state.Mode.the-variants.{DeployWait, Recovery, Safe}
+use Rattle.supervisor.specs.declared.state.Battery.{Battery}
+use Rattle.supervisor.specs.declared.state.State.{State}
+
+-- the seconds after which waiting for the antennas ends
+abbrev pub waitSeconds : ℕ
+waitSeconds = 86400
+
+-- the seconds of settling
+abbrev pub settleSeconds : ℕ
+settleSeconds = 900
+
+-- the ticks from one judgement of the mode to the next
+abbrev pub judgeTicks : ℕ
+judgeTicks = 30
+
+-- the ticks from one basic beacon to the next
+abbrev pub basicTicks : ℕ
+basicTicks = 300
+
+-- millivolts, 5,000 to 9,000
+abbrev pub isReading : ℕ → Bool
+isReading millivolts = within 5000 9000 millivolts
+
+-- thresholds lie in 5,000 to 9,000 with descend at most ascend
+abbrev pub areThresholds : (ascend descend : ℕ) → Bool
+areThresholds ascend descend = isReading ascend && isReading descend && leb descend ascend
+
+-- tension 0 (no reading yet) is the only value outside 5,000 to 9,000
+abbrev pub batteryInRange : Battery → Bool
+batteryInRange b = (eqb (b .tension) 0 || isReading (b .tension)) && areThresholds (b .ascend) (b .descend)
+
+-- waiting (0 to 86,399 waited) or settling (1 to 900 left)
+abbrev pub phaseInRange : Phase → Bool
+phaseInRange (Waiting waited) = ltb waited waitSeconds
+phaseInRange (Settling left) = within 1 settleSeconds left
+
+-- control count 0 to 29, beacon count 0 to 299, both 0 in DEPLOY_WAIT
+abbrev pub watchInRange : Mode → (control beacon : ℕ) → Bool
+watchInRange (DeployWait phase) control beacon = phaseInRange phase && eqb control 0 && eqb beacon 0
+watchInRange Recovery control beacon = ltb control judgeTicks && ltb beacon basicTicks
+watchInRange Safe control beacon = ltb control judgeTicks && ltb beacon basicTicks
+
+-- check 1 passes
+unfoldable pub inRange : State → Bool
+inRange s = watchInRange (s .watch .mode) (s .watch .control) (s .watch .beacon) && batteryInRange (s .battery) && modulesInRange (s .modules)

@@ -1,0 +1,47 @@
+// One frame, with a state and a room for its report.
+ghost use mathlib.Core.Path.{_≡_};
+ghost use Rattle.supervisor.specs.Step.{left, stepOf};
+use crate::act::act;
+use crate::answer::Answer;
+use crate::frame::Reading;
+use crate::frame::read;
+use crate::report::write;
+use crate::state::State;
+
+// The answer, and the next state.
+pub struct Stepped {
+    pub answer: Answer,
+    pub state: State,
+}
+
+// Takes one frame. At answers 0, 8, 9 and 10 a report fills the first 11 bytes of the room;
+// at any other answer the state is the same and the room untouched.
+pub fn step(state: State, input: &[u8], room: &mut [u8]) -> Stepped
+    ensures { λ r. ⌜ left r (now (room .exit)) ≡ stepOf state (now (input .entry)) (now (room .entry)) ⌝ }
+{
+    if !state.in_range() {
+        return Stepped {
+            answer: Answer::StateOutside,
+            state,
+        };
+    }
+    if room.len() < 11 {
+        return Stepped {
+            answer: Answer::NoRoom,
+            state,
+        };
+    }
+    match read(input) {
+        Reading::Refused(answer) => Stepped { answer, state },
+        Reading::Accepted(frame) => {
+            let acted = act(state, frame);
+            write(room, frame, acted);
+            let next = acted.state;
+            let answer = acted.answer;
+            Stepped {
+                answer,
+                state: next,
+            }
+        }
+    }
+}
