@@ -1,3 +1,5 @@
+use borrow.Author.Tests.{le-leb, lt-leb}
+use Rattle.supervisor.specs.Frame.{antennasFields}
 use borrow.Author.Needs.{needs}
 use Rattle.supervisor.proofs.frame.antennas.Statement.{statement}
 use Rattle.supervisor.proofs.frame.antennas.Tie as tie
@@ -6,10 +8,12 @@ shared-slice-read-deployed : tie.Need-shared-slice-read-deployed
 shared-slice-read-deployed c = search needs
 
 returns : tie.Need-returns
-returns c = search needs
+unfolding antennasFields
+returns c = simp (le-leb _ _ (c .if1 .taken))
 
 returns-2 : tie.Need-returns-2
-returns-2 c = search needs
+unfolding antennasFields
+returns-2 c = simp (lt-leb _ _ (c .if1 .left))
 
 pub antennas-spec : {M : Type 1} → statement M
 antennas-spec = tie.close (tie.spec shared-slice-read-deployed returns returns-2)

@@ -1,3 +1,4 @@
+use Rattle.supervisor.specs.Frame.{batteryFields}
 use borrow.Author.Needs.{needs}
 use Rattle.supervisor.proofs.frame.battery.Statement.{statement}
 use Rattle.supervisor.proofs.frame.battery.Tie as tie
@@ -15,10 +16,12 @@ is-reading-requires : tie.Need-is-reading-requires
 is-reading-requires c κs = search needs
 
 returns : tie.Need-returns
-returns c = search needs
+unfolding batteryFields
+returns c = simp (rw (c .before .is-reading .ensures, c .before .before .number .ensures) at (c .if1 .taken), c .before .before .number .ensures)
 
 returns-2 : tie.Need-returns-2
-returns-2 c = search needs
+unfolding batteryFields
+returns-2 c = simp (rw (c .before .is-reading .ensures, c .before .before .number .ensures) at (c .if1 .left))
 
 pub battery-spec : {M : Type 1} → statement M
 battery-spec =

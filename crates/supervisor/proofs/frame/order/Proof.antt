@@ -1,3 +1,4 @@
+use Rattle.supervisor.specs.Frame.{orderFields}
 use borrow.Author.Needs.{needs}
 use Rattle.supervisor.proofs.frame.order.Statement.{statement}
 use Rattle.supervisor.proofs.frame.order.Tie as tie
@@ -24,13 +25,16 @@ origin-from-requires : tie.Need-origin-from-requires
 origin-from-requires c κs = search needs
 
 returns : tie.Need-returns
-returns c = search needs
+unfolding orderFields
+returns c = simp (c .before .if1 .taken, c .if2 .taken)
 
 returns-2 : tie.Need-returns-2
-returns-2 c = search needs
+unfolding orderFields
+returns-2 c = simp (c .before .before .if1 .taken, c .before .if2 .left, c .origin-from .ensures, c .before .before .before .before .before .number .ensures)
 
 returns-3 : tie.Need-returns-3
-returns-3 c = search needs
+unfolding orderFields
+returns-3 c = simp (c .if1 .left)
 
 pub order-spec : {M : Type 1} → statement M
 order-spec =

@@ -1,3 +1,5 @@
+use borrow.Author.Tests.{eq-eqb, ne-eqb}
+use Rattle.supervisor.specs.Frame.{thresholdsFields}
 use borrow.Author.Needs.{needs}
 use Rattle.supervisor.proofs.frame.thresholds.Statement.{statement}
 use Rattle.supervisor.proofs.frame.thresholds.Tie as tie
@@ -36,13 +38,16 @@ are-thresholds-requires : tie.Need-are-thresholds-requires
 are-thresholds-requires c κs = search needs
 
 returns : tie.Need-returns
-returns c = search needs
+unfolding thresholdsFields
+returns c = simp (rw (c .before .before .are-thresholds .ensures, c .before .before .before .number3 .ensures, c .before .before .before .before .before .before .number2 .ensures) at (c .before .if1 .taken), eq-eqb _ _ (c .if2 .taken))
 
 returns-2 : tie.Need-returns-2
-returns-2 c = search needs
+unfolding thresholdsFields
+returns-2 c = simp (rw (c .before .before .are-thresholds .ensures, c .before .before .before .number3 .ensures, c .before .before .before .before .before .before .number2 .ensures) at (c .before .if1 .taken), ne-eqb _ _ (c .if2 .left), c .before .before .before .number3 .ensures, c .before .before .before .before .before .before .number2 .ensures, c .before .before .before .before .before .before .before .before .before .number .ensures)
 
 returns-3 : tie.Need-returns-3
-returns-3 c = search needs
+unfolding thresholdsFields
+returns-3 c = simp (rw (c .before .are-thresholds .ensures, c .before .before .number3 .ensures, c .before .before .before .before .before .number2 .ensures) at (c .if1 .left))
 
 pub thresholds-spec : {M : Type 1} → statement M
 thresholds-spec =

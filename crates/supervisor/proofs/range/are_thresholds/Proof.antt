@@ -9,7 +9,7 @@ is-reading-requires-2 : tie.Need-is-reading-requires-2
 is-reading-requires-2 c κs = search needs
 
 returns : tie.Need-returns
-returns c = search needs
+returns c = simp (c .is-reading2 .ensures, c .before .is-reading .ensures)
 
 pub are-thresholds-spec : {M : Type 1} → statement M
 are-thresholds-spec = tie.close (tie.spec is-reading-requires is-reading-requires-2 returns)

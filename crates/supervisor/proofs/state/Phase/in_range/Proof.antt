@@ -9,10 +9,10 @@ enum-known-self-2 : tie.Need-enum-known-self-2
 enum-known-self-2 c = search needs
 
 returns : tie.Need-returns
-returns c = search needs
+returns c = simp (c .before .self .given .1)
 
 returns-2 : tie.Need-returns-2
-returns-2 c = search needs
+returns-2 c = simp (c .before .self2 .given .1)
 
 pub in-range-spec : {M : Type 1} → statement M
 in-range-spec = tie.close (tie.spec enum-known-self enum-known-self-2 returns returns-2)

@@ -15,10 +15,10 @@ classify-requires-2 : tie.Need-classify-requires-2
 classify-requires-2 c κs = search needs
 
 returns : tie.Need-returns
-returns c = search needs
+returns c = simp (c .before .enum-told .given .1, c .classify .ensures)
 
 returns-2 : tie.Need-returns-2
-returns-2 c = search needs
+returns-2 c = simp (c .before .enum-told2 .given .1, c .classify2 .ensures)
 
 pub class-spec : {M : Type 1} → statement M
 class-spec =

@@ -9,10 +9,10 @@ enum-told-2 : tie.Need-enum-told-2
 enum-told-2 c = search needs
 
 returns : tie.Need-returns
-returns c = search needs
+returns c = simp (c .enum-told .given .1)
 
 returns-2 : tie.Need-returns-2
-returns-2 c = search needs
+returns-2 c = simp (c .enum-told2 .given .1)
 
 pub moved-spec : {M : Type 1} → statement M
 moved-spec = tie.close (tie.spec enum-told enum-told-2 returns returns-2)
