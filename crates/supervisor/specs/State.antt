@@ -9,7 +9,7 @@ use Rattle.supervisor.specs.declared.state.Mode.{Mode}
 use Rattle.supervisor.specs.declared.state.Mode.the-variants.{DeployWait, Recovery, Safe}
 use Rattle.supervisor.specs.declared.state.Watch.{Watch}
 use Rattle.supervisor.specs.declared.state.Battery.{Battery}
-use Rattle.supervisor.specs.declared.state.Serials.{Serials}
+use Rattle.frames.specs.declared.serial.Serials.{Serials}
 use Rattle.supervisor.specs.declared.state.State.{State}
 
 -- Mode: 0 DEPLOY_WAIT, 1 RECOVERY, 2 SAFE; the higher number is the better mode

@@ -5,12 +5,12 @@ ghost use Prim.Native.Nat.{_<_};
 ghost use Rattle.supervisor.specs.Range.{phaseInRange, inRange, judgeTicks, basicTicks};
 ghost use Rattle.supervisor.specs.Tick.{phaseTicked, crossingOf, crossedTo, controlled, allowedIn, moduleStage, dueAt, countAfter, beaconStage, ticked};
 use crate::act::Acted;
-use crate::answer::Answer;
 use crate::state::Battery;
 use crate::state::Mode;
 use crate::state::Phase;
 use crate::state::State;
 use crate::state::Watch;
+use frames::answer::Answer;
 
 pub(crate) const CORE: u8 = 0x27;
 
