@@ -64,20 +64,16 @@ impl Mode {
     {
         match self {
             Mode::DeployWait(_) => Crossing::Level,
-            Mode::Recovery => {
-                if battery.ascend < battery.tension {
-                    Crossing::Upward
-                } else {
-                    Crossing::Level
-                }
-            }
-            Mode::Safe => {
-                if battery.tension < battery.descend {
-                    Crossing::Downward
-                } else {
-                    Crossing::Level
-                }
-            }
+            Mode::Recovery => if battery.ascend < battery.tension {
+                Crossing::Upward
+            } else {
+                Crossing::Level
+            },
+            Mode::Safe => if battery.tension < battery.descend {
+                Crossing::Downward
+            } else {
+                Crossing::Level
+            },
         }
     }
 
@@ -98,20 +94,16 @@ impl Mode {
     {
         match self {
             Mode::DeployWait(_) => Due::Nothing,
-            Mode::Recovery => {
-                if count == 300 {
-                    Due::Basic
-                } else {
-                    Due::Nothing
-                }
-            }
-            Mode::Safe => {
-                if count % 60 == 0 {
-                    Due::Complete
-                } else {
-                    Due::Nothing
-                }
-            }
+            Mode::Recovery => if count == 300 {
+                Due::Basic
+            } else {
+                Due::Nothing
+            },
+            Mode::Safe => if count % 60 == 0 {
+                Due::Complete
+            } else {
+                Due::Nothing
+            },
         }
     }
 }
