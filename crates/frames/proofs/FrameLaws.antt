@@ -6,7 +6,6 @@ use mathlib.Core.List.{List}
 use lib.Dec.{eqb}
 use lib.ListN.{length}
 use borrow.Author.Tests.{eq-eqb, ne-eqb}
-use Rattle.choice.specs.Choice.{if_then_else_}
 use Rattle.choice.proofs.ChoiceLaws.{decided}
 use Rattle.frames.specs.Frame.{totalOf, byteAt, fieldsOf, readFrame, tickKind, batteryKind, antennasKind, orderKind, thresholdsKind}
 

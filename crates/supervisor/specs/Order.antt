@@ -2,7 +2,6 @@
 -- Assumes nothing.
 use Prim.Native.Nat.{ℕ}
 use mathlib.Core.Bool.{Bool, true, false, not, _&&_}
-use mathlib.Core.List.{List}
 use lib.Dec.{eqb}
 use Rattle.choice.specs.Choice.{if_then_else_, bit}
 use Rattle.choice.specs.Each.{each}

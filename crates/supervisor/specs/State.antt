@@ -4,7 +4,6 @@ use Prim.Native.Nat.{ℕ}
 use mathlib.Core.Bool.{Bool}
 use mathlib.Core.List.{List}
 use Rattle.modules.specs.declared.power.Module.{Module}
-use Rattle.supervisor.specs.declared.state.Phase.{Phase}
 use Rattle.supervisor.specs.declared.state.Mode.{Mode}
 use Rattle.supervisor.specs.declared.state.Mode.the-variants.{DeployWait, Recovery, Safe}
 use Rattle.supervisor.specs.declared.state.Watch.{Watch}

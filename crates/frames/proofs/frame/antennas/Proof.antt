@@ -1,6 +1,8 @@
+-- `antennas` meets its contract.
+-- Assumes nothing.
 use borrow.Author.Tests.{le-leb, lt-leb}
-use Rattle.frames.specs.Frame.{antennasFields}
 use borrow.Author.Needs.{needs}
+use Rattle.frames.specs.Frame.{antennasFields}
 use Rattle.frames.proofs.frame.antennas.Statement.{statement}
 use Rattle.frames.proofs.frame.antennas.Tie as tie
 

@@ -1,3 +1,5 @@
+-- `are_thresholds` meets its contract.
+-- Assumes nothing.
 use borrow.Author.Needs.{needs}
 use Rattle.frames.proofs.frame.are_thresholds.Statement.{statement}
 use Rattle.frames.proofs.frame.are_thresholds.Tie as tie

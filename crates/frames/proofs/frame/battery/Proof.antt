@@ -1,5 +1,7 @@
-use Rattle.frames.specs.Frame.{batteryFields}
+-- `battery` meets its contract.
+-- Assumes nothing.
 use borrow.Author.Needs.{needs}
+use Rattle.frames.specs.Frame.{batteryFields}
 use Rattle.frames.proofs.frame.battery.Statement.{statement}
 use Rattle.frames.proofs.frame.battery.Tie as tie
 

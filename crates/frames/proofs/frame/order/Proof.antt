@@ -1,5 +1,7 @@
-use Rattle.frames.specs.Frame.{orderFields}
+-- `order` meets its contract.
+-- Assumes nothing.
 use borrow.Author.Needs.{needs}
+use Rattle.frames.specs.Frame.{orderFields}
 use Rattle.frames.proofs.frame.order.Statement.{statement}
 use Rattle.frames.proofs.frame.order.Tie as tie
 

@@ -1,5 +1,6 @@
+-- `origin_from` meets its contract.
+-- Assumes nothing.
 use borrow.Author.Tests.{eq-eqb, ne-eqb}
-use borrow.Author.Needs.{needs}
 use Rattle.frames.proofs.frame.origin_from.Statement.{statement}
 use Rattle.frames.proofs.frame.origin_from.Tie as tie
 

@@ -1,12 +1,13 @@
+-- `read` meets its contract.
+-- Assumes nothing.
 use Prim.Native.Nat.{ℕ}
 use mathlib.Core.Path.{_≡_, sym, ap, _∙_}
 use native.Mathlib.Omega.{arith}
 use lib.ListN.{length}
-use Rattle.frames.proofs.FrameLaws.{last-total, read-fields}
-use Rattle.frames.specs.Frame.{byteAt, fieldsOf}
 use borrow.Author.Tests.{eq-eqb, ne-eqb}
-use Rattle.frames.specs.Frame.{totalOf, readFrame}
 use borrow.Author.Needs.{needs}
+use Rattle.frames.proofs.FrameLaws.{last-total, read-fields}
+use Rattle.frames.specs.Frame.{byteAt, fieldsOf, totalOf, readFrame}
 use Rattle.frames.proofs.frame.read.Statement.{statement}
 use Rattle.frames.proofs.frame.read.Tie as tie
 

@@ -1,6 +1,8 @@
+-- `thresholds` meets its contract.
+-- Assumes nothing.
 use borrow.Author.Tests.{eq-eqb, ne-eqb}
-use Rattle.frames.specs.Frame.{thresholdsFields}
 use borrow.Author.Needs.{needs}
+use Rattle.frames.specs.Frame.{thresholdsFields}
 use Rattle.frames.proofs.frame.thresholds.Statement.{statement}
 use Rattle.frames.proofs.frame.thresholds.Tie as tie
 

@@ -1,6 +1,7 @@
+-- `total` meets its contract.
+-- Assumes nothing.
 use borrow.Author.Tests.{ne-eqb}
 use Rattle.frames.specs.Frame.{totalOf}
-use borrow.Author.Needs.{needs}
 use Rattle.frames.proofs.frame.total.Statement.{statement}
 use Rattle.frames.proofs.frame.total.Tie as tie
 

@@ -1,9 +1,11 @@
+-- `classify` meets its contract.
+-- Assumes nothing.
 use mathlib.Core.Path.{_≡_}
 use Prim.Native.Nat.{ℕ, _+_, _%_, _<_}
 use native.Mathlib.Omega.{arith}
 use borrow.Author.Tests.{eq-eqb, ne-eqb, lt-ltb, le-ltb}
-use Rattle.frames.specs.Serial.{distance, classOf, serialCount}
 use borrow.Author.Needs.{needs}
+use Rattle.frames.specs.Serial.{distance, classOf, serialCount}
 use Rattle.frames.proofs.serial.classify.Statement.{statement}
 use Rattle.frames.proofs.serial.classify.Tie as tie
 

@@ -1,3 +1,5 @@
+-- `Serials::class` meets its contract.
+-- Assumes nothing.
 use borrow.Author.Needs.{needs}
 use Rattle.frames.proofs.serial.Serials.class.Statement.{statement}
 use Rattle.frames.proofs.serial.Serials.class.Tie as tie

@@ -1,3 +1,5 @@
+-- `Serials::moved` meets its contract.
+-- Assumes nothing.
 use borrow.Author.Needs.{needs}
 use Rattle.frames.proofs.serial.Serials.moved.Statement.{statement}
 use Rattle.frames.proofs.serial.Serials.moved.Tie as tie
