@@ -1,0 +1,4 @@
+pub mod Answers
+pub mod Signs
+pub mod Texts
+pub mod Units
