@@ -1,3 +1,5 @@
 pub mod Everywhere
 pub mod SignsLaws
 pub mod TextsLaws
+pub mod UnitsLaws
+pub mod KeyingLaws

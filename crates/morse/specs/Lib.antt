@@ -2,3 +2,4 @@ pub mod Answers
 pub mod Signs
 pub mod Texts
 pub mod Units
+pub mod Keying
