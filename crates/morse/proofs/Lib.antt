@@ -3,3 +3,5 @@ pub mod SignsLaws
 pub mod TextsLaws
 pub mod UnitsLaws
 pub mod KeyingLaws
+pub mod GuessingLaws
+pub mod GuessIsRight

@@ -3,3 +3,4 @@ pub mod Signs
 pub mod Texts
 pub mod Units
 pub mod Keying
+pub mod Guessing

@@ -10,6 +10,13 @@ ghost use Rattle.morse.specs.Units.{gapAfter, signUnits, unitsOf};
 use crate::signs::Sign;
 use crate::signs::sign_of;
 
+// The gaps, in units up.
+const INSIDE_SIGN: usize = 1;
+
+pub const BETWEEN_SIGNS: usize = 3;
+
+pub const BETWEEN_WORDS: usize = 7;
+
 // Stores v at a place of the room, and nothing where the room has no such place.
 pub fn put(room: &mut [u8], at: usize, v: u8)
     ensures { λ _. ⌜ now (room .exit) ≡ set (now (room .entry)) at v ⌝ }
@@ -47,7 +54,7 @@ fn put_sign(room: &mut [u8], at: usize, gap: usize, sign: Sign) -> usize
     while 0 < left {
         let down = put_run(room, i, up, 0);
         i = put_run(room, down, 1 + 2 * ((marks % 2) as usize), 1);
-        up = 1;
+        up = INSIDE_SIGN;
         marks = marks / 2;
         left -= 1;
     }
@@ -58,7 +65,11 @@ fn put_sign(room: &mut [u8], at: usize, gap: usize, sign: Sign) -> usize
 fn gap_after(c: u8) -> usize
     ensures { λ r. ⌜ r ≡ gapAfter c ⌝ }
 {
-    if c == b' ' { 7 } else { 3 }
+    if c == b' ' {
+        BETWEEN_WORDS
+    } else {
+        BETWEEN_SIGNS
+    }
 }
 
 // Stores a text's units from the front of the room, as far as it goes, and gives how many the text has.
