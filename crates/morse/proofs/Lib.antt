@@ -5,3 +5,4 @@ pub mod UnitsLaws
 pub mod KeyingLaws
 pub mod GuessingLaws
 pub mod GuessIsRight
+pub mod ReadingLaws

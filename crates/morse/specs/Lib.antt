@@ -4,3 +4,4 @@ pub mod Texts
 pub mod Units
 pub mod Keying
 pub mod Guessing
+pub mod Reading

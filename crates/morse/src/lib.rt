@@ -2,11 +2,14 @@
 // `fault_of` says whether a text may be keyed, `key` keys it, and `read` reads a keying back.
 mod guessing;
 pub mod keying;
+pub mod reading;
 mod signs;
 pub mod texts;
 mod units;
 
 pub use keying::Keyed;
 pub use keying::key;
+pub use reading::Heard;
+pub use reading::read;
 pub use texts::Fault;
 pub use texts::fault_of;

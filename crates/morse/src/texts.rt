@@ -4,7 +4,7 @@ ghost use mathlib.Core.Path.{_≡_};
 ghost use Rattle.morse.specs.Texts.{known, seenIn, faultOf};
 use crate::signs::sign_of;
 
-const LONGEST: usize = 64;
+pub const LONGEST: usize = 64;
 
 const SPACE: u8 = b' ';
 
