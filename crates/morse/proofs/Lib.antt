@@ -6,3 +6,5 @@ pub mod KeyingLaws
 pub mod GuessingLaws
 pub mod GuessIsRight
 pub mod ReadingLaws
+pub mod ReadBack
+pub mod Unique
