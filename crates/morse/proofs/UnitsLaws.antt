@@ -18,10 +18,9 @@ use Rattle.morse.specs.Texts.{isSpace}
 use Rattle.morse.specs.Units.{span, signUnits, gapAfter, unitsAfter, unitsOf, betweenWords, betweenSigns}
 use Rattle.morse.proofs.Everywhere.{everywhere}
 
--- one store off a run of n
-pub run-step : (n v i : ℕ) (room : List ℕ) → 0 < n → sets room i (replicate n v) ≡ sets (set room i v) (i + 1) (replicate (n - 1) v)
-run-step zero v i room h = absurd (not-suc-le-zero h)
-run-step (suc n) v i room h = rw (add-one, sub-one)
+-- one store off a run that ends at a place
+pub run-step : (end v i : ℕ) (room : List ℕ) → i < end → sets room i (replicate (end - i) v) ≡ sets (set room i v) (i + 1) (replicate (end - (i + 1)) v)
+run-step end v i room h = let e : end - i ≡ suc (end - (i + 1)) = omega arith in rw (e, add-one)
 
 -- a mark's span, by its bit
 span-bit : (b : ℕ) → b < 2 → span (markOf b) ≡ 1 + 2 * b

@@ -32,14 +32,13 @@ fn put_run(room: &mut [u8], at: usize, n: usize, v: u8) -> usize
     requires { ⌜ at + n < 2 ^ 64 ⌝ }
     ensures { λ r. ⌜ (r ≡ at + n) × (now (room .exit) ≡ sets (now (room .entry)) at (replicate n v)) ⌝ }
 {
+    let end = at + n;
     let mut i = at;
-    let mut left = n;
-    while 0 < left {
+    while i < end {
         put(room, i, v);
         i += 1;
-        left -= 1;
     }
-    i
+    end
 }
 
 // Stores the marks of a sign, the first after a gap, and gives the place after them.
