@@ -3,7 +3,7 @@
 use mathlib.Core.Path.{_≡_, refl, sym, ap, _∙_}
 use mathlib.Core.Bool.{Bool, true, false, not, _&&_, _||_, true≢false}
 use mathlib.Core.List.{List, [], _∷_, _++_}
-use Prim.Native.Nat.{ℕ, suc, _+_, _-_, _*_, _/_, _%_}
+use Prim.Native.Nat.{ℕ, _+_, _-_}
 use native.Mathlib.Numerals.{sub-one}
 use native.Mathlib.Omega.{arith}
 use lib.Dec.{T, eqb, eqb→eq}
@@ -13,8 +13,8 @@ use Rattle.choice.specs.Choice.{if_then_else_}
 use Rattle.choice.proofs.ChoiceLaws.{holds, and-left, and-right, and-both}
 use Rattle.morse.specs.declared.texts.Fault.the-variants.{Nothing}
 use Rattle.morse.specs.Signs.{Mark, dot, dash, signs, signOf, signed}
-use Rattle.morse.specs.Texts.{isSpace, known, allKnown, doubled, badlySpaced, faultOf}
-use Rattle.morse.specs.Units.{signUnits, gapAfter, unitsAfter, unitsOf, betweenSigns, betweenWords}
+use Rattle.morse.specs.Texts.{space, isSpace, allKnown, doubled, faultOf}
+use Rattle.morse.specs.Units.{signUnits, unitsAfter, unitsOf, betweenSigns, betweenWords}
 use Rattle.morse.specs.Guessing.{begun, longer, climb, byteOf, ear, hear, heard}
 use Rattle.morse.proofs.Everywhere.{everywhere}
 use Rattle.morse.proofs.TextsLaws.{fair}
@@ -41,12 +41,12 @@ marked [] tree us = refl
 marked (dot ∷ ms) tree us = marked ms (begun tree) us
 marked (dash ∷ ms) tree us = rw (dash-number tree) (marked ms (begun tree + 1) us)
 
--- the gap before a sign, and what it tells, where a space stands before the sign and where none does
-abbrev gap : (space : Bool) → ℕ
-gap space = if space then betweenWords else betweenSigns
+-- the gap before a sign, and what it tells: a word is over, or only a sign
+abbrev gap : (word : Bool) → ℕ
+gap word = if word then betweenWords else betweenSigns
 
-abbrev told : (space : Bool) → List ℕ → List ℕ
-told space t = if space then 32 ∷ t else t
+abbrev told : (word : Bool) → List ℕ → List ℕ
+told word t = if word then space ∷ t else t
 
 -- a whole sign: the first of a text, and a later one
 sign-first : (ms : List Mark) (us : List ℕ) → T (signed ms) → heard (signUnits 0 ms ++ us) ≡ hear (ear (climb 1 ms) 0) us
@@ -55,18 +55,18 @@ sign-first [] us s = absurd s
 sign-first (dot ∷ ms) us s = marked ms 2 us
 sign-first (dash ∷ ms) us s = marked ms 3 us
 
-sign-later : (space : Bool) (ms : List Mark) (tree : ℕ) (us : List ℕ) → T (signed ms)
-    → hear (ear tree 0) (signUnits (gap space) ms ++ us) ≡ byteOf tree ∷ told space (hear (ear (climb 1 ms) 0) us)
-sign-later space [] tree us s = absurd s
+sign-later : (word : Bool) (ms : List Mark) (tree : ℕ) (us : List ℕ) → T (signed ms)
+    → hear (ear tree 0) (signUnits (gap word) ms ++ us) ≡ byteOf tree ∷ told word (hear (ear (climb 1 ms) 0) us)
+sign-later word [] tree us s = absurd s
 sign-later false (dot ∷ ms) tree us s = ap (λ l. byteOf tree ∷ l) (marked ms 2 us)
 sign-later false (dash ∷ ms) tree us s = ap (λ l. byteOf tree ∷ l) (marked ms 3 us)
-sign-later true (dot ∷ ms) tree us s = ap (λ l. byteOf tree ∷ 32 ∷ l) (marked ms 2 us)
-sign-later true (dash ∷ ms) tree us s = ap (λ l. byteOf tree ∷ 32 ∷ l) (marked ms 3 us)
+sign-later true (dot ∷ ms) tree us s = ap (λ l. byteOf tree ∷ space ∷ l) (marked ms 2 us)
+sign-later true (dash ∷ ms) tree us s = ap (λ l. byteOf tree ∷ space ∷ l) (marked ms 3 us)
 
 -- well spaced, as a walk goes: no space after a space, and none last
-abbrev spacedAfter : (space : Bool) → List ℕ → Bool
-spacedAfter space [] = not space
-spacedAfter space (c ∷ t) = not (space && isSpace c) && spacedAfter (isSpace c) t
+abbrev spacedAfter : (word : Bool) → List ℕ → Bool
+spacedAfter word [] = not word
+spacedAfter word (c ∷ t) = not (word && isSpace c) && spacedAfter (isSpace c) t
 
 nor : (a b : Bool) → (a || b) ≡ false → (a ≡ false) × (b ≡ false)
 nor true b e = absurd (true≢false e)
@@ -80,28 +80,28 @@ walk-spaced c (e ∷ t) d l =
 
 -- the rest of a text, after a sign or after a space
 abbrev Follows : List ℕ → Type 0
-Follows t = (space : Bool) (tree : ℕ) → T (allKnown t) → T (spacedAfter space t) → hear (ear tree 0) (unitsAfter (gap space) t) ≡ byteOf tree ∷ told space t
+Follows t = (word : Bool) (tree : ℕ) → T (allKnown t) → T (spacedAfter word t) → hear (ear tree 0) (unitsAfter (gap word) t) ≡ byteOf tree ∷ told word t
 
-follow-byte : (c : ℕ) (t : List ℕ) (space b : Bool) (tree : ℕ) → isSpace c ≡ b
-    → T ((b || signed (signOf c)) && allKnown t) → T (not (space && b) && spacedAfter b t) → Follows t
-    → hear (ear tree 0) (signUnits (gap space) (signOf c) ++ unitsAfter (gap b) t) ≡ byteOf tree ∷ told space (c ∷ t)
+follow-byte : (c : ℕ) (t : List ℕ) (word b : Bool) (tree : ℕ) → isSpace c ≡ b
+    → T ((b || signed (signOf c)) && allKnown t) → T (not (word && b) && spacedAfter b t) → Follows t
+    → hear (ear tree 0) (signUnits (gap word) (signOf c) ++ unitsAfter (gap b) t) ≡ byteOf tree ∷ told word (c ∷ t)
 unfolding signs signOf
 follow-byte c t true true tree e k s rest = absurd s
 follow-byte c t false true tree e k s rest =
-    let q : c ≡ 32 = eqb-true c 32 e in
+    let q : c ≡ space = eqb-true c space e in
     let z : signOf c ≡ [] = ap signOf q in
     rw z (rest true tree k s ∙ ap (λ (x : ℕ). byteOf tree ∷ x ∷ t) (sym q))
-follow-byte c t space false tree e k s rest =
+follow-byte c t word false tree e k s rest =
     let g : T (signed (signOf c)) = and-left (signed (signOf c)) (allKnown t) k in
-    let n : T (spacedAfter false t) = and-right (not (space && false)) (spacedAfter false t) s in
-    sign-later space (signOf c) tree (unitsAfter betweenSigns t) g
-    ∙ ap (λ (l : List ℕ). byteOf tree ∷ told space l)
+    let n : T (spacedAfter false t) = and-right (not (word && false)) (spacedAfter false t) s in
+    sign-later word (signOf c) tree (unitsAfter betweenSigns t) g
+    ∙ ap (λ (l : List ℕ). byteOf tree ∷ told word l)
     (rest false (climb 1 (signOf c)) (and-right (signed (signOf c)) (allKnown t) k) n ∙ ap (λ (x : ℕ). x ∷ t) (byte-numbered c g))
 
 follow : (t : List ℕ) → Follows t
 follow [] true tree k s = absurd s
 follow [] false tree k s = refl
-follow (c ∷ t) space tree k s = follow-byte c t space (isSpace c) tree refl k s (follow t)
+follow (c ∷ t) word tree k s = follow-byte c t word (isSpace c) tree refl k s (follow t)
 
 -- the first byte, which is no space, and the rest
 start : (c : ℕ) (t : List ℕ) → isSpace c ≡ false → T (allKnown (c ∷ t)) → T (spacedAfter (isSpace c) t) → heard (unitsAfter 0 (c ∷ t)) ≡ c ∷ t

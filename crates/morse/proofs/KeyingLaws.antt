@@ -15,7 +15,7 @@ use Rattle.morse.specs.declared.keying.Keyed.{Keyed}
 use Rattle.morse.specs.declared.keying.Keyed.the-variants.{Done, NoRoom}
 use Rattle.morse.specs.declared.texts.Fault.the-variants.{Nothing, TooLong, OutsideAlphabet, BadSpacing}
 use Rattle.morse.specs.declared.texts.Fault.{Fault}
-use Rattle.morse.specs.Answers.{outcome, written, reply}
+use Rattle.morse.specs.Answers.{outcome, written}
 use Rattle.morse.specs.Texts.{faultOf}
 use Rattle.morse.specs.Units.{unitsOf}
 use Rattle.morse.specs.Keying.{keyUnits, keyBy, keyOf, keyReply}

@@ -3,7 +3,7 @@
 use mathlib.Core.Path.{_≡_, refl, sym, _∙_}
 use mathlib.Core.List.{List}
 use Prim.Native.Nat.{ℕ}
-use lib.ListN.{length, take}
+use lib.ListN.{take}
 use Rattle.morse.specs.declared.keying.Keyed.the-variants.{Done}
 use Rattle.morse.specs.declared.reading.Heard.{Heard}
 use Rattle.morse.specs.declared.texts.Fault.the-variants.{Nothing}
@@ -11,7 +11,7 @@ use Rattle.morse.specs.Answers.{Outcome, outcome}
 use Rattle.morse.specs.Texts.{faultOf}
 use Rattle.morse.specs.Units.{unitsOf}
 use Rattle.morse.specs.Keying.{keyOf}
-use Rattle.morse.specs.Reading.{Keys, readText, Read}
+use Rattle.morse.specs.Reading.{readText, Read}
 use Rattle.morse.proofs.KeyingLaws.{key-done}
 use Rattle.morse.proofs.ReadingLaws.{heard-text}
 

@@ -1,15 +1,14 @@
 -- Laws of reading: what it must answer, by what is heard of the units.
 -- Assumes nothing.
-use mathlib.Core.Path.{_≡_, refl, ap, _∙_}
+use mathlib.Core.Path.{_≡_, refl, ap}
 use mathlib.Core.List.{List, _++_}
 use Prim.Native.Nat.{ℕ, _<_, _≤_}
 use lib.ListN.{length, take, drop}
 use lib.Seq.{sets, take-length, take-append-seam}
 use borrow.Author.Tests.{lt-ltb, le-ltb}
 use Rattle.choice.proofs.Stores.{sets-front}
-use Rattle.morse.specs.declared.reading.Heard.{Heard}
 use Rattle.morse.specs.declared.reading.Heard.the-variants.{Text, NotAKeying, NoRoom}
-use Rattle.morse.specs.Answers.{outcome, written}
+use Rattle.morse.specs.Answers.{outcome}
 use Rattle.morse.specs.Guessing.{heard}
 use Rattle.morse.specs.Reading.{Keys, readText, Read}
 use Rattle.morse.proofs.GuessIsRight.{guess-right}

@@ -1,7 +1,7 @@
 -- Laws of the signs: the code's table agrees with the page's, and which bytes have no sign.
 -- Assumes nothing.
 use mathlib.Core.Path.{_≡_, refl, ap}
-use mathlib.Core.Bool.{Bool, true, false, not, _&&_, _||_}
+use mathlib.Core.Bool.{Bool, true, false, not, _||_}
 use mathlib.Core.List.{List, [], _∷_}
 use Prim.Native.Nat.{ℕ, _<_, _≤_}
 use lib.Dec.{T}
@@ -10,7 +10,8 @@ use Rattle.choice.specs.Choice.{within}
 use Rattle.choice.proofs.ChoiceLaws.{holds, within-low, within-high}
 use Rattle.choice.proofs.Tables.{below, upto}
 use Rattle.morse.specs.declared.signs.Sign.{Sign}
-use Rattle.morse.specs.Signs.{Mark, dot, dash, signs, signOf, signed, marksOf, byteAt, same, isSign}
+use Rattle.morse.specs.Signs.{Mark, dot, dash, signs, signOf, signed}
+use Rattle.morse.specs.SignTable.{marksOf, byteAt, same, isSign}
 use Rattle.morse.proofs.Everywhere.{everywhere}
 
 same-eq : (s t : List Mark) → T (same s t) → s ≡ t

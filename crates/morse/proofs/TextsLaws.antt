@@ -15,7 +15,8 @@ use Rattle.morse.specs.declared.signs.Sign.{Sign}
 use Rattle.morse.specs.declared.texts.Fault.{Fault}
 use Rattle.morse.specs.declared.texts.Fault.the-variants.{Nothing, TooLong, OutsideAlphabet, BadSpacing}
 use Rattle.morse.specs.declared.texts.Seen.{Seen}
-use Rattle.morse.specs.Signs.{signed, unpack, marksOf}
+use Rattle.morse.specs.Signs.{signed}
+use Rattle.morse.specs.SignTable.{unpack, marksOf}
 use Rattle.morse.specs.Texts.{longest, isSpace, known, allKnown, doubled, badlySpaced, faultOf, faultNumber, seenIn}
 
 -- a sign has marks where it says so

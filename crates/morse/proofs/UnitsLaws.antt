@@ -1,7 +1,6 @@
 -- Laws of the units: one store, one mark and one byte off what is left, and how many units a text has at most.
 -- Assumes nothing.
 use mathlib.Core.Path.{_≡_, refl, ap, _∙_}
-use mathlib.Core.Bool.{Bool}
 use mathlib.Core.List.{List, [], _∷_, _++_}
 use Prim.Native.Nat.{ℕ, zero, suc, _+_, _-_, _*_, _/_, _%_, _<_, _≤_, zero-le}
 use native.Mathlib.Nat.{not-suc-le-zero}
@@ -9,13 +8,13 @@ use native.Mathlib.Numerals.{add-one, sub-one}
 use native.Mathlib.Omega.{arith}
 use lib.ListN.{length, getD, set, replicate, drop, length-append, length-replicate}
 use lib.Seq.{sets, drop-cons}
-use lib.Dec.{T, eqb, leb, leb→le}
-use Rattle.choice.specs.Choice.{if_then_else_}
+use lib.Dec.{T, leb, leb→le}
 use Rattle.choice.proofs.ChoiceLaws.{either}
 use Rattle.choice.proofs.Stores.{sets-append}
-use Rattle.morse.specs.Signs.{Mark, dot, dash, signs, signOf, markOf, unpack}
+use Rattle.morse.specs.Signs.{Mark, signs, signOf}
+use Rattle.morse.specs.SignTable.{markOf, unpack}
 use Rattle.morse.specs.Texts.{isSpace}
-use Rattle.morse.specs.Units.{span, signUnits, gapAfter, unitsAfter, unitsOf, betweenWords, betweenSigns}
+use Rattle.morse.specs.Units.{span, signUnits, gapAfter, unitsAfter, unitsOf}
 use Rattle.morse.proofs.Everywhere.{everywhere}
 
 -- one store off a run that ends at a place

@@ -8,6 +8,7 @@ use lib.ListN.{getD}
 use Rattle.choice.specs.Choice.{if_then_else_}
 use Rattle.morse.specs.declared.guessing.Ear.{Ear}
 use Rattle.morse.specs.Signs.{Mark, dot, dash, signs, signed}
+use Rattle.morse.specs.Texts.{space}
 use Rattle.morse.specs.Units.{betweenSigns, betweenWords}
 
 -- a mark begun, as a dot, and a mark made longer
@@ -23,13 +24,17 @@ climb tree [] = tree
 climb tree (dot ∷ ms) = climb (begun tree) ms
 climb tree (dash ∷ ms) = climb (begun tree + 1) ms
 
--- the byte whose sign has this number, among the signs of the bytes from k on, or else `_`, which is not of the alphabet
+-- `_`, which is not of the alphabet
+abbrev pub noByte : ℕ
+noByte = 95
+
+-- the byte whose sign has this number, among the signs of the bytes from k on, or no byte
 abbrev pub find : (tree k : ℕ) → List (List Mark) → ℕ
-find tree k [] = 95
+find tree k [] = noByte
 find tree k (s ∷ ss) = if signed s && eqb (climb 1 s) tree then k else find tree (suc k) ss
 
 unfoldable pub byteOf : ℕ → ℕ
-byteOf tree = if ltb tree 64 then find tree 0 signs else 95
+byteOf tree = if ltb tree 64 then find tree 0 signs else noByte
 
 -- the rule of the code's table at entry k
 abbrev pub isByte : List ℕ → ℕ → Bool
@@ -52,7 +57,7 @@ spoken e unit =
     if eqb unit 0 then []
     else if ltb (e .up) betweenSigns then []
     else if ltb (e .up) betweenWords then byteOf (e .tree) ∷ []
-    else byteOf (e .tree) ∷ 32 ∷ []
+    else byteOf (e .tree) ∷ space ∷ []
 
 abbrev pub hear : Ear → List ℕ → List ℕ
 hear e [] = byteOf (e .tree) ∷ []

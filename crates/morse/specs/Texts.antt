@@ -12,11 +12,15 @@ use Rattle.morse.specs.declared.texts.Seen.{Seen}
 use Rattle.morse.specs.Answers.{done, tooLong, outsideAlphabet, badSpacing}
 use Rattle.morse.specs.Signs.{signOf, signed}
 
+-- the most bytes
 abbrev pub longest : ℕ
 longest = 64
 
+abbrev pub space : ℕ
+space = 32
+
 abbrev pub isSpace : ℕ → Bool
-isSpace c = eqb c 32
+isSpace c = eqb c space
 
 -- a byte of the alphabet: the space, or one that has a sign
 abbrev pub known : ℕ → Bool

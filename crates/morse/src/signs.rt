@@ -3,7 +3,8 @@
 ghost use mathlib.Core.Path.{_≡_};
 ghost use lib.Dec.{T};
 ghost use Rattle.choice.proofs.Tables.{below};
-ghost use Rattle.morse.specs.Signs.{signOf, marksOf, isSign};
+ghost use Rattle.morse.specs.Signs.{signOf};
+ghost use Rattle.morse.specs.SignTable.{marksOf, isSign};
 
 // A sign: its dashes as bits, the first mark lowest, and how many marks it has.
 pub struct Sign {

@@ -4,7 +4,7 @@ ghost use mathlib.Core.Path.{_≡_};
 ghost use Prim.Native.Nat.{_+_, _^_, _≤_, _<_};
 ghost use lib.ListN.{length, set, replicate};
 ghost use lib.Seq.{sets};
-ghost use Rattle.morse.specs.Signs.{marksOf};
+ghost use Rattle.morse.specs.SignTable.{marksOf};
 ghost use Rattle.morse.specs.Texts.{longest};
 ghost use Rattle.morse.specs.Units.{gapAfter, signUnits, unitsOf};
 use crate::signs::Sign;
@@ -29,7 +29,7 @@ pub fn put(room: &mut [u8], at: usize, v: u8)
 
 // Stores n times v from a place on, and gives the place after them.
 fn put_run(room: &mut [u8], at: usize, n: usize, v: u8) -> usize
-    requires { ⌜ at + n < 2 ^ 64 ⌝ }
+    requires { ⌜ at + n < 2 ^ 63 ⌝ }
     ensures { λ r. ⌜ (r ≡ at + n) × (now (room .exit) ≡ sets (now (room .entry)) at (replicate n v)) ⌝ }
 {
     let end = at + n;
@@ -43,7 +43,7 @@ fn put_run(room: &mut [u8], at: usize, n: usize, v: u8) -> usize
 
 // Stores the marks of a sign, the first after a gap, and gives the place after them.
 fn put_sign(room: &mut [u8], at: usize, gap: usize, sign: Sign) -> usize
-    requires { ⌜ at + length (signUnits gap (marksOf sign)) < 2 ^ 64 ⌝ }
+    requires { ⌜ at + length (signUnits gap (marksOf sign)) < 2 ^ 63 ⌝ }
     ensures { λ r. ⌜ (r ≡ at + length (signUnits gap (marksOf sign))) × (now (room .exit) ≡ sets (now (room .entry)) at (signUnits gap (marksOf sign))) ⌝ }
 {
     let mut i = at;

@@ -1,5 +1,5 @@
 -- `morse::guessing::say` meets its contract: each answer rewrites the rule's tests by those that led to it.
-use mathlib.Core.Path.{_≡_, refl}
+use mathlib.Core.Path.{refl}
 use native.Mathlib.Numerals.{add-one}
 use native.Mathlib.Omega.{arith}
 use borrow.Author.Tests.{eq-eqb, ne-eqb, lt-ltb, le-ltb}

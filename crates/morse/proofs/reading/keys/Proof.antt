@@ -1,5 +1,5 @@
 -- `morse::reading::keys` meets its contract: the text's units are stored again, whole, and compared.
-use mathlib.Core.Path.{_≡_, sym, _∙_}
+use mathlib.Core.Path.{sym, _∙_}
 use mathlib.Core.Bool.{false≢true}
 use mathlib.Core.Logic.{⊎-elim}
 use Prim.Native.Nat.{_-_}

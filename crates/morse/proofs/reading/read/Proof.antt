@@ -1,5 +1,5 @@
 -- `morse::reading::read` meets its contract: what is kept is what was heard of the units, so the comparison decides.
-use mathlib.Core.Path.{_≡_, sym, _∙_}
+use mathlib.Core.Path.{sym, _∙_}
 use mathlib.Core.Bool.{true≢false}
 use Prim.Native.Nat.{_-_}
 use native.Mathlib.Omega.{arith}

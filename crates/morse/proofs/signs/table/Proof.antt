@@ -1,5 +1,6 @@
 -- `morse::signs::table` meets its contract: antt computes the rule's test at each entry.
-use Rattle.morse.specs.Signs.{signs, signOf, marksOf}
+use Rattle.morse.specs.Signs.{signs, signOf}
+use Rattle.morse.specs.SignTable.{marksOf}
 use Rattle.morse.proofs.signs.table.Statement.{statement}
 use Rattle.morse.proofs.signs.table.Tie as tie
 

@@ -1,5 +1,5 @@
 -- `morse::texts::fault_of` meets its contract: each answer rewrites the page's tests by those that led to it.
-use mathlib.Core.Path.{_≡_, refl, sym, ap, _∙_}
+use mathlib.Core.Path.{_≡_, sym, ap, _∙_}
 use mathlib.Core.Bool.{true, false}
 use borrow.Author.Tests.{lt-ltb, le-ltb, not-true, not-false}
 use Rattle.morse.specs.Texts.{allKnown, faultOf}

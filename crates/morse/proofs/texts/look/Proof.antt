@@ -1,5 +1,5 @@
 -- `morse::texts::look` meets its contract: what is found so far, with what is left of the text, makes what the whole text has.
-use mathlib.Core.Path.{_≡_, refl, sym, ap, _∙_}
+use mathlib.Core.Path.{_≡_, sym, ap, _∙_}
 use mathlib.Core.Bool.{_&&_, _||_, and-assoc, or-assoc, and-true, or-false}
 use mathlib.Core.List.{[]}
 use Prim.Native.Nat.{_+_, _-_, _≤_}

@@ -2,9 +2,9 @@
 use mathlib.Core.Path.{_≡_}
 use Prim.Native.Nat.{_+_}
 use native.Mathlib.Omega.{arith}
-use lib.ListN.{length, replicate}
+use lib.ListN.{length}
 use lib.Seq.{sets}
-use Rattle.morse.specs.Signs.{unpack, marksOf}
+use Rattle.morse.specs.SignTable.{unpack, marksOf}
 use Rattle.morse.specs.Units.{signUnits}
 use Rattle.morse.proofs.UnitsLaws.{length-sign, sets-sign}
 use borrow.Author.Needs.{needs}

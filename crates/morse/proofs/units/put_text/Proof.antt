@@ -1,6 +1,6 @@
 -- `morse::units::put_text` meets its contract: the units of what is left of the text, put into the room as it is, make what all of them make of the room at entry.
 use mathlib.Core.Path.{_≡_, refl, ap}
-use Prim.Native.Nat.{_+_, _-_, _≤_, _<_}
+use Prim.Native.Nat.{_+_, _-_, _≤_}
 use native.Mathlib.Omega.{arith}
 use mathlib.Core.List.{[]}
 use lib.ListN.{length, drop, drop-of-length-le}
