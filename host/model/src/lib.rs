@@ -23,5 +23,5 @@ pub mod step;
 pub mod table;
 mod tick;
 
-pub use log::step_log;
+pub use log::{log_of, step_log};
 pub use state::State;

@@ -4,20 +4,32 @@ use crate::report::{self, Report};
 use crate::state::State;
 use crate::step::step;
 use crate::table;
-use std::fmt::Write;
+
+const HEADER: &str = "n kind origin serial answer mode requested on failed beacon\n";
 
 /// The log of a stream of frames, from the fresh start.
-pub fn step_log(mut input: &[u8]) -> String {
+pub fn step_log(input: &[u8]) -> String {
     let mut state = State::fresh();
-    let mut log = String::from("n kind origin serial answer mode requested on failed beacon\n");
+    log_of(input, |frame| {
+        step(&mut state, frame, report::BYTES).map(|report| report.bytes())
+    })
+}
+
+/// The log of a stream of frames that are given, one by one, to some board: it
+/// gives back the report or the refusal.
+pub fn log_of(
+    mut input: &[u8],
+    mut board: impl FnMut(&[u8]) -> Result<[u8; report::BYTES], u8>,
+) -> String {
+    let mut log = String::from(HEADER);
     let mut n = 1;
     while let Some(&kind) = input.first() {
         let total = table::kind(kind).map_or(1, |kind| kind.total);
         let (frame, rest) = input.split_at(total.min(input.len()));
-        match step(&mut state, frame, report::BYTES) {
-            Ok(report) => log.push_str(&line(n, &report)),
+        match board(frame) {
+            Ok(report) => log += &line(n, &Report::from_bytes(&report)),
             Err(refusal) => {
-                log.push_str(&format!("{n} refused {refusal}\n"));
+                log += &format!("{n} refused {refusal}\n");
                 break;
             }
         }
@@ -40,8 +52,6 @@ fn line(n: usize, report: &Report) -> String {
         failed,
         beacon,
     } = report;
-    let mut line = format!("{n} {kind:02X} {origin} {serial} {answer} {mode}");
-    // Writing to a string can't fail.
-    let _ = writeln!(line, " {requested:02X} {on:02X} {failed:02X} {beacon}");
-    line
+    let masks = format!("{requested:02X} {on:02X} {failed:02X}");
+    format!("{n} {kind:02X} {origin} {serial} {answer} {mode} {masks} {beacon}\n")
 }

@@ -68,4 +68,20 @@ impl Report {
             self.beacon,
         ]
     }
+
+    /// The fields of a report's bytes; the first of them is not looked at.
+    pub fn from_bytes(bytes: &[u8; BYTES]) -> Report {
+        let [_, kind, origin, high, low, answer, mode, requested, on, failed, beacon] = *bytes;
+        Report {
+            kind,
+            origin,
+            serial: u16::from_be_bytes([high, low]),
+            answer,
+            mode,
+            requested,
+            on,
+            failed,
+            beacon,
+        }
+    }
 }
