@@ -18,6 +18,8 @@ fn main() {
     }
     println!("cargo:rustc-link-search=native={}", dir.display());
     println!("cargo:rustc-link-lib=static=flight");
+    // For the tests that link it into C.
+    println!("cargo:rustc-env=EMS_FLIGHT_DIR={}", dir.display());
 }
 
 /// `target/staticlib` of the repository, two folders above this package.
