@@ -13,4 +13,5 @@ pub mod groups;
 pub mod images;
 pub mod rng;
 pub mod shrink;
+pub mod sides;
 pub mod texts;

@@ -1,6 +1,7 @@
 //! A failure made short, and told.
 
-use crate::compare::{self, hex, Calls, Counted};
+use crate::compare::{self, hex};
+use crate::sides::{Calls, Counted};
 use model::{image, State};
 use quickcheck::Arbitrary;
 use std::time::{Duration, Instant};

@@ -3,9 +3,9 @@
 //!
 //! `EMS_SEED=n` runs again what a printed seed has run.
 
-use differential::compare::{LIBRARY, MODEL};
 use differential::groups::GROUPS;
 use differential::rng::Rng;
+use differential::sides::{LIBRARY, MODEL};
 use std::process::ExitCode;
 use std::time::{Instant, SystemTime, UNIX_EPOCH};
 

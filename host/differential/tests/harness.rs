@@ -1,9 +1,12 @@
 //! The differential tests' own test: faults planted in one side are found, and
 //! come out short.
 
-use differential::compare::{Calls, MODEL};
+use differential::frames::{Maker, Stream};
 use differential::groups::GROUPS;
 use differential::rng::Rng;
+use differential::shrink::tell_flight;
+use differential::sides::{Calls, MODEL};
+use model::{image, State};
 
 /// What a group says of a faulty side.
 fn told(group: &str, faulty: Calls) -> String {
@@ -78,6 +81,29 @@ fn a_fault_at_one_equality_is_found() {
     };
     let told = told("flights by the table", faulty);
     assert_eq!(frames(&told), 1, "{told}");
+}
+
+/// Stores a reading one millivolt off once the antennas are out.
+fn misreads_when_deployed(image: &mut [u8], frame: &[u8], room: &mut [u8]) -> u8 {
+    let answer = model::calls::step(image, frame, room);
+    if answer == 0 && image[10] == 1 && frame[0] == 0x02 {
+        image[12] ^= 1;
+    }
+    answer
+}
+
+#[test]
+fn a_long_flight_from_the_fresh_start_comes_out_as_two_frames() {
+    let faulty = Calls {
+        step: misreads_when_deployed,
+        ..MODEL
+    };
+    let mut rng = Rng::new(1);
+    let mut stream = Stream::new(Maker::Structured);
+    let shots = (0..2_000).map(|_| stream.next(&mut rng)).collect();
+    let start = image::save(&State::fresh());
+    let told = tell_flight(&[faulty, MODEL], &start, shots);
+    assert_eq!(frames(&told), 2, "{told}");
 }
 
 /// Reads units with a gap behind the last sign.
