@@ -209,7 +209,11 @@ impl State {
                     due: Due::Nothing,
                 }
             }
-            _ => self.control().module_stage(shorts).beacon_stage(),
+            _ => {
+                let judged = self.control();
+                let switched = judged.module_stage(shorts);
+                switched.beacon_stage()
+            }
         }
     }
 }
