@@ -1,0 +1,134 @@
+//! Bytes from a script, a file or standard input, each with its place.
+
+use crate::args::As;
+use crate::failure::Failure;
+use crate::script::{self, Line};
+use std::fmt;
+use std::fs::File;
+use std::io::{self, BufReader, Read};
+use std::path::Path;
+
+/// Where a byte comes from.
+#[derive(Clone, Copy, Debug, PartialEq, Eq)]
+pub enum Place {
+    /// A line of a script, from 1.
+    Line(usize),
+    /// So many bytes from the start.
+    Byte(u64),
+}
+
+impl fmt::Display for Place {
+    fn fmt(&self, f: &mut fmt::Formatter<'_>) -> fmt::Result {
+        match self {
+            Place::Line(line) => write!(f, "line {line}"),
+            Place::Byte(byte) => write!(f, "byte {byte}"),
+        }
+    }
+}
+
+/// Bytes with their places.
+pub struct Source {
+    /// The file's name, as it was given.
+    pub name: String,
+    /// How many bytes there are, if that is known.
+    pub length: Option<u64>,
+    pub bytes: Box<dyn Iterator<Item = io::Result<(u8, Place)>>>,
+}
+
+/// Opens a file: a script by its ending, or as is said; `-` is standard input.
+pub fn open(path: &Path, kind: Option<As>) -> Result<Source, Failure> {
+    let (name, mut file, mut length) = reader(path)?;
+    if kind.unwrap_or_else(|| As::of(path)) == As::Bytes {
+        let places = (0..).map(Place::Byte);
+        let bytes = BufReader::new(file).bytes().zip(places);
+        let bytes = Box::new(bytes.map(|(byte, place)| Ok((byte?, place))));
+        return Ok(Source {
+            name,
+            length,
+            bytes,
+        });
+    }
+    let mut text = Vec::new();
+    let read = file.read_to_end(&mut text);
+    read.map_err(|error| Failure::file(&name, &error))?;
+    let lines = script::parse(&text).map_err(|wrong| Failure::usage(wrong.show(&name)))?;
+    length = Some(
+        lines
+            .iter()
+            .map(|line| u64::from(line.times) * line.bytes.len() as u64)
+            .sum(),
+    );
+    let bytes = Box::new(Lines::new(lines).map(Ok));
+    Ok(Source {
+        name,
+        length,
+        bytes,
+    })
+}
+
+/// The whole content of a file.
+pub fn whole(path: &Path) -> Result<(String, Vec<u8>), Failure> {
+    let (name, mut file, _) = reader(path)?;
+    let mut content = Vec::new();
+    let read = file.read_to_end(&mut content);
+    read.map_err(|error| Failure::file(&name, &error))?;
+    Ok((name, content))
+}
+
+/// A file's name, what reads it, and its length if that is known.
+fn reader(path: &Path) -> Result<(String, Box<dyn Read>, Option<u64>), Failure> {
+    if path == Path::new("-") {
+        return Ok(("standard input".to_string(), Box::new(io::stdin()), None));
+    }
+    let name = path.display().to_string();
+    let failed = |error: io::Error| Failure::file(&name, &error);
+    let file = File::open(path).map_err(failed)?;
+    let about = file.metadata().map_err(failed)?;
+    if about.is_dir() {
+        return Err(Failure::usage(format!("{name}: is a directory")));
+    }
+    let length = about.is_file().then_some(about.len());
+    Ok((name, Box::new(file), length))
+}
+
+/// The bytes that a script's lines send.
+struct Lines {
+    lines: std::vec::IntoIter<Line>,
+    line: Option<Line>,
+    /// How often the line has been sent, and how much of it since.
+    sent: u32,
+    at: usize,
+}
+
+impl Lines {
+    fn new(lines: Vec<Line>) -> Lines {
+        let mut lines = lines.into_iter();
+        let line = lines.next();
+        Lines {
+            lines,
+            line,
+            sent: 0,
+            at: 0,
+        }
+    }
+}
+
+impl Iterator for Lines {
+    type Item = (u8, Place);
+
+    fn next(&mut self) -> Option<(u8, Place)> {
+        loop {
+            let line = self.line.as_ref()?;
+            if let Some(&byte) = line.bytes.get(self.at) {
+                self.at += 1;
+                return Some((byte, Place::Line(line.number)));
+            }
+            self.at = 0;
+            self.sent += 1;
+            if self.sent == line.times {
+                self.sent = 0;
+                self.line = self.lines.next();
+            }
+        }
+    }
+}

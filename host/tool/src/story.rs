@@ -1,0 +1,165 @@
+//! What a frame did to a board, in words: the difference of two images, and the
+//! answer.
+
+use crate::board::{Report, Step};
+use crate::image::{Image, Phase, Power};
+use crate::tables::{name, ANSWERS, MODES, MODULES};
+use crate::words::{count, list, thousands};
+use ems::answer;
+use std::cmp::Ordering;
+
+/// What changed from one image to the next, in a tick with these shorts.
+pub fn changes(before: &Image, after: &Image, shorts: u8) -> Vec<String> {
+    let mut said = Vec::new();
+    if after.deployed() != before.deployed() {
+        let position = if after.deployed() {
+            "deployed"
+        } else {
+            "folded"
+        };
+        said.push(format!("antennas {position}"));
+    }
+    if after.tension() != before.tension() {
+        said.push(format!("tension {}", millivolts(after.tension())));
+    }
+    if after.ascend() != before.ascend() {
+        said.push(format!("ascend {}", millivolts(after.ascend())));
+    }
+    if after.descend() != before.descend() {
+        said.push(format!("descend {}", millivolts(after.descend())));
+    }
+    if after.phase() == Phase::Settling && before.phase() == Phase::Waiting {
+        said.push("waiting is over, settling begins".to_string());
+    }
+    if after.mode() != before.mode() {
+        said.push(crossing(before, after));
+    }
+    said.extend(requests(before, after));
+    said.extend(powers(before, after, shorts));
+    said
+}
+
+fn millivolts(number: u16) -> String {
+    format!("{} mV", thousands(u64::from(number)))
+}
+
+/// A change of mode, with the numbers that it was judged by.
+fn crossing(before: &Image, after: &Image) -> String {
+    let modes = format!(
+        "{} to {}",
+        name(&MODES, before.mode()),
+        name(&MODES, after.mode())
+    );
+    if before.phase() != Phase::Over {
+        format!("{modes}, settling is over")
+    } else if after.mode() > before.mode() {
+        format!(
+            "{modes}, {}",
+            judged(after.tension(), "ascend", after.ascend())
+        )
+    } else {
+        format!(
+            "{modes}, {}",
+            judged(after.tension(), "descend", after.descend())
+        )
+    }
+}
+
+/// How the tension stands to a threshold.
+fn judged(tension: u16, name: &str, threshold: u16) -> String {
+    let stands = match tension.cmp(&threshold) {
+        Ordering::Less => "below",
+        Ordering::Equal => "at",
+        Ordering::Greater => "above",
+    };
+    let (tension, threshold) = (millivolts(tension), millivolts(threshold));
+    format!("tension {tension} {stands} {name} {threshold}")
+}
+
+/// The modules whose requests changed.
+fn requests(before: &Image, after: &Image) -> Vec<String> {
+    let changed = before.requests() ^ after.requests();
+    [("on", after.requests()), ("off", before.requests())]
+        .into_iter()
+        .filter(|(_, mask)| changed & mask != 0)
+        .map(|(wanted, mask)| {
+            let modules = crate::words::modules(changed & mask);
+            format!("{} requested {wanted}", list(&modules))
+        })
+        .collect()
+}
+
+/// The modules whose power changed, those with the same fate together.
+fn powers(before: &Image, after: &Image, shorts: u8) -> Vec<String> {
+    let mut fates: Vec<(String, Vec<String>)> = Vec::new();
+    for (i, module) in MODULES.iter().enumerate() {
+        let short = shorts >> i & 1 == 1;
+        let Some(fate) = fate(before.power(i), after.power(i), short) else {
+            continue;
+        };
+        let module = (*module).to_string();
+        match fates.iter_mut().find(|(other, _)| *other == fate) {
+            Some((_, modules)) => modules.push(module),
+            None => fates.push((fate, vec![module])),
+        }
+    }
+    let said = fates
+        .iter()
+        .map(|(fate, modules)| format!("{} {fate}", list(modules)));
+    said.collect()
+}
+
+/// What became of a module in a tick; nothing where only its seconds ran.
+fn fate(before: Power, after: Power, short: bool) -> Option<String> {
+    let again = |seconds: u16| count(u64::from(seconds), "second");
+    match (before, after) {
+        (Power::On, Power::On) => None,
+        (_, Power::On) => Some("on".to_string()),
+        (Power::On, Power::Off(_)) if short => Some("off, shorted".to_string()),
+        (Power::On, Power::Off(_)) => Some("off".to_string()),
+        (Power::Off(was), Power::Off(is)) if is < was => {
+            let left = if is == 1 {
+                "1 try".into()
+            } else {
+                format!("{is} tries")
+            };
+            Some(format!("shorted at its start, {left} left"))
+        }
+        (Power::Failed(was), Power::Failed(left)) if left > was => Some(format!(
+            "shorted at its start, {} to the next try",
+            again(left)
+        )),
+        (Power::Failed(_), Power::Failed(_)) | (Power::Off(_), Power::Off(_)) => None,
+        (_, Power::Failed(left)) => Some(format!("failed, {} to the next try", again(left))),
+        (Power::Failed(_), Power::Off(_)) => Some("off".to_string()),
+    }
+}
+
+/// What came of a frame that has a report: the answer, and what changed.
+pub fn outcome(step: &Step, report: &Report, what: &str, origin: &str) -> String {
+    let (serial, last) = (report.serial, step.before.serial(report.origin));
+    match report.answer {
+        answer::DONE => {
+            let changes = changes(&step.before, &step.after, 0);
+            if changes.is_empty() {
+                "done, nothing changed".to_string()
+            } else {
+                format!("done, {}", changes.join("; "))
+            }
+        }
+        answer::REPEAT => {
+            format!("8, {serial} is a repeat of {origin}'s last order: nothing moved")
+        }
+        answer::STALE => {
+            format!("9, {serial} is stale, {origin}'s last order was {last}: nothing moved")
+        }
+        answer::NOT_NOW => {
+            let mode = name(&MODES, report.mode);
+            format!("10, {what} is not switched on in {mode}; {serial} is used up")
+        }
+        other => {
+            let (name, _) = ANSWERS.get(usize::from(other)).unwrap_or(&("", ""));
+            format!("{other}, {name}")
+        }
+    }
+}
