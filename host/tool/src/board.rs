@@ -98,8 +98,4 @@ impl Board {
         };
         String::from_utf8_lossy(&text[..length]).into_owned()
     }
-
-    pub fn seconds(&self) -> u64 {
-        self.seconds
-    }
 }

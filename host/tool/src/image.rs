@@ -4,9 +4,6 @@
 use crate::tables::MODULES;
 use ems::IMAGE_BYTES;
 
-/// The layout's version that this file reads.
-pub const VERSION: u8 = 1;
-
 /// Where a module's bytes begin, and how many it has.
 const MODULE: usize = 21;
 const MODULE_BYTES: usize = 4;
@@ -107,5 +104,24 @@ impl Image {
 
     fn number(&self, at: usize) -> u16 {
         u16::from_be_bytes([self.0[at], self.0[at + 1]])
+    }
+}
+
+#[cfg(test)]
+mod tests {
+    use super::*;
+    use ems::Craft;
+
+    #[test]
+    fn the_layout_read_here_is_the_library_s() {
+        let bytes = *Craft::fresh().image();
+        assert_eq!(bytes[0], 1, "another version of the image");
+        let fresh = Image::of(&bytes);
+        assert_eq!((fresh.mode(), fresh.phase()), (0, Phase::Waiting));
+        assert_eq!((fresh.tension(), fresh.deployed()), (0, false));
+        assert_eq!((fresh.ascend(), fresh.descend()), (7_400, 7_000));
+        assert_eq!((fresh.serial(1), fresh.serial(2)), (0, 0));
+        assert_eq!((fresh.requests(), fresh.on(), fresh.failed()), (0x27, 0, 0));
+        assert!((0..8).all(|module| fresh.power(module) == Power::Off(5)));
     }
 }

@@ -1,3 +1,37 @@
-pub fn run(_: &crate::args::Plot) -> Result<(), crate::failure::Failure> {
-    Ok(())
+//! `ems plot`: the flight as a picture.
+
+use super::{frame_in_words, refused};
+use crate::args::Plot;
+use crate::board::Board;
+use crate::failure::Failure;
+use crate::output::Output;
+use crate::plot::{draw, Record};
+use crate::stream::Stream;
+use std::io::Write;
+
+pub fn run(plot: &Plot) -> Result<(), Failure> {
+    let mut stream = Stream::open(&plot.flight)?;
+    let mut board = Board::fresh();
+    let mut record = Record::new(&board.image());
+    while stream.advance()? {
+        let step = board.step(stream.frame());
+        match step.outcome {
+            Ok(report) => {
+                let words = || frame_in_words(stream.frame());
+                record.add(stream.frame(), &step, &report, words);
+            }
+            Err(refusal) => {
+                record.refused = Some((step.n, refusal));
+                break;
+            }
+        }
+    }
+    let title = plot.title.as_deref().unwrap_or(stream.name());
+    let mut output = Output::at(&plot.output)?;
+    output.write_all(draw(&record, title).as_bytes())?;
+    output.flush()?;
+    match record.refused {
+        Some((n, refusal)) => Err(refused(&stream, n, refusal)),
+        None => Ok(()),
+    }
 }
