@@ -4,9 +4,6 @@ use clap::{Args, Parser, Subcommand, ValueEnum};
 use std::path::{Path, PathBuf};
 
 /// What will the board do if this is sent to it, and why did it do that?
-///
-/// Every answer is the proved library's: this tool knows names and layouts, and
-/// no rule.
 #[derive(Debug, Parser)]
 #[command(name = "ems", version, after_help = MAIN)]
 pub struct Line {
@@ -15,6 +12,8 @@ pub struct Line {
 }
 
 const MAIN: &str = "\
+Every answer is the proved library's: this tool knows names and layouts, and no rule.
+
 A flight is a pass script (*.pass, see docs/PASS-SCRIPTS.md) or a stream of frames
 as bytes (any other file, and `-` for standard input). It begins at the fresh start.
 
@@ -65,9 +64,7 @@ pub struct Flight {
 /// What a file holds.
 #[derive(Clone, Copy, Debug, PartialEq, Eq, ValueEnum)]
 pub enum As {
-    /// A pass script
     Script,
-    /// Frames, end to end
     Bytes,
 }
 
@@ -88,6 +85,9 @@ pub struct Log {
     /// In words, with ticks in which nothing happens taken together
     #[arg(long)]
     pub explain: bool,
+    /// As bytes, each frame (>) with its report (<), the same ones in a row taken together
+    #[arg(long, conflicts_with = "explain")]
+    pub hex: bool,
 }
 
 const LOG: &str = "\
@@ -97,6 +97,7 @@ standard error.
 Examples:
   ems log examples/dawn.pass
   ems log --explain examples/shorted.pass
+  ems log --hex examples/dawn.pass
   printf '\\003\\001\\001\\000' | ems log -";
 
 #[derive(Args, Debug)]
@@ -192,7 +193,8 @@ pub struct Read {
 const READ: &str = "\
 Blanks and line ends between units are skipped.
 
-Example:
+Examples:
+  ems read units.txt
   ems key --units \"EMS R 7000\" | ems read -";
 
 #[derive(Args, Debug)]

@@ -27,6 +27,8 @@ pub struct Step {
 /// What a report says.
 #[derive(Clone, Copy, Debug, PartialEq, Eq)]
 pub struct Report {
+    /// As it stands in the room.
+    pub bytes: [u8; REPORT_BYTES],
     pub kind: u8,
     pub origin: u8,
     pub serial: u16,
@@ -42,6 +44,7 @@ impl Report {
     pub fn of(bytes: &[u8; REPORT_BYTES]) -> Report {
         let [_, kind, origin, high, low, answer, mode, requested, on, failed, beacon] = *bytes;
         Report {
+            bytes: *bytes,
             kind,
             origin,
             serial: u16::from_be_bytes([high, low]),

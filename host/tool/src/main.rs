@@ -19,7 +19,7 @@ mod tables;
 mod words;
 
 use args::{Command, Line};
-use clap::Parser;
+use clap::{error::ErrorKind, Parser};
 use failure::Failure;
 use output::Output;
 use std::io::Write;
@@ -43,6 +43,7 @@ fn main() -> ExitCode {
 fn run(command: &Command) -> Result<(), Failure> {
     match command {
         Command::Log(log) if log.explain => commands::explain::run(&log.flight),
+        Command::Log(log) if log.hex => commands::hex::run(&log.flight),
         Command::Log(log) => commands::log::run(&log.flight),
         Command::Frames(frames) => commands::frames::run(frames),
         Command::Show(show) => commands::show::run(show),
@@ -58,7 +59,12 @@ fn run(command: &Command) -> Result<(), Failure> {
 fn usage(error: &clap::Error) -> Failure {
     let text = error.to_string();
     let text = text.trim_start_matches("error: ").trim_end();
-    Failure::usage(text)
+    match error.kind() {
+        ErrorKind::DisplayHelpOnMissingArgumentOrSubcommand => {
+            Failure::usage(format!("a command is missing\n\n{text}"))
+        }
+        _ => Failure::usage(text),
+    }
 }
 
 /// The help or the version that was asked for.

@@ -34,7 +34,7 @@ impl Output {
     /// The error, with the place's name before it.
     fn named(&self, error: &io::Error) -> io::Error {
         let message = format!("{}: {}", self.name, failure::said(error));
-        io::Error::new(io::ErrorKind::Other, message)
+        io::Error::other(message)
     }
 }
 

@@ -37,7 +37,11 @@ pub struct Source {
 
 /// Opens a file: a script by its ending, or as is said; `-` is standard input.
 pub fn open(path: &Path, kind: Option<As>) -> Result<Source, Failure> {
-    let (name, mut file, mut length) = reader(path)?;
+    let Opened {
+        name,
+        mut file,
+        mut length,
+    } = Opened::at(path)?;
     if kind.unwrap_or_else(|| As::of(path)) == As::Bytes {
         let places = (0..).map(Place::Byte);
         let bytes = BufReader::new(file).bytes().zip(places);
@@ -68,27 +72,41 @@ pub fn open(path: &Path, kind: Option<As>) -> Result<Source, Failure> {
 
 /// The whole content of a file.
 pub fn whole(path: &Path) -> Result<(String, Vec<u8>), Failure> {
-    let (name, mut file, _) = reader(path)?;
+    let Opened { name, mut file, .. } = Opened::at(path)?;
     let mut content = Vec::new();
     let read = file.read_to_end(&mut content);
     read.map_err(|error| Failure::file(&name, &error))?;
     Ok((name, content))
 }
 
-/// A file's name, what reads it, and its length if that is known.
-fn reader(path: &Path) -> Result<(String, Box<dyn Read>, Option<u64>), Failure> {
-    if path == Path::new("-") {
-        return Ok(("standard input".to_string(), Box::new(io::stdin()), None));
+/// A file that is being read.
+struct Opened {
+    name: String,
+    file: Box<dyn Read>,
+    /// How many bytes there are, if that is known.
+    length: Option<u64>,
+}
+
+impl Opened {
+    fn at(path: &Path) -> Result<Opened, Failure> {
+        if path == Path::new("-") {
+            return Ok(Opened {
+                name: "standard input".to_string(),
+                file: Box::new(io::stdin()),
+                length: None,
+            });
+        }
+        let name = path.display().to_string();
+        let failed = |error: io::Error| Failure::file(&name, &error);
+        let file = File::open(path).map_err(failed)?;
+        let about = file.metadata().map_err(failed)?;
+        if about.is_dir() {
+            return Err(Failure::usage(format!("{name}: is a directory")));
+        }
+        let length = about.is_file().then_some(about.len());
+        let file = Box::new(file);
+        Ok(Opened { name, file, length })
     }
-    let name = path.display().to_string();
-    let failed = |error: io::Error| Failure::file(&name, &error);
-    let file = File::open(path).map_err(failed)?;
-    let about = file.metadata().map_err(failed)?;
-    if about.is_dir() {
-        return Err(Failure::usage(format!("{name}: is a directory")));
-    }
-    let length = about.is_file().then_some(about.len());
-    Ok((name, Box::new(file), length))
 }
 
 /// The bytes that a script's lines send.

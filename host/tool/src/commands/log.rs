@@ -41,6 +41,7 @@ fn line(report: &Report) -> String {
         on,
         failed,
         beacon,
+        ..
     } = report;
     let masks = format!("{requested:02X} {on:02X} {failed:02X}");
     format!("{kind:02X} {origin} {serial} {answer} {mode} {masks} {beacon}")

@@ -4,6 +4,7 @@ pub mod beacon;
 pub mod compare;
 pub mod explain;
 pub mod frames;
+pub mod hex;
 pub mod key;
 pub mod log;
 pub mod plot;
