@@ -125,12 +125,11 @@ fn fate(before: Power, after: Power, short: bool) -> Option<String> {
             };
             Some(format!("shorted at its start, {left} left"))
         }
-        (Power::Failed(was), Power::Failed(left)) if left > was => Some(format!(
-            "shorted at its start, {} to the next try",
-            again(left)
-        )),
+        (Power::Failed(was), Power::Failed(left)) if left > was => {
+            Some(format!("shorted at its start, {} to wait", again(left)))
+        }
         (Power::Failed(_), Power::Failed(_)) | (Power::Off(_), Power::Off(_)) => None,
-        (_, Power::Failed(left)) => Some(format!("failed, {} to the next try", again(left))),
+        (_, Power::Failed(left)) => Some(format!("failed, {} to wait", again(left))),
         (Power::Failed(_), Power::Off(_)) => Some("off".to_string()),
     }
 }
