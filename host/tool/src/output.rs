@@ -2,8 +2,9 @@
 //! name which.
 
 use crate::failure::{self, Failure};
+use crate::progress;
 use std::fs::File;
-use std::io::{self, BufWriter, Write};
+use std::io::{self, BufWriter, IsTerminal, Stdout, Write};
 use std::path::Path;
 
 /// A place to write to.
@@ -16,7 +17,11 @@ impl Output {
     pub fn standard() -> Output {
         Output {
             name: "standard output".to_string(),
-            writer: BufWriter::new(Box::new(io::stdout())),
+            writer: BufWriter::new(if io::stdout().is_terminal() {
+                Box::new(Screen(io::stdout()))
+            } else {
+                Box::new(io::stdout())
+            }),
         }
     }
 
@@ -45,6 +50,19 @@ impl Write for Output {
 
     fn flush(&mut self) -> io::Result<()> {
         self.writer.flush().map_err(|error| self.named(&error))
+    }
+}
+
+/// Standard output where a person sees it, and the progress bar.
+struct Screen(Stdout);
+
+impl Write for Screen {
+    fn write(&mut self, bytes: &[u8]) -> io::Result<usize> {
+        progress::hidden(|| self.0.write(bytes))
+    }
+
+    fn flush(&mut self) -> io::Result<()> {
+        progress::hidden(|| self.0.flush())
     }
 }
 

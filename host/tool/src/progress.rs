@@ -1,8 +1,8 @@
-//! A bar on standard error for what takes over a second, where a person watches
-//! and nothing else is printed there.
+//! A bar on standard error for what takes over a second, where a person watches.
 
 use indicatif::{ProgressBar, ProgressStyle};
 use std::io::{self, IsTerminal};
+use std::sync::{Mutex, PoisonError};
 use std::time::{Duration, Instant};
 
 /// Nothing is shown before this has passed.
@@ -11,25 +11,41 @@ const PATIENCE: Duration = Duration::from_secs(1);
 /// The clock is read, and the bar moved, once in so many frames.
 const STRIDE: u32 = 65_536;
 
+/// The one bar on the screen.
+static BAR: Mutex<Option<ProgressBar>> = Mutex::new(None);
+
+/// Does something with the bar.
+fn with_bar<T>(work: impl FnOnce(&mut Option<ProgressBar>) -> T) -> T {
+    work(&mut BAR.lock().unwrap_or_else(PoisonError::into_inner))
+}
+
+/// Does something, such as writing to the screen, without the bar in its way.
+pub fn hidden<T>(work: impl FnOnce() -> T) -> T {
+    with_bar(|bar| match bar {
+        Some(bar) => bar.suspend(work),
+        None => work(),
+    })
+}
+
 /// How far a stream has been read.
 pub struct Progress {
     length: Option<u64>,
     begun: Instant,
     frames: u32,
     bytes: u64,
-    bar: Option<ProgressBar>,
+    /// Whether the bar is this one's.
+    shown: bool,
 }
 
 impl Progress {
     /// For a stream of so many bytes, if that is known.
     pub fn new(length: Option<u64>) -> Progress {
-        let begun = Instant::now();
         Progress {
             length,
-            begun,
+            begun: Instant::now(),
             frames: 0,
             bytes: 0,
-            bar: None,
+            shown: false,
         }
     }
 
@@ -39,15 +55,17 @@ impl Progress {
         self.frames += 1;
         if self.frames == STRIDE {
             self.frames = 0;
-            self.show();
+            with_bar(|bar| self.show(bar));
         }
     }
 
-    fn show(&mut self) {
-        if self.bar.is_none() && self.begun.elapsed() > PATIENCE && watched() {
-            self.bar = Some(bar(self.length));
+    fn show(&mut self, bar: &mut Option<ProgressBar>) {
+        let late = self.begun.elapsed() > PATIENCE;
+        if bar.is_none() && late && io::stderr().is_terminal() {
+            *bar = Some(new_bar(self.length));
+            self.shown = true;
         }
-        if let Some(bar) = &self.bar {
+        if let Some(bar) = bar.as_ref().filter(|_| self.shown) {
             bar.set_position(self.bytes);
         }
     }
@@ -55,19 +73,16 @@ impl Progress {
 
 impl Drop for Progress {
     fn drop(&mut self) {
-        if let Some(bar) = &self.bar {
-            bar.finish_and_clear();
+        if self.shown {
+            if let Some(bar) = with_bar(Option::take) {
+                bar.finish_and_clear();
+            }
         }
     }
 }
 
-/// Whether a person sees standard error, and no results between.
-fn watched() -> bool {
-    io::stderr().is_terminal() && !io::stdout().is_terminal()
-}
-
 /// A bar of a known length, or a count.
-fn bar(length: Option<u64>) -> ProgressBar {
+fn new_bar(length: Option<u64>) -> ProgressBar {
     let (bar, template) = match length {
         Some(length) => (
             ProgressBar::new(length),

@@ -2,7 +2,7 @@
 
 use crate::args::As;
 use crate::failure::Failure;
-use crate::script::{self, Line};
+use crate::script::{self, Sending};
 use std::fmt;
 use std::fs::File;
 use std::io::{self, BufReader, Read};
@@ -62,7 +62,7 @@ pub fn open(path: &Path, kind: Option<As>) -> Result<Source, Failure> {
             .map(|line| u64::from(line.times) * line.bytes.len() as u64)
             .sum(),
     );
-    let bytes = Box::new(Lines::new(lines).map(Ok));
+    let bytes = Box::new(Sending::new(lines).map(|(byte, line)| Ok((byte, Place::Line(line)))));
     Ok(Source {
         name,
         length,
@@ -106,47 +106,5 @@ impl Opened {
         let length = about.is_file().then_some(about.len());
         let file = Box::new(file);
         Ok(Opened { name, file, length })
-    }
-}
-
-/// The bytes that a script's lines send.
-struct Lines {
-    lines: std::vec::IntoIter<Line>,
-    line: Option<Line>,
-    /// How often the line has been sent, and how much of it since.
-    sent: u32,
-    at: usize,
-}
-
-impl Lines {
-    fn new(lines: Vec<Line>) -> Lines {
-        let mut lines = lines.into_iter();
-        let line = lines.next();
-        Lines {
-            lines,
-            line,
-            sent: 0,
-            at: 0,
-        }
-    }
-}
-
-impl Iterator for Lines {
-    type Item = (u8, Place);
-
-    fn next(&mut self) -> Option<(u8, Place)> {
-        loop {
-            let line = self.line.as_ref()?;
-            if let Some(&byte) = line.bytes.get(self.at) {
-                self.at += 1;
-                return Some((byte, Place::Line(line.number)));
-            }
-            self.at = 0;
-            self.sent += 1;
-            if self.sent == line.times {
-                self.sent = 0;
-                self.line = self.lines.next();
-            }
-        }
     }
 }

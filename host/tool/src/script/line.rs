@@ -1,83 +1,8 @@
 //! One line of a script.
 
 use super::fields::{self, decimal, value};
-use super::{mistake::Mistake, Line};
+use super::{mistake::Mistake, reader::Reader, Line};
 use crate::tables::{Kind, Written, KINDS};
-
-/// A word and the column of its first character, from 1.
-type Word<'a> = (usize, &'a str);
-
-/// What is left of a line that is being read.
-struct Reader<'a> {
-    number: usize,
-    text: &'a str,
-    words: Vec<Word<'a>>,
-    next: usize,
-}
-
-impl<'a> Reader<'a> {
-    fn new(number: usize, text: &'a str) -> Reader<'a> {
-        let sent = text.split('#').next().unwrap_or_default();
-        let words = words(sent);
-        Reader {
-            number,
-            text,
-            words,
-            next: 0,
-        }
-    }
-
-    fn peek(&self) -> Option<&'a str> {
-        self.words.get(self.next).map(|&(_, word)| word)
-    }
-
-    /// Takes the next word if it means something; else that is a mistake.
-    fn take<T>(
-        &mut self,
-        meaning: impl Fn(&str) -> Option<T>,
-        expected: impl Fn() -> String,
-    ) -> Result<T, Mistake> {
-        match self.peek().and_then(meaning) {
-            Some(value) => {
-                self.next += 1;
-                Ok(value)
-            }
-            None => Err(self.mistake(expected())),
-        }
-    }
-
-    /// A mistake at the next word, or after the last.
-    fn mistake(&self, expected: String) -> Mistake {
-        let after = |&(column, word): &Word| (column + word.chars().count() + 1, "");
-        let at = self.words.get(self.next).copied();
-        let (column, word) = at
-            .or_else(|| self.words.last().map(after))
-            .unwrap_or((1, ""));
-        Mistake {
-            line: self.number,
-            column,
-            width: word.chars().count(),
-            expected,
-            text: self.text.to_string(),
-        }
-    }
-}
-
-/// The words of a text with their columns.
-fn words(text: &str) -> Vec<Word<'_>> {
-    let mut words = Vec::new();
-    let mut rest = text;
-    let mut column = 1;
-    while let Some(begin) = rest.find(|c: char| !c.is_whitespace()) {
-        column += rest[..begin].chars().count();
-        rest = &rest[begin..];
-        let (word, after) = rest.split_at(rest.find(char::is_whitespace).unwrap_or(rest.len()));
-        words.push((column, word));
-        column += word.chars().count();
-        rest = after;
-    }
-    words
-}
 
 /// What a line sends, if it isn't empty or a comment.
 pub fn parse(number: usize, text: &str) -> Result<Option<Line>, Mistake> {
@@ -152,7 +77,7 @@ fn how_often(word: &str) -> Option<u32> {
 
 /// The bytes of a `raw` line.
 fn raw(reader: &mut Reader) -> Result<Vec<u8>, Mistake> {
-    reader.next += 1;
+    reader.skip();
     let mut bytes = Vec::new();
     while bytes.is_empty() || reader.peek().is_some() {
         let byte = reader.take(byte, || "expected a byte: two hexadecimal digits".into())?;

@@ -4,9 +4,12 @@
 mod fields;
 mod line;
 mod mistake;
+mod reader;
+mod sending;
 
 pub use fields::in_words;
 pub use mistake::Mistakes;
+pub use sending::Sending;
 
 use mistake::Mistake;
 
