@@ -26,7 +26,13 @@ pub fn run(plot: &Plot) -> Result<(), Failure> {
             }
         }
     }
-    let title = plot.title.as_deref().unwrap_or(stream.name());
+    let name = plot
+        .flight
+        .file
+        .file_name()
+        .map(|name| name.to_string_lossy());
+    let title = plot.title.as_deref().or(name.as_deref());
+    let title = title.unwrap_or_else(|| stream.name());
     let mut output = Output::at(&plot.output)?;
     output.write_all(draw(&record, title).as_bytes())?;
     output.flush()?;

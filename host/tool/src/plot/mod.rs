@@ -52,8 +52,9 @@ pub fn draw(record: &Record, title: &str) -> String {
     svg.insert(shade, behind);
     y = scale.axis(&mut svg, top, y);
     if let Some((n, refusal)) = record.refused {
-        let text = format!("frame {n} refused: {refusal}");
-        svg.text(RIGHT + 4.0, top + 12.0, 11, Align::Start, &text);
+        let (frame, why) = (format!("frame {n}"), format!("refused: {refusal}"));
+        svg.text(RIGHT + 4.0, top + 9.0, 12, Align::Start, &frame);
+        svg.text(RIGHT + 4.0, top + 23.0, 12, Align::Start, &why);
     }
     y = orders::list(&mut svg, record, y + 2.0 * GAP);
     svg.finish(WIDTH, y + GAP)

@@ -13,23 +13,25 @@ const LISTED: usize = 40;
 const RADIUS: f64 = 8.5;
 const LEVELS: usize = 5;
 
+/// From one mark's middle to the next one's.
+const STEP: f64 = 2.0 * RADIUS + 2.0;
+
 /// A line of the list, and from how many on it has two columns.
 const LINE: f64 = 17.0;
 const COLUMN: usize = 8;
 
 /// The marks; gives where they end.
 pub fn draw(svg: &mut Svg, scale: &Scale, record: &Record, y: f64) -> f64 {
-    let places: Vec<f64> = record.orders.iter().map(|order| scale.x(order.0)).collect();
-    let listed = &places[..places.len().min(LISTED)];
-    let levels = levels(listed);
-    let tall = levels.iter().max().map_or(1, |level| level + 1);
-    let bottom = y + tall as f64 * (2.0 * RADIUS + 2.0) + 4.0;
-    svg.text(LEFT - 8.0, bottom - 8.0, 12, Align::End, "orders");
-    let middle = |level: usize| bottom - 4.0 - RADIUS - level as f64 * (2.0 * RADIUS + 2.0);
-    for (&x, &level) in listed.iter().zip(&levels) {
-        svg.line(x, middle(level), x, bottom, "thin");
+    let times: Vec<f64> = record.orders.iter().map(|order| scale.x(order.0)).collect();
+    let places = places(&times[..times.len().min(LISTED)]);
+    let tall = places.iter().map(|place| place.1 + 1).max().unwrap_or(1);
+    let bottom = y + tall as f64 * STEP + 4.0;
+    svg.text(LEFT - 12.0, bottom - 8.0, 12, Align::End, "orders");
+    let middle = |level: usize| bottom - 4.0 - RADIUS - level as f64 * STEP;
+    for (&time, &(x, level)) in times.iter().zip(&places) {
+        svg.line(x, middle(level), time, bottom, "thin");
     }
-    for (at, (&x, &level)) in listed.iter().zip(&levels).enumerate() {
+    for (at, &(x, level)) in places.iter().enumerate() {
         mark(
             svg,
             x,
@@ -38,8 +40,8 @@ pub fn draw(svg: &mut Svg, scale: &Scale, record: &Record, y: f64) -> f64 {
             &(at + 1).to_string(),
         );
     }
-    for x in places.iter().skip(LISTED) {
-        svg.circle(*x, bottom - 3.0, 2.0, "solid");
+    for time in times.iter().skip(LISTED) {
+        svg.circle(*time, bottom - 3.0, 2.0, "solid");
     }
     svg.line(LEFT, bottom, RIGHT, bottom, "thin");
     bottom
@@ -53,16 +55,19 @@ pub fn stems(svg: &mut Svg, scale: &Scale, record: &Record, top: f64, bottom: f6
     }
 }
 
-/// How high each mark stands, so that none covers another.
-fn levels(places: &[f64]) -> Vec<usize> {
+/// Where each mark stands and how high, so that none covers another: above the
+/// one before, or to its right where the stack is full.
+fn places(times: &[f64]) -> Vec<(f64, usize)> {
     let mut free = [f64::MIN; LEVELS];
-    let place = |&x: &f64| {
-        let level = free.iter().position(|&free| x - RADIUS >= free);
-        let level = level.unwrap_or(LEVELS - 1);
-        free[level] = x + RADIUS + 1.0;
-        level
+    let place = |&time: &f64| {
+        let first = free.iter().position(|&free| free <= time);
+        let least = || (1..LEVELS).fold(0, |a, b| if free[b] < free[a] { b } else { a });
+        let level = first.unwrap_or_else(least);
+        let x = time.max(free[level]);
+        free[level] = x + STEP;
+        (x, level)
     };
-    places.iter().map(place).collect()
+    times.iter().map(place).collect()
 }
 
 /// A mark whose shape is its answer: a black circle is done; of the others a
