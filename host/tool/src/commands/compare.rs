@@ -1,13 +1,14 @@
 //! `ems compare`: two craft side by side. It checks what the two-craft promise
 //! asks of them, and shows what it promises.
 
-use super::{answer_in_words, frame_in_words};
 use crate::args::{Compare, Flight};
 use crate::board::{Board, Step};
 use crate::compare::{Promise, Rows};
 use crate::failure::{Failure, CONCLUSIONS, PREMISES, REFUSED};
 use crate::output::Output;
+use crate::script::in_words;
 use crate::stream::Stream;
+use crate::tables::meaning;
 use std::io::Write;
 use std::path::Path;
 
@@ -32,7 +33,7 @@ impl Side {
     }
 
     fn sent(&self) -> String {
-        frame_in_words(self.stream.frame())
+        in_words(self.stream.frame())
     }
 }
 
@@ -100,7 +101,7 @@ fn ended(promise: &Promise, refused: Option<(u64, u8)>) -> Result<(), Failure> {
     }
     match refused {
         Some((n, refusal)) => {
-            let why = answer_in_words(refusal);
+            let why = meaning(refusal);
             let message = format!("frame {n} is refused on both: {refusal}, {why}");
             Err(Failure::new(REFUSED, message))
         }

@@ -1,15 +1,18 @@
 //! `ems log --explain`: what the board answers, in words.
 
-use super::{answer_in_words, frame_in_words, refused};
+use super::refused;
 use crate::args::Flight;
 use crate::board::{Board, Report, Step};
 use crate::failure::Failure;
 use crate::output::Output;
+use crate::script::in_words;
 use crate::story;
 use crate::stream::Stream;
-use crate::tables::{name, BEACONS, TICK};
+use crate::tables::{meaning, name, BEACONS, TICK};
 use crate::words::{clock, count, list, modules};
 use std::io::{self, Write};
+
+const HEADER: &str = "    time    frame  what was sent, and what came of it";
 
 /// Ticks with the same shorts in which nothing happened.
 struct Quiet {
@@ -27,21 +30,15 @@ pub fn run(flight: &Flight) -> Result<(), Failure> {
     let mut output = Output::standard();
     let mut board = Board::fresh();
     let mut quiet: Option<Quiet> = None;
-    writeln!(
-        output,
-        "    time    frame  what was sent, and what came of it"
-    )?;
+    writeln!(output, "{HEADER}")?;
     while stream.advance()? {
         let step = board.step(stream.frame());
         let report = match step.outcome {
             Ok(report) => report,
             Err(refusal) => {
                 end(&mut output, &mut quiet)?;
-                let why = answer_in_words(refusal);
-                let text = format!(
-                    "{}: refused, {refusal}: {why}",
-                    frame_in_words(stream.frame())
-                );
+                let (frame, why) = (in_words(stream.frame()), meaning(refusal));
+                let text = format!("{frame}: refused, {refusal}: {why}");
                 line(&mut output, step.seconds, step.n, &text)?;
                 output.flush()?;
                 return Err(refused(&stream, step.n, refusal));
@@ -78,16 +75,13 @@ pub fn run(flight: &Flight) -> Result<(), Failure> {
 
 /// What a frame did; none for a tick in which nothing happened.
 fn happened(frame: &[u8], step: &Step, report: &Report) -> Option<String> {
-    let words = frame_in_words(frame);
-    if report.kind == TICK {
+    let came = if report.kind == TICK {
         let changes = story::changes(&step.before, &step.after, frame[1]);
-        (!changes.is_empty()).then(|| format!("{words}: {}", changes.join("; ")))
+        (!changes.is_empty()).then(|| changes.join("; "))
     } else {
-        // An order's words: order, origin, serial, module, wanted.
-        let word = |at: usize| words.split(' ').nth(at).unwrap_or_default();
-        let came = story::outcome(step, report, word(3), word(1));
-        Some(format!("{words}: {came}"))
-    }
+        Some(story::outcome(frame, step, report))
+    };
+    came.map(|came| format!("{}: {came}", in_words(frame)))
 }
 
 impl Quiet {

@@ -1,9 +1,9 @@
 //! `ems key`: a text as sound, or as units.
 
-use super::answer_in_words;
 use crate::args::Key;
 use crate::failure::{Failure, REFUSED};
 use crate::output::Output;
+use crate::tables::meaning;
 use ems::{answer, UNITS_BYTES};
 use std::io::Write;
 use std::path::Path;
@@ -34,7 +34,7 @@ pub fn run(key: &Key) -> Result<(), Failure> {
 
 /// Why a text isn't keyed; for a character that can't be, which one.
 fn refused(text: &str, refusal: u8) -> Failure {
-    let why = answer_in_words(refusal);
+    let why = meaning(refusal);
     let keyed = |character: char| {
         let mut bytes = [0; 4];
         let one = character.encode_utf8(&mut bytes).as_bytes();

@@ -1,11 +1,12 @@
 //! `ems plot`: the flight as a picture.
 
-use super::{frame_in_words, refused};
+use super::refused;
 use crate::args::Plot;
 use crate::board::Board;
 use crate::failure::Failure;
 use crate::output::Output;
 use crate::plot::{draw, Record};
+use crate::script::in_words;
 use crate::stream::Stream;
 use std::io::Write;
 
@@ -17,7 +18,7 @@ pub fn run(plot: &Plot) -> Result<(), Failure> {
         let step = board.step(stream.frame());
         match step.outcome {
             Ok(report) => {
-                let words = || frame_in_words(stream.frame());
+                let words = || in_words(stream.frame());
                 record.add(stream.frame(), &step, &report, words);
             }
             Err(refusal) => {

@@ -1,10 +1,10 @@
 //! `ems read`: the text that units are the keying of.
 
-use super::answer_in_words;
 use crate::args::Read;
 use crate::failure::{Failure, REFUSED};
 use crate::output::Output;
 use crate::source;
+use crate::tables::meaning;
 use ems::{answer, TEXT_BYTES};
 use std::io::Write;
 
@@ -14,7 +14,7 @@ pub fn run(read: &Read) -> Result<(), Failure> {
     let mut room = [0; TEXT_BYTES];
     let (given, count) = ems::read(&units, &mut room);
     if given != answer::DONE {
-        let why = answer_in_words(given);
+        let why = meaning(given);
         let message = format!("{name}: the units are refused: {given}, {why}");
         return Err(Failure::new(REFUSED, message));
     }

@@ -1,13 +1,13 @@
 //! `ems show`: bytes as a pass script with comments. It makes the same bytes
 //! again, whatever they are.
 
-use super::{answer_in_words, frame_in_words};
 use crate::args::Show;
 use crate::board::{Board, Report};
 use crate::failure::Failure;
 use crate::output::Output;
+use crate::script;
 use crate::source;
-use crate::tables::{kind_of, name, ANSWERS, BEACONS, KINDS, MODES, REPORT};
+use crate::tables::{self, kind_of, meaning, name, Kind, BEACONS, MODES, REPORT};
 use crate::words;
 use ems::{answer, REPORT_BYTES};
 use std::io::{self, Write};
@@ -17,6 +17,9 @@ const MARGIN: usize = 40;
 
 /// Bytes of unknown kinds that are shown on one line.
 const ROW: usize = 12;
+
+const LOST: &str =
+    "# The board reads nothing after this. Where frames begin from here on is a guess.";
 
 pub fn run(show: &Show) -> Result<(), Failure> {
     let (_, bytes) = source::whole(&show.file)?;
@@ -31,10 +34,7 @@ pub fn run(show: &Show) -> Result<(), Failure> {
         at += times * piece.len();
         if !lost && at < bytes.len() && loses_the_cut(piece) {
             lost = true;
-            writeln!(
-                output,
-                "# The board reads nothing after this. Where frames begin from here on is a guess."
-            )?;
+            writeln!(output, "{LOST}")?;
         }
     }
     Ok(output.flush()?)
@@ -59,14 +59,12 @@ fn length(bytes: &[u8]) -> usize {
 
 /// How often a piece that can be repeated in a script comes in a row.
 fn repeats(bytes: &[u8], piece: &[u8]) -> usize {
-    let whole = |kind: &&crate::tables::Kind| kind.repeats && kind.total() == piece.len();
-    match kind_of(piece[0]).filter(whole) {
-        Some(_) => bytes
-            .chunks(piece.len())
-            .take_while(|chunk| *chunk == piece)
-            .count(),
-        None => 1,
+    let whole = |kind: &&Kind| kind.repeats && kind.total() == piece.len();
+    if kind_of(piece[0]).filter(whole).is_none() {
+        return 1;
     }
+    let pieces = bytes.chunks(piece.len()).take(u32::MAX as usize);
+    pieces.take_while(|next| *next == piece).count()
 }
 
 /// The board's word on a piece: whether it would refuse it, and for what. The
@@ -77,45 +75,47 @@ fn refusal(piece: &[u8]) -> Option<u8> {
 
 /// Whether nobody can tell where the next frame begins.
 fn loses_the_cut(piece: &[u8]) -> bool {
-    matches!(
+    let lost = matches!(
         refusal(piece),
         Some(answer::UNKNOWN_KIND | answer::BAD_LENGTH)
-    )
+    );
+    lost && report(piece).is_none()
 }
 
 /// What a comment says of a piece.
 fn about(piece: &[u8]) -> String {
-    let refused = refusal(piece).map(|r| format!("refused: {r}, {}", answer_in_words(r)));
-    match <&[u8; REPORT_BYTES]>::try_from(piece) {
-        Ok(bytes) if bytes[0] == REPORT => in_words(&Report::of(bytes)),
-        _ => refused.unwrap_or_default(),
+    if let Some(report) = report(piece) {
+        return in_words(&report);
     }
+    let refused = |refusal| format!("refused: {refusal}, {}", meaning(refusal));
+    refusal(piece).map(refused).unwrap_or_default()
+}
+
+/// A piece as a report, if it is one.
+fn report(piece: &[u8]) -> Option<Report> {
+    let bytes = piece.try_into().ok()?;
+    (piece[0] == REPORT).then(|| Report::of(bytes))
 }
 
 /// A report in words.
 fn in_words(report: &Report) -> String {
-    let kinds = KINDS.iter().find(|kind| kind.byte == report.kind);
-    let kind = kinds.map_or_else(|| format!("{:02X}", report.kind), |kind| kind.name.into());
-    let origin = match report.origin {
+    let kind = kind_of(report.kind)
+        .map_or_else(|| format!("{:02X}", report.kind), |kind| kind.name.into());
+    let order = match report.origin {
         0 => String::new(),
         origin => format!(" {origin} {}", report.serial),
     };
-    let answer = ANSWERS
-        .get(usize::from(report.answer))
-        .map_or("?", |(name, _)| name);
-    let list = |mask| words::modules(mask).join(",");
-    format!(
-        "a report: {kind}{origin}: {} {answer}; {}; requested {:02X} {}; on {:02X} {}; failed {:02X} {}; {} beacon",
-        report.answer,
+    let mask =
+        |name: &str, mask: u8| format!("{name} {mask:02X} {}", words::modules(mask).join(","));
+    let parts = [
+        format!("a report: {kind}{order}: {}", tables::answer(report.answer)),
         name(&MODES, report.mode),
-        report.requested,
-        list(report.requested),
-        report.on,
-        list(report.on),
-        report.failed,
-        list(report.failed),
-        name(&BEACONS, report.beacon),
-    )
+        mask("requested", report.requested),
+        mask("on", report.on),
+        mask("failed", report.failed),
+        format!("{} beacon", name(&BEACONS, report.beacon)),
+    ];
+    parts.map(|part| part.trim_end().to_string()).join("; ")
 }
 
 /// A line of the script: the piece, how often, where it begins, what about it.
@@ -126,7 +126,7 @@ fn line(
     at: usize,
     comment: &str,
 ) -> io::Result<()> {
-    let mut text = frame_in_words(piece);
+    let mut text = script::in_words(piece);
     if times > 1 {
         let name = text.find(' ').unwrap_or(text.len());
         text.insert_str(name, &format!(" {times}"));

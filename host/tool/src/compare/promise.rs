@@ -1,8 +1,8 @@
 //! The two-craft promise: what it asks of two flights, and what it says of them.
 
 use crate::board::Report;
-use crate::commands::frame_in_words;
-use crate::tables::{name, BATTERY, MISSION, MODES};
+use crate::script::in_words;
+use crate::tables::{name, BATTERY, MISSION, MODES, TICK};
 use crate::words::{list, modules, thousands};
 
 /// A frame as it was sent, and what came of it.
@@ -37,12 +37,10 @@ impl Promise {
             _ => (a.0 != b.0).then(|| "the frames are not the same".to_string()),
         };
         if let Some(wrong) = wrong {
-            let (a, b) = (frame_in_words(a.0), frame_in_words(b.0));
+            let (a, b) = (in_words(a.0), in_words(b.0));
             self.not_spoken_of(n, format!("{wrong}: `{a}` on A, `{b}` on B"));
         }
-        if let Ok(report) = a.1 {
-            self.shorted |= shorts(a.0, &report);
-        }
+        self.shorted |= shorts(a.0);
     }
 
     /// The flights are not those that are spoken of, from frame n on.
@@ -58,13 +56,8 @@ impl Promise {
             let said = || format!("frame {}, A in {a} and B in {b}", thousands(n));
             self.mode.get_or_insert_with(said);
         }
-        let alone = |mask: u8| {
-            format!(
-                "frame {}, {} at A alone",
-                thousands(n),
-                list(&modules(mask))
-            )
-        };
+        let n = thousands(n);
+        let alone = |mask: u8| format!("frame {n}, {} at A alone", list(&modules(mask)));
         let requested = a.requested & !b.requested & MISSION;
         if requested != 0 {
             self.requested.get_or_insert_with(|| alone(requested));
@@ -133,9 +126,9 @@ fn out_of_range(sent: Sent, which: &str) -> Option<String> {
 }
 
 /// The shorts in a frame that is a tick.
-fn shorts(frame: &[u8], report: &Report) -> u8 {
+fn shorts(frame: &[u8]) -> u8 {
     match frame {
-        [kind, mask] if *kind == report.kind && *kind == crate::tables::TICK => *mask,
+        [TICK, mask] => *mask,
         _ => 0,
     }
 }

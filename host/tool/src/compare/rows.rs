@@ -2,7 +2,7 @@
 //! difference.
 
 use crate::board::Report;
-use crate::tables::{name, ANSWERS, MODES};
+use crate::tables::{answer, name, MODES};
 use crate::words::{clock, modules};
 use std::io::{self, Write};
 
@@ -108,13 +108,6 @@ fn differences(a: &Report, b: &Report) -> Vec<String> {
         }
     }
     lines
-}
-
-fn answer(number: u8) -> String {
-    let name = ANSWERS
-        .get(usize::from(number))
-        .map_or("", |(name, _)| name);
-    format!("{number} {name}")
 }
 
 /// Modules that the other hasn't got.

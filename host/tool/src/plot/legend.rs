@@ -4,7 +4,7 @@ use super::modes::FILLS;
 use super::orders::mark;
 use super::svg::{Align, Svg};
 use super::LEFT;
-use crate::tables::{name, BEACONS, MODES};
+use crate::tables::{self, name, BEACONS, MODES};
 use ems::answer;
 
 /// A row's height, and the space before a group's next sign.
@@ -108,14 +108,9 @@ pub fn draw(svg: &mut Svg, y: f64) -> f64 {
         svg: row.svg,
     };
     row.word("Order:");
-    let answers = [
-        (answer::DONE, "0 done"),
-        (answer::REPEAT, "8 repeat"),
-        (answer::STALE, "9 stale"),
-        (answer::NOT_NOW, "10 not now"),
-    ];
-    for (answer, meaning) in answers {
-        row.sign(|svg, x, y| mark(svg, x + 10.0, y, answer, ""), meaning);
+    for answer in [answer::DONE, answer::REPEAT, answer::STALE, answer::NOT_NOW] {
+        let meaning = tables::answer(answer);
+        row.sign(|svg, x, y| mark(svg, x + 10.0, y, answer, ""), &meaning);
     }
     y + 2.0 * ROW + 8.0
 }

@@ -3,7 +3,7 @@
 use super::scale::Scale;
 use super::svg::{short, Align, Svg};
 use super::{Record, LEFT, RIGHT};
-use crate::tables::ANSWERS;
+use crate::tables;
 use crate::words::clock;
 
 /// So many are numbered and listed; the others are dots.
@@ -104,11 +104,10 @@ pub fn list(svg: &mut Svg, record: &Record, y: f64) -> f64 {
     for (at, (second, order, answer)) in record.orders.iter().take(LISTED).enumerate() {
         let x = LEFT - 60.0 + 470.0 * (at / rows) as f64;
         let y = y + LINE * (at % rows) as f64;
-        let (name, _) = ANSWERS.get(usize::from(*answer)).unwrap_or(&("", ""));
         svg.text(x + 20.0, y, 12, Align::End, &(at + 1).to_string());
         svg.text(x + 30.0, y, 12, Align::Start, &clock(*second));
         svg.text(x + 95.0, y, 12, Align::Start, order);
-        svg.text(x + 345.0, y, 12, Align::Start, &format!("{answer} {name}"));
+        svg.text(x + 345.0, y, 12, Align::Start, &tables::answer(*answer));
     }
     let mut end = y + LINE * rows as f64;
     if record.orders.len() > LISTED {

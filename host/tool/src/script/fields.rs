@@ -1,6 +1,6 @@
 //! A frame's fields as words of a script, and back.
 
-use crate::tables::{Field, Kind, Written, MODULES};
+use crate::tables::{kind_of, Field, Kind, Written, MODULES};
 use crate::words;
 
 /// The greatest number that a field's bytes hold.
@@ -51,9 +51,30 @@ pub fn decimal(word: &str, greatest: u64) -> Option<u64> {
     (number <= greatest).then_some(number)
 }
 
-/// A whole frame of a kind as a line of a script, without what says how often.
-pub fn in_words(kind: &Kind, frame: &[u8]) -> String {
-    let mut line = kind.name.to_string();
+/// A frame as a line of a script, without what says how often: in words if it is
+/// whole, else as bytes.
+pub fn in_words(frame: &[u8]) -> String {
+    match kind_of(frame[0]).filter(|kind| kind.total() == frame.len()) {
+        Some(kind) => {
+            let words = words_of(kind, frame);
+            let words = words.into_iter().map(|(_, word)| format!(" {word}"));
+            kind.name.to_string() + &words.collect::<String>()
+        }
+        None => format!("raw {}", words::hex(frame)),
+    }
+}
+
+/// The word for one field of a frame; nothing where there is none.
+pub fn word_of(frame: &[u8], name: &str) -> String {
+    let words = kind_of(frame[0]).map(|kind| words_of(kind, frame));
+    let mut words = words.into_iter().flatten();
+    let found = words.find(|(field, _)| *field == name);
+    found.map(|(_, word)| word).unwrap_or_default()
+}
+
+/// The names and words of a frame's fields, but for those that are left out.
+fn words_of(kind: &Kind, frame: &[u8]) -> Vec<(&'static str, String)> {
+    let mut words = Vec::new();
     let mut rest = &frame[1..];
     for field in kind.fields {
         let (bytes, after) = rest.split_at(field.bytes.min(rest.len()));
@@ -61,11 +82,9 @@ pub fn in_words(kind: &Kind, frame: &[u8]) -> String {
         let value = bytes
             .iter()
             .fold(0, |value, &byte| value << 8 | u64::from(byte));
-        if let Some(word) = word(field, value) {
-            line = line + " " + &word;
-        }
+        words.extend(word(field, value).map(|word| (field.name, word)));
     }
-    line
+    words
 }
 
 /// A field's value as it is written; nothing where it is left out.

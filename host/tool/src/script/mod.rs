@@ -7,7 +7,7 @@ mod mistake;
 mod reader;
 mod sending;
 
-pub use fields::in_words;
+pub use fields::{in_words, word_of};
 pub use mistake::Mistakes;
 pub use sending::Sending;
 

@@ -5,7 +5,8 @@ mod powers;
 
 use crate::board::{Report, Step};
 use crate::image::{Image, Phase};
-use crate::tables::{name, ANSWERS, MODES};
+use crate::script::word_of;
+use crate::tables::{self, name, MODES};
 use crate::words::{list, modules, thousands};
 use ems::answer;
 use std::cmp::Ordering;
@@ -89,8 +90,9 @@ fn requests(before: &Image, after: &Image) -> Vec<String> {
 }
 
 /// What came of a frame that has a report: the answer, and what changed.
-pub fn outcome(step: &Step, report: &Report, what: &str, origin: &str) -> String {
+pub fn outcome(frame: &[u8], step: &Step, report: &Report) -> String {
     let (serial, last) = (report.serial, step.before.serial(report.origin));
+    let origin = || word_of(frame, "origin");
     match report.answer {
         answer::DONE => {
             let changes = changes(&step.before, &step.after, 0);
@@ -101,18 +103,21 @@ pub fn outcome(step: &Step, report: &Report, what: &str, origin: &str) -> String
             }
         }
         answer::REPEAT => {
-            format!("8, {serial} is a repeat of {origin}'s last order: nothing moved")
+            format!(
+                "8, {serial} is a repeat of {}'s last order: nothing moved",
+                origin()
+            )
         }
         answer::STALE => {
-            format!("9, {serial} is stale, {origin}'s last order was {last}: nothing moved")
+            format!(
+                "9, {serial} is stale, {}'s last order was {last}: nothing moved",
+                origin()
+            )
         }
         answer::NOT_NOW => {
-            let mode = name(&MODES, report.mode);
-            format!("10, {what} is not switched on in {mode}; {serial} is used up")
+            let (module, mode) = (word_of(frame, "module"), name(&MODES, report.mode));
+            format!("10, {module} is not switched on in {mode}; {serial} is used up")
         }
-        other => {
-            let (name, _) = ANSWERS.get(usize::from(other)).unwrap_or(&("", ""));
-            format!("{other}, {name}")
-        }
+        other => tables::answer(other),
     }
 }

@@ -5,4 +5,4 @@ mod frames;
 mod names;
 
 pub use frames::{kind_of, Field, Kind, Written, BATTERY, KINDS, REPORT, TICK};
-pub use names::{name, ANSWERS, BEACONS, MISSION, MODES, MODULES};
+pub use names::{answer, meaning, name, BEACONS, MISSION, MODES, MODULES};

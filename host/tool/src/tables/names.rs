@@ -15,7 +15,7 @@ pub const MODES: [&str; 3] = ["DEPLOY_WAIT", "RECOVERY", "SAFE"];
 pub const BEACONS: [&str; 3] = ["no", "basic", "complete"];
 
 /// The answers by number: the name, and what it says.
-pub const ANSWERS: [(&str, &str); 16] = [
+const ANSWERS: [(&str, &str); 16] = [
     ("done", "done by the rules"),
     ("bad state", "the state is outside its ranges"),
     ("short room", "there is no room for the report"),
@@ -58,4 +58,15 @@ pub fn name(names: &[&str], number: u8) -> String {
         Some(name) => (*name).to_string(),
         None => number.to_string(),
     }
+}
+
+/// An answer's number and name.
+pub fn answer(number: u8) -> String {
+    let name = ANSWERS.get(usize::from(number)).map_or("", |row| row.0);
+    format!("{number} {name}")
+}
+
+/// What an answer's number says.
+pub fn meaning(number: u8) -> &'static str {
+    ANSWERS.get(usize::from(number)).map_or("", |row| row.1)
 }
