@@ -3,7 +3,8 @@
 
 mod common;
 
-use common::{fed, place, root};
+use common::{fed, place, root, scratch};
+use ems::{answer, Craft, REPORT_BYTES};
 use std::os::unix::fs::symlink;
 use std::path::Path;
 use std::process::Command;
@@ -116,5 +117,59 @@ fn the_icd_s_fresh_image_is_the_library_s() {
     let bytes: Vec<u8> = bytes
         .map(|byte| u8::from_str_radix(byte, 16).expect("a byte"))
         .collect();
-    assert_eq!(bytes, ems::Craft::fresh().image());
+    assert_eq!(bytes, Craft::fresh().image());
+}
+
+#[test]
+fn the_icd_s_c_compiles() {
+    let code = blocks("docs/ICD.md", "c").concat();
+    let file = scratch("icd.c", code.as_bytes());
+    let mut compiler = Command::new("cc");
+    compiler.args([
+        "-std=c99",
+        "-Wall",
+        "-Wextra",
+        "-Werror",
+        "-fsyntax-only",
+        "-I",
+        "include",
+    ]);
+    let ran = compiler
+        .arg(&file)
+        .current_dir(root())
+        .output()
+        .expect("cc runs");
+    assert!(
+        ran.status.success(),
+        "{}",
+        String::from_utf8_lossy(&ran.stderr)
+    );
+}
+
+/// "Numbering orders", the way back after 9, however far the board is ahead.
+#[test]
+fn the_way_back_after_9_is_found() {
+    let send = |board: &mut Craft, serial: u16| {
+        let [high, low] = serial.to_be_bytes();
+        board.step(&[0x04, 1, high, low, 0, 1], &mut [0; REPORT_BYTES])
+    };
+    let own: u16 = 65_000;
+    for ahead in 1..=32_768 {
+        let mut board = Craft::fresh();
+        // To the other console's number, in steps that are fresh.
+        assert_eq!(send(&mut board, 32_767), answer::DONE);
+        assert_eq!(send(&mut board, own), answer::DONE);
+        for step in [ahead / 2, ahead - ahead / 2] {
+            let last = u16::from_be_bytes([board.image()[17], board.image()[18]]);
+            send(&mut board, last.wrapping_add(step));
+        }
+        assert_eq!(send(&mut board, own), answer::STALE, "{ahead}");
+        let jump = own.wrapping_add(32_767);
+        let taken = match send(&mut board, jump) {
+            answer::DONE => true,
+            answer::REPEAT => ahead == 32_767 && send(&mut board, jump.wrapping_add(2)) == 0,
+            _ => ahead == 32_768 && send(&mut board, jump.wrapping_add(2)) == 0,
+        };
+        assert!(taken, "{ahead}");
+    }
 }
