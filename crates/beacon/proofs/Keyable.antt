@@ -1,0 +1,101 @@
+-- Every beacon text of a state in range is one that keying takes: none of the refusals 11 to 13 applies.
+-- Assumes nothing.
+use mathlib.Core.Path.{_≡_, refl}
+use mathlib.Core.Bool.{Bool, true, false, not, _&&_}
+use mathlib.Core.List.{List}
+use Prim.Native.Nat.{ℕ, _/_, _%_, _<_}
+use native.Mathlib.Omega.{arith}
+use lib.Dec.{T}
+use lib.ListN.{length}
+use borrow.Author.Tests.{not-true}
+use Rattle.choice.proofs.ChoiceLaws.{is-true, and-left, and-right}
+use Rattle.choice.proofs.Tables.{upto}
+use Rattle.modules.specs.Power.{isOn, isFailed}
+use Rattle.modules.specs.Masks.{maskOf, masksOf}
+use Rattle.modules.specs.declared.power.Module.{Module}
+use Rattle.modules.proofs.MasksLaws.{maskOf-bound}
+use Rattle.morse.specs.Signs.{signs, signOf, signed}
+use Rattle.morse.specs.Texts.{isSpace, faultOf}
+use Rattle.morse.specs.declared.texts.Fault.the-variants.{Nothing}
+use Rattle.supervisor.specs.Range.{inRange}
+use Rattle.supervisor.specs.declared.state.Mode.{Mode}
+use Rattle.supervisor.specs.declared.state.Mode.the-variants.{DeployWait, Recovery, Safe}
+use Rattle.supervisor.specs.declared.state.State.{State}
+use Rattle.beacon.specs.Text.{modeLetter, figure, hexDigit, basicText, completeText, textOf}
+use Rattle.beacon.specs.declared.text.Form.{Form}
+use Rattle.beacon.specs.declared.text.Form.the-variants.{Basic, Complete}
+use Rattle.beacon.proofs.RangeLaws.{in-range-parts, tension-most}
+
+-- a byte with a sign, and no space
+record Plain (c : ℕ) : Type 0 where
+  word : isSpace c ≡ false
+  sign : signed (signOf c) ≡ true
+
+abbrev isPlain : ℕ → Bool
+isPlain c = not (isSpace c) && signed (signOf c)
+
+plain : (c : ℕ) → T (isPlain c) → Plain c
+plain c t =
+    record {
+      word = not-true (isSpace c) (is-true (not (isSpace c)) (and-left (not (isSpace c)) (signed (signOf c)) t));
+      sign = is-true (signed (signOf c)) (and-right (not (isSpace c)) (signed (signOf c)) t);
+    }
+
+plain-figure : (n : ℕ) → n < 10 → Plain (figure n)
+unfolding signs signOf
+plain-figure n h = plain (figure n) (upto (λ n. isPlain (figure n)) 10 tt n h)
+
+plain-hex : (n : ℕ) → n < 16 → Plain (hexDigit n)
+unfolding signs signOf
+plain-hex n h = plain (hexDigit n) (upto (λ n. isPlain (hexDigit n)) 16 tt n h)
+
+plain-mode : (m : Mode) → Plain (modeLetter m)
+unfolding signs signOf
+plain-mode (DeployWait phase) = plain 68 tt
+plain-mode Recovery = plain 82 tt
+plain-mode Safe = plain 83 tt
+
+-- a mask of eight modules has two hex digits
+mask-byte : (test : Module → Bool) (modules : List Module) → length modules ≡ 8 → maskOf test modules < 256
+mask-byte test modules eight = rw eight at (maskOf-bound test modules)
+
+module _ (s : State) (e : inRange s ≡ true) (eight : length (s .modules) ≡ 8) where
+  both : (faultOf (basicText s) ≡ Nothing) × (faultOf (completeText s) ≡ Nothing)
+  unfolding signs signOf faultOf basicText completeText masksOf
+  both =
+      let tension = tension-most (s .battery) (in-range-parts s e .battery) in
+      let on = mask-byte (λ m. isOn (m .power)) (s .modules) eight in
+      let failed = mask-byte (λ m. isFailed (m .power)) (s .modules) eight in
+      let m = plain-mode (s .watch .mode) in
+      let a = plain-figure (s .battery .tension / 1000) (omega arith) in
+      let b = plain-figure (s .battery .tension / 100 % 10) (omega arith) in
+      let c = plain-figure (s .battery .tension / 10 % 10) (omega arith) in
+      let d = plain-figure (s .battery .tension % 10) (omega arith) in
+      let f = plain-hex (masksOf (s .modules) .on / 16) (omega arith) in
+      let g = plain-hex (masksOf (s .modules) .on % 16) (omega arith) in
+      let h = plain-hex (masksOf (s .modules) .failed / 16) (omega arith) in
+      let i = plain-hex (masksOf (s .modules) .failed % 16) (omega arith) in
+      simp (
+        m .word,
+        m .sign,
+        a .word,
+        a .sign,
+        b .word,
+        b .sign,
+        c .word,
+        c .sign,
+        d .word,
+        d .sign,
+        f .word,
+        f .sign,
+        g .word,
+        g .sign,
+        h .word,
+        h .sign,
+        i .word,
+        i .sign,
+      ) (refl, refl)
+
+  pub keyable : (form : Form) → faultOf (textOf form s) ≡ Nothing
+  keyable Basic = both .0
+  keyable Complete = both .1

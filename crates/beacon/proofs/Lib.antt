@@ -1,0 +1,5 @@
+pub mod RangeLaws
+pub mod TextLaws
+pub mod WritingLaws
+pub mod Keyable
+pub mod Unique

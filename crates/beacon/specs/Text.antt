@@ -1,0 +1,58 @@
+-- The beacon's text, of a state.
+-- Assumes nothing.
+use Prim.Native.Nat.{ℕ, _+_, _-_, _/_, _%_}
+use mathlib.Core.List.{List, [], _∷_, _++_}
+use lib.Dec.{ltb}
+use Rattle.choice.specs.Choice.{if_then_else_}
+use Rattle.modules.specs.Masks.{masksOf}
+use Rattle.supervisor.specs.declared.state.Mode.{Mode}
+use Rattle.supervisor.specs.declared.state.Mode.the-variants.{DeployWait, Recovery, Safe}
+use Rattle.supervisor.specs.declared.state.State.{State}
+use Rattle.beacon.specs.declared.text.Form.{Form}
+use Rattle.beacon.specs.declared.text.Form.the-variants.{Basic, Complete}
+
+abbrev space : ℕ
+space = 32
+
+-- `EMS `
+abbrev pub call : List ℕ
+call = 69 ∷ 77 ∷ 83 ∷ space ∷ []
+
+-- a letter D, R or S for the mode
+abbrev pub modeLetter : Mode → ℕ
+modeLetter (DeployWait phase) = 68
+modeLetter Recovery = 82
+modeLetter Safe = 83
+
+-- 0 to 9
+abbrev pub figure : ℕ → ℕ
+figure n = 48 + n
+
+-- four digits
+abbrev pub fourDigits : ℕ → List ℕ
+fourDigits n = figure (n / 1000) ∷ figure (n / 100 % 10) ∷ figure (n / 10 % 10) ∷ figure (n % 10) ∷ []
+
+-- an upper-case hex digit: 0 to 9, then A to F
+abbrev pub hexDigit : ℕ → ℕ
+hexDigit n = if ltb n 10 then figure n else 65 + (n - 10)
+
+-- two upper-case hex digits
+abbrev pub twoHex : ℕ → List ℕ
+twoHex n = hexDigit (n / 16) ∷ hexDigit (n % 16) ∷ []
+
+-- basic: `EMS `, the mode's letter, a space, the tension in four digits
+unfoldable pub basicText : State → List ℕ
+basicText s = call ++ (modeLetter (s .watch .mode) ∷ space ∷ fourDigits (s .battery .tension))
+
+-- complete: that, then a space and the on mask, a space and the failed mask
+unfoldable pub completeText : State → List ℕ
+completeText s = basicText s ++ (space ∷ twoHex (masksOf (s .modules) .on) ++ (space ∷ twoHex (masksOf (s .modules) .failed)))
+
+abbrev pub textOf : Form → State → List ℕ
+textOf Basic s = basicText s
+textOf Complete s = completeText s
+
+-- either text: 10 or 16 bytes
+abbrev pub formBytes : Form → ℕ
+formBytes Basic = 10
+formBytes Complete = 16

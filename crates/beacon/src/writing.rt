@@ -1,0 +1,70 @@
+// The beacon's text into a room.
+// Refusals 1, then 14, with the room untouched; else the text and its length.
+ghost use mathlib.Core.Path.{_≡_};
+ghost use Rattle.morse.specs.Answers.{outcome};
+ghost use Rattle.beacon.specs.declared.text.Form.the-variants as form;
+ghost use Rattle.beacon.specs.Writing.{writtenReply, beaconOf};
+use crate::text::Form;
+use crate::text::complete_text;
+use supervisor::state::State;
+
+// What writing a beacon's text answers: a case for each of the page's numbers.
+pub enum Written {
+    // A text of so many bytes is in the room.
+    Done(usize),
+    StateOutside,
+    NoRoom,
+}
+
+impl Written {
+    // The page's number.
+    pub fn number(self) -> u8
+        ensures { λ r. ⌜ r ≡ writtenReply self .number ⌝ }
+    {
+        match self {
+            Written::Done(_) => 0,
+            Written::StateOutside => 1,
+            Written::NoRoom => 14,
+        }
+    }
+
+    // The length of the text, 0 at a refusal.
+    pub fn count(self) -> usize
+        ensures { λ r. ⌜ r ≡ writtenReply self .count ⌝ }
+    {
+        match self {
+            Written::Done(n) => n,
+            Written::StateOutside => 0,
+            Written::NoRoom => 0,
+        }
+    }
+}
+
+// Writes the text of a form into the front of the room. Bytes past it stay.
+pub fn write(state: State, form: Form, text: &mut [u8]) -> Written
+    ensures { λ r. ⌜ outcome r (now (text .exit)) ≡ beaconOf form state (now (text .entry)) ⌝ }
+{
+    if !state.in_range() {
+        return Written::StateOutside;
+    }
+    let n = form.bytes();
+    if text.len() < n {
+        return Written::NoRoom;
+    }
+    let all = complete_text(state);
+    Written::Done(bytes::copy(&all[0..n], text))
+}
+
+// The basic text: mode and tension.
+pub fn basic(state: State, text: &mut [u8]) -> Written
+    ensures { λ r. ⌜ outcome r (now (text .exit)) ≡ beaconOf form.Basic state (now (text .entry)) ⌝ }
+{
+    write(state, Form::Basic, text)
+}
+
+// The complete text: the basic one, then the masks of the modules on and failed.
+pub fn complete(state: State, text: &mut [u8]) -> Written
+    ensures { λ r. ⌜ outcome r (now (text .exit)) ≡ beaconOf form.Complete state (now (text .entry)) ⌝ }
+{
+    write(state, Form::Complete, text)
+}

@@ -1,0 +1,125 @@
+-- Laws of an image: its length, how it is stored part by part, and what its fields say.
+-- Assumes nothing.
+use Prim.Native.Nat.{ℕ, zero, suc, _+_, _*_, _/_, _%_, _<_, _≤_}
+use native.Mathlib.Omega.{arith}
+use native.Mathlib.Nat.{add-assoc, div-add-mod', mod-eq-of-lt, le-of-suc-le-suc, not-suc-le-zero}
+use native.Mathlib.Numerals.{add-one}
+use mathlib.Core.Path.{_≡_, refl, sym, ap, _∙_}
+use mathlib.Core.Bool.{Bool, true, false, _&&_}
+use mathlib.Core.List.{List, [], _∷_, _++_, append-nil}
+use lib.Dec.{T, eqb}
+use lib.ListN.{length, getD, set, take, drop, replicate, length-append, drop-of-length-le}
+use lib.Seq.{sets, take-length, drop-cons, getD-append-add, ext-getD}
+use Rattle.choice.proofs.ChoiceLaws.{and-left, and-right, within-high}
+use Rattle.choice.proofs.EachLaws.{length-each, at-each}
+use Rattle.choice.proofs.Stores.{sets-append, sets-front}
+use Rattle.modules.specs.Power.{powerInRange, fullTries}
+use Rattle.modules.specs.Stage.{modulesInRange}
+use Rattle.modules.specs.declared.power.Power.{Power}
+use Rattle.modules.specs.declared.power.Power.the-variants.{On, Off, Failed}
+use Rattle.modules.specs.declared.power.Module.{Module}
+use Rattle.supervisor.specs.State.{modeNumber, withMode}
+use Rattle.supervisor.specs.Range.{watchInRange, settleSeconds, inRange}
+use Rattle.supervisor.proofs.TickLaws.{inRange-phase}
+use Rattle.supervisor.specs.declared.state.Phase.the-variants.{Waiting, Settling}
+use Rattle.supervisor.specs.declared.state.Mode.{Mode}
+use Rattle.supervisor.specs.declared.state.Mode.the-variants.{DeployWait, Recovery, Safe}
+use Rattle.supervisor.specs.declared.state.State.{State}
+use Rattle.beacon.proofs.RangeLaws.{in-range-parts}
+use Rattle.flight.specs.Fields.{flag}
+use Rattle.flight.specs.Image.{imageBytes, modulesPlace, phaseNumber, phaseSeconds, powerNumber, powerLeft, moduleBytes, modulesBytes, headBytes, saved, modeFrom, powerFrom, moduleAt, blank, modulesIn, decoded}
+use Rattle.flight.proofs.FieldsLaws.{flag-back, word-back}
+
+length-modules : (ms : List Module) → length (modulesBytes ms) ≡ 4 * length ms
+unfolding modulesBytes
+length-modules [] = refl
+length-modules (m ∷ ms) = omega (arith, length-modules ms)
+
+pub length-saved : (s : State) → length (s .modules) ≡ 8 → length (saved s) ≡ imageBytes
+unfolding saved headBytes
+length-saved s eight = omega (arith, length-append (headBytes s) (modulesBytes (s .modules)), length-modules (s .modules))
+
+pub length-in : (bytes : List ℕ) → length (modulesIn bytes) ≡ 8
+unfolding modulesIn
+length-in bytes = length-each (λ i m. moduleAt (modulesPlace + 4 * i) bytes) (replicate 8 blank)
+
+-- storing, part by part
+
+pub stored-module : (room : List ℕ) (at power high low requested : ℕ)
+    → set (set (set (set room at power) (at + 1) high) (at + 2) low) (at + 3) requested ≡ sets room at (power ∷ high ∷ low ∷ requested ∷ [])
+stored-module room at power high low requested =
+    let two : at + 2 ≡ suc (suc at) = omega arith in
+    let three : at + 3 ≡ suc (suc (suc at)) = omega arith in
+    rw (add-one, two, three)
+
+pub stored-turn : (ms : List Module) (i at : ℕ) (room : List ℕ) (d : Module) → i < length ms
+    → sets (sets room at (moduleBytes (getD ms i d))) (at + 4) (modulesBytes (drop (i + 1) ms)) ≡ sets room at (modulesBytes (drop i ms))
+unfolding modulesBytes
+stored-turn ms i at room d h =
+    let rest : drop i ms ≡ getD ms i d ∷ drop (i + 1) ms = rw add-one (drop-cons ms i d h) in
+    rw rest (sym (sets-append (moduleBytes (getD ms i d)) (modulesBytes (drop (i + 1) ms)) room at))
+
+-- the modules after a head that was copied
+pub stored-state : (s : State) (head room : List ℕ) → head ≡ headBytes s → length (s .modules) ≡ 8 → length room ≡ imageBytes
+    → sets (take (length head) head ++ drop (length head) room) modulesPlace (modulesBytes (s .modules)) ≡ saved s
+unfolding saved headBytes
+stored-state s head room e eight fits =
+    let n = length-saved s eight in
+    let modules = modulesBytes (s .modules) in
+    rw (take-length head, e)
+    (ap (λ r. sets r modulesPlace modules) (sym (sets-front (headBytes s) room (omega arith)))
+    ∙ sym (sets-append (headBytes s) modules room 0)
+    ∙ sets-front (saved s) room (omega arith)
+    ∙ ap (λ l. saved s ++ l) (drop-of-length-le room {i = length (saved s)} (omega arith))
+    ∙ append-nil (saved s))
+
+-- what the fields of a saved state say
+
+power-back : (p : Power) → T (powerInRange p) → powerFrom (powerNumber p) (powerLeft p) ≡ p
+power-back On h = refl
+power-back (Off tries) h = ap Off (mod-eq-of-lt (omega (arith, within-high 1 fullTries tries h)))
+power-back (Failed left) h = refl
+
+mode-back : (m : Mode) (control beacon : ℕ) → T (watchInRange m control beacon) → modeFrom (modeNumber m) (phaseNumber m) (phaseSeconds m) ≡ m
+mode-back (DeployWait (Waiting waited)) control beacon h = refl
+mode-back (DeployWait (Settling left)) control beacon h =
+    ap (λ n. DeployWait (Settling n)) (mod-eq-of-lt (omega (arith, within-high 1 settleSeconds left (inRange-phase (Settling left) control beacon h))))
+mode-back Recovery control beacon h = refl
+mode-back Safe control beacon h = refl
+
+-- bytes in front of a module's move its place
+module-shift : (front bytes : List ℕ) (at : ℕ) → moduleAt (length front + at) (front ++ bytes) ≡ moduleAt at bytes
+module-shift front bytes at = simp (add-assoc, getD-append-add)
+
+module-back : (m : Module) (rest : List ℕ) → T (powerInRange (m .power)) → moduleAt 0 (moduleBytes m ++ rest) ≡ m
+module-back m rest h =
+    ap (λ n. record { power = powerFrom (powerNumber (m .power)) n; requested = eqb (flag (m .requested)) 1 }) (word-back (powerLeft (m .power)))
+    ∙ ap (λ p. record { power = p; requested = eqb (flag (m .requested)) 1 }) (power-back (m .power) h)
+    ∙ ap (λ r. record { power = m .power; requested = r }) (flag-back (m .requested))
+
+module-of : (ms : List Module) (i : ℕ) → i < length ms → T (modulesInRange ms) → moduleAt (4 * i) (modulesBytes ms) ≡ getD ms i blank
+unfolding modulesBytes modulesInRange
+module-of [] i h r = absurd (not-suc-le-zero h)
+module-of (m ∷ ms) zero h r = module-back m (modulesBytes ms) (and-left (powerInRange (m .power)) (modulesInRange ms) r)
+module-of (m ∷ ms) (suc i) h r =
+    let e : 4 * suc i ≡ 4 + 4 * i = omega arith in
+    rw e (module-shift (moduleBytes m) (modulesBytes ms) (4 * i))
+    ∙ module-of ms i (le-of-suc-le-suc h) (and-right (powerInRange (m .power)) (modulesInRange ms) r)
+
+modules-back : (s : State) → T (modulesInRange (s .modules)) → length (s .modules) ≡ 8 → modulesIn (saved s) ≡ s .modules
+unfolding saved headBytes modulesIn
+modules-back s r eight =
+    let n = length-each (λ i m. moduleAt (modulesPlace + 4 * i) (saved s)) (replicate 8 blank) in
+    ext-getD blank (modulesIn (saved s)) (s .modules) (n ∙ sym eight)
+    (λ i h. at-each (λ i m. moduleAt (modulesPlace + 4 * i) (saved s)) (replicate 8 blank) i blank (omega arith)
+    ∙ module-shift (headBytes s) (modulesBytes (s .modules)) (4 * i)
+    ∙ module-of (s .modules) i (omega arith) r)
+
+pub decoded-saved : (s : State) → inRange s ≡ true → length (s .modules) ≡ 8 → decoded (saved s) ≡ s
+unfolding decoded saved headBytes
+decoded-saved s e eight =
+    let parts = in-range-parts s e in
+    let mode = s .watch .mode in
+    let number = ap (modeFrom (modeNumber mode) (phaseNumber mode)) (div-add-mod' (phaseSeconds mode) 65536) in
+    simp (modules-back s (parts .modules) eight, word-back, flag-back)
+    (ap (λ m. withMode m s) (number ∙ mode-back mode (s .watch .control) (s .watch .beacon) (parts .watch)))

@@ -1,0 +1,6 @@
+pub mod FieldsLaws
+pub mod ImageLaws
+pub mod LoadSave
+pub mod CallsLaws
+pub mod Images
+pub mod Unique

@@ -1,0 +1,70 @@
+-- What loading and saving promise: a state in range comes back as it was saved, and what is loaded was that state's save.
+-- Assumes nothing.
+use Prim.Native.Nat.{ℕ}
+use native.Mathlib.Omega.{arith}
+use mathlib.Core.Path.{_≡_, refl, sym, ap, _∙_}
+use mathlib.Core.Bool.{Bool, true, false, not, false≢true}
+use mathlib.Core.List.{List}
+use mathlib.Core.Option.{Option, none, some}
+use borrow.Author.Tests.{not-true, not-false}
+use lib.ListN.{length}
+use Rattle.choice.specs.Choice.{if_then_else_}
+use Rattle.choice.proofs.ChoiceLaws.{is-true, holds}
+use Rattle.supervisor.specs.Range.{inRange}
+use Rattle.supervisor.specs.declared.state.State.{State}
+use Rattle.flight.specs.Fields.{alike}
+use Rattle.flight.specs.Image.{imageBytes, saved, decoded, loaded, found}
+use Rattle.flight.specs.declared.image.Loaded.{Loaded}
+use Rattle.flight.proofs.FieldsLaws.{alike-eq, alike-refl, alike-test}
+use Rattle.flight.proofs.ImageLaws.{length-saved, length-in, decoded-saved}
+
+-- load (save s) = s
+pub load-save : (s : State) → inRange s ≡ true → length (s .modules) ≡ 8 → loaded (saved s) ≡ some s
+unfolding loaded
+load-save s e eight = simp (decoded-saved s e eight, is-true (alike (saved s) (saved s)) (alike-refl (saved s)))
+
+-- save (load bytes) = bytes
+pub save-load : (bytes : List ℕ) (s : State) → loaded bytes ≡ some s → saved s ≡ bytes
+unfolding loaded
+save-load bytes s e = by-test (alike (saved (decoded bytes)) bytes) refl e
+  where
+    by-test : (t : Bool) → alike (saved (decoded bytes)) bytes ≡ t → (if t then some (decoded bytes) else none) ≡ some s → saved s ≡ bytes
+    by-test true q z =
+        let same : decoded bytes ≡ s = cc in
+        ap saved (sym same) ∙ alike-eq (saved (decoded bytes)) bytes (holds (alike (saved (decoded bytes)) bytes) q)
+    by-test false q z = let never : _≡_ {A = ℕ} 0 1 = cc in absurd (omega arith)
+
+-- the code's test: what the fields say is saved again, and compared
+module _ (bytes : List ℕ) where
+  pub found-compared : (same : Bool) (s : State) → s ≡ decoded bytes → (same ≡ true → saved s ≡ bytes) → (saved s ≡ bytes → same ≡ true)
+      → found (record { ok = same; state = s }) ≡ loaded bytes
+  unfolding loaded
+  found-compared same s e p q =
+      let t : alike (saved (decoded bytes)) bytes ≡ same = alike-test (saved (decoded bytes)) bytes same (λ z. rw (← e) (p z)) (λ z. q (rw e z)) in
+      simp (t, e)
+
+  -- bytes of another length have no state
+  pub found-none : (length bytes ≡ imageBytes → ⊥) → none ≡ loaded bytes
+  unfolding loaded decoded
+  found-none never =
+      let t : alike (saved (decoded bytes)) bytes ≡ false = alike-test (saved (decoded bytes)) bytes false (λ z. absurd (false≢true z)) (λ z. absurd (never (ap length (sym z) ∙ length-saved (decoded bytes) (length-in bytes)))) in
+      simp t
+
+-- an image has 53 bytes
+pub loaded-length : (bytes : List ℕ) (s : State) → loaded bytes ≡ some s → length bytes ≡ imageBytes
+unfolding loaded decoded
+loaded-length bytes s e = by-test (alike (saved (decoded bytes)) bytes) refl e
+  where
+    by-test : (t : Bool) → alike (saved (decoded bytes)) bytes ≡ t → (if t then some (decoded bytes) else none) ≡ some s → length bytes ≡ imageBytes
+    by-test true q z =
+        ap length (sym (alike-eq (saved (decoded bytes)) bytes (holds (alike (saved (decoded bytes)) bytes) q)))
+        ∙ length-saved (decoded bytes) (length-in bytes)
+    by-test false q z = let never : _≡_ {A = ℕ} 0 1 = cc in absurd (omega arith)
+
+-- what the code has found of an image
+module _ (r : Loaded) (bytes : List ℕ) (f : found r ≡ loaded bytes) where
+  pub not-loaded : not (r .ok) ≡ true → loaded bytes ≡ none
+  not-loaded t = sym f ∙ simp (not-true (r .ok) t)
+
+  pub is-loaded : not (r .ok) ≡ false → loaded bytes ≡ some (r .state)
+  is-loaded t = sym f ∙ simp (not-false (r .ok) t)

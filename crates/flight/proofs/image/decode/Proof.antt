@@ -1,0 +1,67 @@
+-- `flight::image::decode` meets its contract: each field is the rule's.
+use Rattle.flight.specs.Image.{decoded}
+use borrow.Author.Needs.{needs}
+use Rattle.flight.proofs.image.decode.Statement.{statement}
+use Rattle.flight.proofs.image.decode.Tie as tie
+
+modules-in-requires : tie.Need-modules-in-requires
+modules-in-requires c κs = search needs
+
+shared-slice-read-mode-from : tie.Need-shared-slice-read-mode-from
+shared-slice-read-mode-from c = search needs
+
+shared-slice-read-mode-from-2 : tie.Need-shared-slice-read-mode-from-2
+shared-slice-read-mode-from-2 c = search needs
+
+long-at-requires : tie.Need-long-at-requires
+long-at-requires c κs = search needs
+
+mode-from-requires : tie.Need-mode-from-requires
+mode-from-requires c κs = search needs
+
+shared-slice-read-t10 : tie.Need-shared-slice-read-t10
+shared-slice-read-t10 c = search needs
+
+word-at-requires : tie.Need-word-at-requires
+word-at-requires c κs = search needs
+
+shared-slice-read-t14 : tie.Need-shared-slice-read-t14
+shared-slice-read-t14 c = search needs
+
+word-at-requires-2 : tie.Need-word-at-requires-2
+word-at-requires-2 c κs = search needs
+
+word-at-requires-3 : tie.Need-word-at-requires-3
+word-at-requires-3 c κs = search needs
+
+word-at-requires-4 : tie.Need-word-at-requires-4
+word-at-requires-4 c κs = search needs
+
+word-at-requires-5 : tie.Need-word-at-requires-5
+word-at-requires-5 c κs = search needs
+
+word-at-requires-6 : tie.Need-word-at-requires-6
+word-at-requires-6 c κs = search needs
+
+returns : tie.Need-returns
+unfolding decoded
+returns c = simp (c .word-at6 .ensures, c .before .word-at5 .ensures, c .before .before .word-at4 .ensures, c .before .before .before .word-at3 .ensures, c .before .before .before .before .word-at2 .ensures, c .before .before .before .before .before .before .word-at .ensures, c .before .before .before .before .before .before .before .before .mode-from .ensures, c .before .before .before .before .before .before .before .before .before .long-at .ensures, c .before .before .before .before .before .before .before .before .before .before .before .before .modules-in .ensures)
+
+pub decode-spec : {M : Type 1} → statement M
+decode-spec =
+    tie.close
+    (tie.spec
+    modules-in-requires
+    shared-slice-read-mode-from
+    shared-slice-read-mode-from-2
+    long-at-requires
+    mode-from-requires
+    shared-slice-read-t10
+    word-at-requires
+    shared-slice-read-t14
+    word-at-requires-2
+    word-at-requires-3
+    word-at-requires-4
+    word-at-requires-5
+    word-at-requires-6
+    returns)

@@ -1,0 +1,150 @@
+// What C and Rust call. An image is the caller's: 53 bytes, the whole state.
+// A slice passes as a pointer and a length, a count through a pointer; each call answers the page's number.
+ghost use mathlib.Core.Path.{_≡_};
+ghost use Rattle.morse.specs.Answers.{outcome};
+ghost use Rattle.morse.specs.Keying.{keyReply, keyOf};
+ghost use Rattle.morse.specs.Reading.{readReply};
+ghost use Rattle.beacon.specs.Writing.{writtenReply};
+ghost use Rattle.beacon.specs.declared.text.Form.the-variants as form;
+ghost use Rattle.flight.specs.Calls.{freshed, freshImage, stepped, stepImage, beaconImage, told, replied, ReadTold};
+use crate::image::BYTES;
+use crate::image::load;
+use crate::image::save;
+use beacon::text::Form;
+use beacon::writing::Written;
+use morse::Heard;
+use morse::Keyed;
+use supervisor::state::fresh;
+
+// Writes the image of the fresh start.
+#[no_mangle]
+pub extern "C" fn ems_fresh(image: &mut [u8]) -> u8
+    ensures { λ r. ⌜ freshed r (now (image .exit)) ≡ freshImage (now (image .entry)) ⌝ }
+{
+    if image.len() != BYTES {
+        return 1;
+    }
+    save(fresh(), image);
+    0
+}
+
+// Takes one frame: the image becomes the next state's, and the room holds the report, where there is one.
+#[no_mangle]
+pub extern "C" fn ems_step(image: &mut [u8], frame: &[u8], room: &mut [u8]) -> u8
+    ensures { λ r. ⌜ stepped r (now (image .exit)) (now (room .exit)) ≡ stepImage (now (image .entry)) (now (frame .entry)) (now (room .entry)) ⌝ }
+{
+    let loaded = load(image);
+    if !loaded.ok {
+        return 1;
+    }
+    let state = loaded.state;
+    let after = supervisor::step::step(state, frame, room);
+    let next = after.state;
+    let answer = after.answer;
+    save(next, image);
+    answer.number()
+}
+
+// The beacon's text of an image's state.
+fn write_beacon(image: &[u8], form: Form, text: &mut [u8]) -> Written
+    ensures { λ r. ⌜ outcome r (now (text .exit)) ≡ beaconImage form (now (image .entry)) (now (text .entry)) ⌝ }
+{
+    let loaded = load(image);
+    if !loaded.ok {
+        return Written::StateOutside;
+    }
+    let state = loaded.state;
+    beacon::writing::write(state, form, text)
+}
+
+// Writes the basic text of an image's state, and its length.
+#[no_mangle]
+pub extern "C" fn ems_beacon_basic(image: &[u8], text: &mut [u8], count: &mut usize) -> u8
+    ensures { λ r. ⌜ told r (now (count .exit)) (now (text .exit)) ≡ replied writtenReply (beaconImage form.Basic (now (image .entry)) (now (text .entry))) ⌝ }
+{
+    let written = write_beacon(image, Form::Basic, text);
+    *count = written.count();
+    written.number()
+}
+
+// Writes the complete text of an image's state, and its length.
+#[no_mangle]
+pub extern "C" fn ems_beacon_complete(image: &[u8], text: &mut [u8], count: &mut usize) -> u8
+    ensures { λ r. ⌜ told r (now (count .exit)) (now (text .exit)) ≡ replied writtenReply (beaconImage form.Complete (now (image .entry)) (now (text .entry))) ⌝ }
+{
+    let written = write_beacon(image, Form::Complete, text);
+    *count = written.count();
+    written.number()
+}
+
+// An answer's number, and its count.
+struct Reply {
+    number: u8,
+    count: usize,
+}
+
+fn key_reply(keyed: Keyed) -> Reply
+    ensures { λ r. ⌜ (r .number ≡ keyReply keyed .number) × (r .count ≡ keyReply keyed .count) ⌝ }
+{
+    match keyed {
+        Keyed::Done(n) => Reply {
+            number: 0,
+            count: n,
+        },
+        Keyed::TooLong => Reply {
+            number: 11,
+            count: 0,
+        },
+        Keyed::OutsideAlphabet => Reply {
+            number: 12,
+            count: 0,
+        },
+        Keyed::BadSpacing => Reply {
+            number: 13,
+            count: 0,
+        },
+        Keyed::NoRoom => Reply {
+            number: 14,
+            count: 0,
+        },
+    }
+}
+
+fn read_reply(heard: Heard) -> Reply
+    ensures { λ r. ⌜ (r .number ≡ readReply heard .number) × (r .count ≡ readReply heard .count) ⌝ }
+{
+    match heard {
+        Heard::Text(n) => Reply {
+            number: 0,
+            count: n,
+        },
+        Heard::NotAKeying => Reply {
+            number: 15,
+            count: 0,
+        },
+        Heard::NoRoom => Reply {
+            number: 14,
+            count: 0,
+        },
+    }
+}
+
+// Keys a text: its units, and how many they are.
+#[no_mangle]
+pub extern "C" fn ems_key(text: &[u8], units: &mut [u8], count: &mut usize) -> u8
+    ensures { λ r. ⌜ told r (now (count .exit)) (now (units .exit)) ≡ replied keyReply (keyOf (now (text .entry)) (now (units .entry))) ⌝ }
+{
+    let reply = key_reply(morse::key(text, units));
+    *count = reply.count;
+    reply.number
+}
+
+// Reads units back: the text, and its length.
+#[no_mangle]
+pub extern "C" fn ems_read(units: &[u8], text: &mut [u8], count: &mut usize) -> u8
+    ensures { λ r. ⌜ ReadTold (now (units .entry)) (now (text .entry)) (told r (now (count .exit)) (now (text .exit))) ⌝ }
+{
+    let reply = read_reply(morse::read(units, text));
+    *count = reply.count;
+    reply.number
+}

@@ -1,0 +1,5 @@
+// The library that flies: the state as bytes, and the calls that C and Rust make.
+// `fields` has numbers as bytes, `image` the state's, `calls` what is exported.
+pub mod calls;
+mod fields;
+mod image;
