@@ -1,0 +1,72 @@
+-- No state out of range, proved: the parts of check 1, kept by every frame.
+-- Assumes nothing.
+use Prim.Native.Nat.{ℕ}
+use native.Mathlib.Omega.{arith}
+use mathlib.Core.Path.{_≡_, refl, sym, _∙_}
+use mathlib.Core.Bool.{Bool, true, false, _&&_, _||_, true≢false}
+use mathlib.Core.List.{List, [], _∷_}
+use lib.Dec.{T, eqb}
+use Rattle.choice.specs.Choice.{within}
+use Rattle.choice.proofs.ChoiceLaws.{and-left, and-right, and-both, or-right, is-true}
+use Rattle.modules.specs.Stage.{modulesInRange}
+use Rattle.supervisor.specs.Answer.{answerNumber}
+use Rattle.supervisor.specs.Range.{inRange, isReading, areThresholds}
+use Rattle.supervisor.specs.Fresh.{freshState}
+use Rattle.supervisor.specs.Serial.{movedTo}
+use Rattle.supervisor.specs.State.{withSerials}
+use Rattle.supervisor.specs.Order.{requestSet, moduleAsked}
+use Rattle.supervisor.specs.declared.serial.Origin.{Origin}
+use Rattle.supervisor.specs.declared.state.State.{State}
+use Rattle.promises.specs.History.{Call, called, answered, after}
+use Rattle.promises.specs.InRange.{InRange}
+use Rattle.promises.proofs.Calls.{Comes, stopped, second, other, comes}
+use Rattle.promises.proofs.ActLaws.{Still, act-still, act-unrefused}
+use Rattle.promises.proofs.TickLaws.{ticked-done}
+use Rattle.promises.proofs.RangeTick.{Valid, each-in-range, ticked-valid}
+
+pub parts : (s : State) → T (inRange s) → Valid s
+unfolding inRange
+parts s h = record { watch = search (and-left, and-right); battery = search (and-left, and-right); modules = search (and-left, and-right) }
+
+whole : (s : State) → Valid s → T (inRange s)
+unfolding inRange
+whole s v = search (and-both, v) depth 8
+
+valid-still : Still Valid
+unfolding requestSet
+valid-still =
+    record {
+      tension = λ millivolts r s v. record { watch = v .watch; battery = and-both (eqb millivolts 0 || isReading millivolts) (areThresholds (s .battery .ascend) (s .battery .descend)) (or-right (eqb millivolts 0) (isReading millivolts) r) (and-right (eqb (s .battery .tension) 0 || isReading (s .battery .tension)) (areThresholds (s .battery .ascend) (s .battery .descend)) (v .battery)); modules = v .modules };
+      antennas = λ deployed s v. v;
+      thresholds = λ ascend descend r s v. record { watch = v .watch; battery = and-both (eqb (s .battery .tension) 0 || isReading (s .battery .tension)) (areThresholds ascend descend) (and-left (eqb (s .battery .tension) 0 || isReading (s .battery .tension)) (areThresholds (s .battery .ascend) (s .battery .descend)) (v .battery)) r; modules = v .modules };
+      serial = λ origin serial s v. v;
+      request = λ number on s e v. record { watch = v .watch; battery = v .battery; modules = each-in-range (moduleAsked number on) (λ i m h. h) (s .modules) (v .modules) };
+    }
+
+by-comes : (s : State) (c : Call) → T (inRange s) → Comes s c → T (inRange (called s c .state))
+by-comes s c h (stopped answer low one w) = rw w h
+by-comes s c h (second shorts r e w) = rw w (whole _ (ticked-valid shorts s (parts s h)))
+by-comes s c h (other frame fits e r f w) = rw w (whole _ (act-still Valid valid-still frame fits e s (parts s h)))
+
+pub called-in-range : (s : State) (c : Call) → T (inRange s) → T (inRange (called s c .state))
+called-in-range s c h = by-comes s c h (comes s c)
+
+pub after-in-range : (cs : List Call) (s : State) → T (inRange s) → T (inRange (after s cs))
+after-in-range [] s h = h
+after-in-range (c ∷ cs) s h = after-in-range cs (called s c .state) (called-in-range s c h)
+
+pub fresh-in-range : T (inRange freshState)
+unfolding inRange freshState modulesInRange
+fresh-in-range = tt
+
+not-one : (s : State) (c : Call) → T (inRange s) → Comes s c → answered s c ≡ 1 → ⊥
+not-one s c h (stopped answer low one w) e = true≢false (sym (is-true (inRange s) h) ∙ one (rw w at e))
+not-one s c h (second shorts r e w) f = let z : _≡_ {A = ℕ} 0 1 = rw (w, ticked-done shorts s) at f in omega arith
+not-one s c h (other frame fits e r g w) f = true≢false (rw (rw w at f) at (act-unrefused frame s))
+
+pub in-range : InRange
+in-range =
+    record {
+      kept = called-in-range;
+      neverOutside = λ cs c. not-one (after freshState cs) c (after-in-range cs freshState fresh-in-range) (comes (after freshState cs) c);
+    }

@@ -1,0 +1,6 @@
+pub mod ReadLaws
+pub mod Calls
+pub mod TickLaws
+pub mod ActLaws
+pub mod RangeTick
+pub mod InRange
