@@ -44,9 +44,9 @@ valid-still =
     }
 
 by-comes : (s : State) (c : Call) → T (inRange s) → Comes s c → T (inRange (called s c .state))
-by-comes s c h (stopped answer low one w) = rw w h
-by-comes s c h (second shorts r e w) = rw w (whole _ (ticked-valid shorts s (parts s h)))
-by-comes s c h (other frame fits e r f w) = rw w (whole _ (act-still Valid valid-still frame fits e s (parts s h)))
+by-comes s c h (stopped answer w) = rw (w .left) h
+by-comes s c h (second shorts w) = rw (w .left) (whole _ (ticked-valid shorts s (parts s h)))
+by-comes s c h (other frame e w) = rw (w .left) (whole _ (act-still Valid valid-still frame (w .fits) e s (parts s h)))
 
 pub called-in-range : (s : State) (c : Call) → T (inRange s) → T (inRange (called s c .state))
 called-in-range s c h = by-comes s c h (comes s c)
@@ -60,9 +60,9 @@ unfolding inRange freshState modulesInRange
 fresh-in-range = tt
 
 not-one : (s : State) (c : Call) → T (inRange s) → Comes s c → answered s c ≡ 1 → ⊥
-not-one s c h (stopped answer low one w) e = true≢false (sym (is-true (inRange s) h) ∙ one (rw w at e))
-not-one s c h (second shorts r e w) f = let z : _≡_ {A = ℕ} 0 1 = rw (w, ticked-done shorts s) at f in omega arith
-not-one s c h (other frame fits e r g w) f = true≢false (rw (rw w at f) at (act-unrefused frame s))
+not-one s c h (stopped answer w) e = true≢false (sym (is-true (inRange s) h) ∙ w .outside (rw (w .left) at e))
+not-one s c h (second shorts w) e = let z : _≡_ {A = ℕ} 0 1 = rw (w .left, ticked-done shorts s) at e in omega arith
+not-one s c h (other frame t w) e = true≢false (rw (rw (w .left) at e) at (act-unrefused frame s))
 
 pub in-range : InRange
 in-range =

@@ -1,6 +1,7 @@
 pub mod ReadLaws
-pub mod Calls
 pub mod TickLaws
 pub mod ActLaws
+pub mod Calls
 pub mod RangeTick
 pub mod InRange
+pub mod Refusals

@@ -15,7 +15,7 @@ use Rattle.modules.specs.Stage.{stageOf, requestedBy, modulesInRange, moduleSec
 use Rattle.modules.proofs.PowerLaws.{switched-in-range}
 use Rattle.modules.specs.declared.power.Module.{Module}
 use Rattle.supervisor.specs.State.{coreFour, missionFour, withControl}
-use Rattle.supervisor.specs.Range.{ watchInRange, phaseInRange, batteryInRange, waitSeconds, settleSeconds, judgeTicks, basicTicks}
+use Rattle.supervisor.specs.Range.{watchInRange, phaseInRange, batteryInRange, waitSeconds, settleSeconds, judgeTicks, basicTicks}
 use Rattle.supervisor.specs.Tick.{ticked, phaseTicked, controlled, crossedTo, moduleStage, allowedIn, beaconStage, dueAt, countAfter}
 use Rattle.supervisor.specs.declared.state.Phase.{Phase}
 use Rattle.supervisor.specs.declared.state.Phase.the-variants.{Waiting, Settling}
@@ -133,7 +133,7 @@ phase-valid antennas (Settling left) c b h z =
     decided (λ (m : Mode). T (watchInRange m c b)) (eqb (left - 1) 0)
     (λ e. counted c b (omega arith) (omega arith))
     (λ e. phase-counts (Settling (left - 1)) c b
-        (within-of 1 settleSeconds (left - 1) (omega (arith, eqb-false (left - 1) 0 e)) (omega (arith, within-high 1 settleSeconds left h))) z)
+    (within-of 1 settleSeconds (left - 1) (omega (arith, eqb-false (left - 1) 0 e)) (omega (arith, within-high 1 settleSeconds left h))) z)
 
 zeros : (p : Phase) (c b : ℕ) → T (watchInRange (DeployWait p) c b) → T (phaseInRange p) × (c ≡ 0) × (b ≡ 0)
 zeros p c b h = (search (and-left, and-right), eqb→eq c 0 (search (and-left, and-right)), eqb→eq b 0 (search (and-left, and-right)))
@@ -145,7 +145,7 @@ by-ticks shorts s v (waits phase e w) =
 by-ticks shorts s v (runs e w) =
     let h : (s .watch .control < judgeTicks) × (s .watch .beacon < basicTicks) = counts-of (s .watch .mode) (s .watch .control) (s .watch .beacon) e (v .watch) in
     rw w (beacon-valid (moduleStage shorts (controlled s)) (stage-running shorts (controlled s)
-        (controlled-running s (record { flies = e; control = h .0; beacon = h .1; battery = v .battery; modules = v .modules }) (controls s))))
+    (controlled-running s (record { flies = e; control = h .0; beacon = h .1; battery = v .battery; modules = v .modules }) (controls s))))
 
 pub ticked-valid : (shorts : ℕ) (s : State) → Valid s → Valid (ticked shorts s .state)
 ticked-valid shorts s v = by-ticks shorts s v (ticks shorts s)

@@ -13,6 +13,8 @@ use Rattle.supervisor.specs.Fresh.{offRequested}
 use Rattle.supervisor.specs.Frame.{readFrame}
 use Rattle.supervisor.specs.Report.{reportBytes}
 use Rattle.supervisor.specs.Step.{Left, stepOf}
+use Rattle.supervisor.specs.declared.serial.Origin.{Origin}
+use Rattle.supervisor.specs.declared.serial.Origin.the-variants.{Ground, Payload}
 use Rattle.supervisor.specs.declared.frame.Frame.the-variants.{Tick, Battery, Antennas, Order, Thresholds}
 use Rattle.supervisor.specs.declared.frame.Reading.{Reading}
 use Rattle.supervisor.specs.declared.frame.Reading.the-variants.{Refused, Accepted}
@@ -60,6 +62,21 @@ doneTick s c = isTick (readFrame (c .input)) && eqb (answered s c) 0
 abbrev pub doneTicks : State → List Call → ℕ
 doneTicks s [] = 0
 doneTicks s (c ∷ cs) = (if doneTick s c then 1 else 0) + doneTicks (called s c .state) cs
+
+-- the serial that a frame bears for an origin, one or none; refused bytes bear none
+abbrev pub sameOrigin : Origin → Origin → Bool
+sameOrigin Ground Ground = true
+sameOrigin Ground Payload = false
+sameOrigin Payload Ground = false
+sameOrigin Payload Payload = true
+
+abbrev pub bears : Origin → Reading → List ℕ
+bears origin (Refused answer) = []
+bears origin (Accepted (Tick shorts)) = []
+bears origin (Accepted (Battery tension)) = []
+bears origin (Accepted (Antennas deployed)) = []
+bears origin (Accepted (Order by serial number on)) = if sameOrigin origin by then serial ∷ [] else []
+bears origin (Accepted (Thresholds serial ascend descend)) = if sameOrigin origin Ground then serial ∷ [] else []
 
 abbrev pub isDeployWait : Mode → Bool
 isDeployWait (DeployWait phase) = true
