@@ -72,3 +72,10 @@ act-unrefused (Order origin serial number on) s =
     dated-unrefused (classOf serial (lastOf origin (s .serials))) origin serial (orderTaken number on)
     (λ t. either Unrefused (isIllTimed number on (t .watch .mode)) refl refl) s
 act-unrefused (Thresholds serial ascend descend) s = dated-unrefused (classOf serial (lastOf Ground (s .serials))) Ground serial (thresholdsTaken ascend descend) (λ t. refl) s
+
+-- a frame other than a tick leaves the mode and both counts
+pub watch-still : (f : Frame) → Fits f → isTick (Accepted f) ≡ false → (s : State) → actOf f s .state .watch ≡ s .watch
+unfolding requestSet
+watch-still f fits e s =
+    act-still (λ t. t .watch ≡ s .watch)
+    (record { tension = λ n r t h. h; antennas = λ d t h. h; thresholds = λ a d r t h. h; serial = λ o n t h. h; request = λ n on t i h. h }) f fits e s refl

@@ -5,3 +5,4 @@ pub mod Calls
 pub mod RangeTick
 pub mod InRange
 pub mod Refusals
+pub mod Deployment

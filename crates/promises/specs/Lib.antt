@@ -1,3 +1,4 @@
 pub mod History
 pub mod InRange
 pub mod Refusals
+pub mod Deployment
