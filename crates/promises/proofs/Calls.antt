@@ -7,9 +7,9 @@ use mathlib.Core.Bool.{Bool, true, false, _&&_}
 use mathlib.Core.List.{List}
 use lib.ListN.{length}
 use lib.Dec.{T, eqb, leb}
-use borrow.Author.Tests.{ne-eqb}
+use borrow.Author.Tests.{ne-eqb, le-leb}
 use Rattle.choice.specs.Choice.{within}
-use Rattle.choice.proofs.ChoiceLaws.{holds, within-low, within-high, within-of}
+use Rattle.choice.proofs.ChoiceLaws.{is-true, holds, within-low, within-high, within-of}
 use Rattle.supervisor.specs.Answer.{answerNumber}
 use Rattle.supervisor.specs.Range.{inRange}
 use Rattle.supervisor.specs.Frame.{readFrame}
@@ -25,7 +25,7 @@ use Rattle.supervisor.specs.declared.frame.Reading.{Reading}
 use Rattle.supervisor.specs.declared.frame.Reading.the-variants.{Refused, Accepted}
 use Rattle.supervisor.specs.declared.state.State.{State}
 use Rattle.supervisor.specs.declared.act.Acted.{Acted}
-use Rattle.promises.specs.History.{Call, called, isTick, doneTick}
+use Rattle.promises.specs.History.{Call, called, HasRoom, isTick, doneTick}
 use Rattle.promises.proofs.ReadLaws.{Fits, Sound, read-sound}
 use Rattle.promises.proofs.TickLaws.{ticked-done}
 
@@ -87,3 +87,8 @@ module _ (s : State) (c : Call) where
 
   pub comes : Comes s c
   comes = by-range (inRange s) refl
+
+-- with room, a call on a state in range comes to checks 3 to 7
+pub called-read : (s : State) (c : Call) → T (inRange s) → HasRoom c → called s c ≡ stepRead (readFrame (c .input)) s (c .room)
+unfolding stepOf
+called-read s c h r = rw (is-true (inRange s) h, le-leb reportBytes (length (c .room)) r)

@@ -6,3 +6,10 @@ pub mod RangeTick
 pub mod InRange
 pub mod Refusals
 pub mod Deployment
+pub mod ModuleLaws
+pub mod FreshLaws
+pub mod TwoModes
+pub mod TwoTick
+pub mod TwoFrames
+pub mod TwoPower
+pub mod TwoCraft

@@ -1,12 +1,13 @@
 -- Laws of reading a frame: what is refused has one of the answers 3 to 7, what is accepted has its fields in range.
 -- Assumes nothing.
 use Prim.Native.Nat.{ℕ}
+use mathlib.Core.Path.{_≡_}
 use mathlib.Core.Bool.{Bool, true, false, not, _&&_}
-use mathlib.Core.List.{List}
+use mathlib.Core.List.{List, [], _∷_}
 use lib.ListN.{length}
 use lib.Dec.{T, eqb, leb}
-use Rattle.choice.specs.Choice.{within}
-use Rattle.choice.proofs.ChoiceLaws.{either, decided, holds, and-right}
+use Rattle.choice.specs.Choice.{within, word}
+use Rattle.choice.proofs.ChoiceLaws.{is-true, either, decided, holds, and-right}
 use Rattle.supervisor.specs.Answer.{answerNumber}
 use Rattle.supervisor.specs.Range.{isReading, areThresholds}
 use Rattle.supervisor.specs.Frame.{readFrame, fieldsOf, totalOf, byteAt, wordAt, batteryFields, antennasFields, orderFields, thresholdsFields, tickKind, batteryKind, antennasKind, orderKind}
@@ -61,3 +62,8 @@ read-sound bytes =
     either Sound (eqb (length bytes) 0) tt
     (either Sound (eqb (totalOf (byteAt 0 bytes)) 0) tt
     (either Sound (eqb (length bytes) (totalOf (byteAt 0 bytes))) (fields-sound (byteAt 0 bytes) bytes) tt))
+
+-- a battery frame in range is read as such
+pub battery-read : (high low : ℕ) → T (isReading (word high low)) → readFrame (batteryKind ∷ high ∷ low ∷ []) ≡ Accepted (Battery (word high low))
+unfolding readFrame totalOf batteryFields
+battery-read high low r = rw (is-true (isReading (word high low)) r)

@@ -2,3 +2,4 @@ pub mod History
 pub mod InRange
 pub mod Refusals
 pub mod Deployment
+pub mod TwoCraft
