@@ -4,9 +4,7 @@ use Prim.Native.Nat.{ℕ}
 use mathlib.Core.Path.{_≡_, refl}
 use mathlib.Core.Bool.{Bool, true, false, true≢false}
 use lib.Dec.{T}
-use Rattle.choice.specs.Choice.{within}
-use Rattle.choice.proofs.ChoiceLaws.{either, decided}
-use Rattle.supervisor.specs.Answer.{answerNumber}
+use Rattle.choice.proofs.ChoiceLaws.{decided}
 use Rattle.supervisor.specs.State.{withTension, withAntennas, withThresholds, withSerials}
 use Rattle.supervisor.specs.Range.{isReading, areThresholds}
 use Rattle.supervisor.specs.Serial.{classOf, lastOf, movedTo}
@@ -23,7 +21,6 @@ use Rattle.supervisor.specs.declared.act.Acted.{Acted}
 use Rattle.supervisor.specs.declared.state.State.{State}
 use Rattle.promises.specs.History.{isTick}
 use Rattle.promises.proofs.ReadLaws.{Fits}
-use Rattle.promises.proofs.TickLaws.{ticked-done}
 
 -- a tension, an antennas report, thresholds, a serial, a request: each keeps P
 abbrev pub Still : (State → Type 0) → Type 0
@@ -53,25 +50,6 @@ module _ (P : State → Type 0) (still : Still P) where
   act-still (Order origin serial number on) fits e s p = dated-still (classOf serial (lastOf origin (s .serials))) origin serial (orderTaken number on) (order-still number on) s p
   act-still (Thresholds serial ascend descend) fits e s p =
       dated-still (classOf serial (lastOf Ground (s .serials))) Ground serial (thresholdsTaken ascend descend) (still .thresholds ascend descend fits) s p
-
--- a frame that is worked is answered 0, 8, 9 or 10
-abbrev Unrefused : Acted → Type 0
-Unrefused a = within 1 7 (answerNumber (a .answer)) ≡ false
-
-dated-unrefused : (class : Class) (origin : Origin) (serial : ℕ) (taken : State → Acted) → ((s : State) → Unrefused (taken s)) → (s : State) → Unrefused (datedAs class origin serial taken s)
-dated-unrefused Repeat origin serial taken keeps s = refl
-dated-unrefused Stale origin serial taken keeps s = refl
-dated-unrefused Fresh origin serial taken keeps s = keeps (withSerials (movedTo origin serial (s .serials)) s)
-
-pub act-unrefused : (f : Frame) (s : State) → Unrefused (actOf f s)
-unfolding actOf
-act-unrefused (Tick shorts) s = rw (ticked-done shorts s)
-act-unrefused (Battery tension) s = refl
-act-unrefused (Antennas deployed) s = refl
-act-unrefused (Order origin serial number on) s =
-    dated-unrefused (classOf serial (lastOf origin (s .serials))) origin serial (orderTaken number on)
-    (λ t. either Unrefused (isIllTimed number on (t .watch .mode)) refl refl) s
-act-unrefused (Thresholds serial ascend descend) s = dated-unrefused (classOf serial (lastOf Ground (s .serials))) Ground serial (thresholdsTaken ascend descend) (λ t. refl) s
 
 -- a frame other than a tick leaves the mode and both counts
 pub watch-still : (f : Frame) → Fits f → isTick (Accepted f) ≡ false → (s : State) → actOf f s .state .watch ≡ s .watch

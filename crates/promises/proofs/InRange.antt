@@ -15,12 +15,14 @@ use Rattle.supervisor.specs.Fresh.{freshState}
 use Rattle.supervisor.specs.Serial.{movedTo}
 use Rattle.supervisor.specs.State.{withSerials}
 use Rattle.supervisor.specs.Order.{requestSet, moduleAsked}
+use Rattle.supervisor.specs.Act.{actOf}
 use Rattle.supervisor.specs.declared.serial.Origin.{Origin}
 use Rattle.supervisor.specs.declared.state.State.{State}
 use Rattle.promises.specs.History.{Call, called, answered, after}
 use Rattle.promises.specs.InRange.{InRange}
 use Rattle.promises.proofs.Calls.{Comes, stopped, second, other, comes}
-use Rattle.promises.proofs.ActLaws.{Still, act-still, act-unrefused}
+use Rattle.promises.proofs.ActLaws.{Still, act-still}
+use Rattle.promises.proofs.DateLaws.{act-dates, unrefused}
 use Rattle.promises.proofs.TickLaws.{ticked-done}
 use Rattle.promises.proofs.RangeTick.{Valid, each-in-range, ticked-valid}
 
@@ -62,7 +64,7 @@ fresh-in-range = tt
 not-one : (s : State) (c : Call) → T (inRange s) → Comes s c → answered s c ≡ 1 → ⊥
 not-one s c h (stopped answer w) e = true≢false (sym (is-true (inRange s) h) ∙ w .outside (rw (w .left) at e))
 not-one s c h (second shorts w) e = let z : _≡_ {A = ℕ} 0 1 = rw (w .left, ticked-done shorts s) at e in omega arith
-not-one s c h (other frame t w) e = true≢false (rw (rw (w .left) at e) at (act-unrefused frame s))
+not-one s c h (other frame t w) e = true≢false (rw (rw (w .left) at e) at (unrefused frame s (actOf frame s) (act-dates frame s)))
 
 pub in-range : InRange
 in-range =

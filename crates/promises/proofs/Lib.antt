@@ -1,6 +1,7 @@
 pub mod ReadLaws
 pub mod TickLaws
 pub mod ActLaws
+pub mod DateLaws
 pub mod Calls
 pub mod RangeTick
 pub mod InRange
@@ -13,3 +14,4 @@ pub mod TwoTick
 pub mod TwoFrames
 pub mod TwoPower
 pub mod TwoCraft
+pub mod Serials

@@ -1,7 +1,7 @@
 -- A flight: calls of `step` in a row, each with its input bytes and its reply room.
 -- Assumes nothing.
 use Prim.Native.Nat.{ℕ, _+_, _≤_}
-use mathlib.Core.Bool.{Bool, true, false, _&&_}
+use mathlib.Core.Bool.{Bool, true, false, _&&_, _||_}
 use mathlib.Core.List.{List, [], _∷_}
 use lib.Dec.{eqb}
 use lib.ListN.{length, getD}
@@ -32,6 +32,10 @@ called s c = stepOf s (c .input) (c .room)
 
 abbrev pub answered : State → Call → ℕ
 answered s c = answerNumber (called s c .answer)
+
+-- a frame is taken: answered 0 or 10
+abbrev pub isTaken : (answer : ℕ) → Bool
+isTaken answer = eqb answer 0 || eqb answer 10
 
 -- the state after a history of calls
 abbrev pub after : State → List Call → State

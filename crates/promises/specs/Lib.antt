@@ -3,3 +3,4 @@ pub mod InRange
 pub mod Refusals
 pub mod Deployment
 pub mod TwoCraft
+pub mod Serials
