@@ -113,23 +113,3 @@ dated-unrefused Fresh by serial s a d = taken-unrefused (answerNumber (a .answer
 pub unrefused : (f : Frame) (s : State) (a : Acted) → Dates f s a → within 1 7 (answerNumber (a .answer)) ≡ false
 unrefused f s a (undated b e k) = rw e
 unrefused f s a (dates by serial b d) = dated-unrefused (classOf serial (lastOf by (s .serials))) by serial s a d
-
--- one origin's view of a frame: none of its business, or a frame of its own
-pub data Turn (origin : Origin) (f : Frame) (s : State) (a : Acted) : Type 0 where
-  none : bears origin (Accepted f) ≡ [] → lastOf origin (a .state .serials) ≡ lastOf origin (s .serials) → Turn origin f s a
-  own : (serial : ℕ) → bears origin (Accepted f) ≡ serial ∷ [] → Dated (classOf serial (lastOf origin (s .serials))) origin serial s a → Turn origin f s a
-
-other-last : (class : Class) (origin by : Origin) (serial : ℕ) (s : State) (a : Acted) → lastOf origin (movedTo by serial (s .serials)) ≡ lastOf origin (s .serials) → Dated class by serial s a → lastOf origin (a .state .serials) ≡ lastOf origin (s .serials)
-other-last Repeat origin by serial s a e d = ap (λ t. lastOf origin (t .serials)) (d .1)
-other-last Stale origin by serial s a e d = ap (λ t. lastOf origin (t .serials)) (d .1)
-other-last Fresh origin by serial s a e d = ap (lastOf origin) (d .serials) ∙ e
-
-by-origin : (origin by : Origin) (serial : ℕ) (f : Frame) (s : State) (a : Acted) → bears origin (Accepted f) ≡ (if sameOrigin origin by then serial ∷ [] else []) → Dated (classOf serial (lastOf by (s .serials))) by serial s a → Turn origin f s a
-by-origin Ground Ground serial f s a b d = own serial b d
-by-origin Payload Payload serial f s a b d = own serial b d
-by-origin Ground Payload serial f s a b d = none b (other-last (classOf serial (s .serials .payload)) Ground Payload serial s a refl d)
-by-origin Payload Ground serial f s a b d = none b (other-last (classOf serial (s .serials .ground)) Payload Ground serial s a refl d)
-
-pub turn : (origin : Origin) (f : Frame) (s : State) (a : Acted) → Dates f s a → Turn origin f s a
-turn origin f s a (undated b e k) = none (b origin) (ap (lastOf origin) k)
-turn origin f s a (dates by serial b d) = by-origin origin by serial f s a (b origin) d

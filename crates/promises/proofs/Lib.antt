@@ -2,6 +2,7 @@ pub mod ReadLaws
 pub mod TickLaws
 pub mod ActLaws
 pub mod DateLaws
+pub mod TurnLaws
 pub mod Calls
 pub mod RangeTick
 pub mod InRange
@@ -15,3 +16,4 @@ pub mod TwoFrames
 pub mod TwoPower
 pub mod TwoCraft
 pub mod Serials
+pub mod Dawn

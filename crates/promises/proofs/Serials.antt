@@ -8,12 +8,11 @@ use lib.Dec.{T}
 use Rattle.supervisor.specs.Answer.{answerNumber}
 use Rattle.supervisor.specs.Range.{inRange}
 use Rattle.supervisor.specs.Fresh.{freshState}
-use Rattle.supervisor.specs.Serial.{classOf, lastOf, movedTo}
+use Rattle.supervisor.specs.Serial.{classOf, lastOf}
 use Rattle.supervisor.specs.Frame.{readFrame}
 use Rattle.supervisor.specs.Act.{actOf}
 use Rattle.supervisor.specs.Step.{stepRead}
 use Rattle.supervisor.specs.declared.serial.Origin.{Origin}
-use Rattle.supervisor.specs.declared.serial.Origin.the-variants.{Ground, Payload}
 use Rattle.supervisor.specs.declared.serial.Class.{Class}
 use Rattle.supervisor.specs.declared.serial.Class.the-variants.{Repeat, Fresh, Stale}
 use Rattle.supervisor.specs.declared.frame.Frame.{Frame}
@@ -23,16 +22,12 @@ use Rattle.supervisor.specs.declared.act.Acted.{Acted}
 use Rattle.supervisor.specs.declared.state.State.{State}
 use Rattle.promises.specs.History.{Call, called, answered, after, HasRoom, Roomy, bears}
 use Rattle.promises.specs.Serials.{Serials, serialsOf, verdict}
-use Rattle.promises.proofs.DateLaws.{Dated, Turn, none, own, turn, act-dates, zero-or-ten}
+use Rattle.promises.proofs.DateLaws.{Dated, act-dates, zero-or-ten}
+use Rattle.promises.proofs.TurnLaws.{Turn, none, own, turn, moved, dated-last}
 use Rattle.promises.proofs.Calls.{called-read}
 use Rattle.promises.proofs.InRange.{called-in-range, after-in-range, fresh-in-range}
 
--- the last serial after one of a class, and after several
-abbrev moved : Class → (serial last : ℕ) → ℕ
-moved Repeat serial last = last
-moved Stale serial last = last
-moved Fresh serial last = serial
-
+-- the last serial after several
 abbrev lastAfter : (last : ℕ) → List ℕ → ℕ
 lastAfter last [] = last
 lastAfter last (serial ∷ serials) = lastAfter (moved (classOf serial last) serial last) serials
@@ -42,22 +37,10 @@ lastAfter-append last [] ns = refl
 lastAfter-append last (m ∷ ms) ns = lastAfter-append (moved (classOf m last) m last) ms ns
 
 module _ (origin : Origin) where
-  last-moved : (serial : ℕ) (s : State) → lastOf origin (movedTo origin serial (s .serials)) ≡ serial
-  last-moved serial s = by origin
-    where
-      by : (o : Origin) → lastOf o (movedTo o serial (s .serials)) ≡ serial
-      by Ground = refl
-      by Payload = refl
-
   -- one frame
-  dated-last : (class : Class) (serial : ℕ) (s : State) (a : Acted) → Dated class origin serial s a → lastOf origin (a .state .serials) ≡ moved class serial (lastOf origin (s .serials))
-  dated-last Repeat serial s a d = ap (λ t. lastOf origin (t .serials)) (d .1)
-  dated-last Stale serial s a d = ap (λ t. lastOf origin (t .serials)) (d .1)
-  dated-last Fresh serial s a d = ap (lastOf origin) (d .serials) ∙ last-moved serial s
-
   turn-last : (f : Frame) (s : State) (a : Acted) → Turn origin f s a → lastOf origin (a .state .serials) ≡ lastAfter (lastOf origin (s .serials)) (bears origin (Accepted f))
   turn-last f s a (none b e) = rw b e
-  turn-last f s a (own serial b d) = rw b (dated-last (classOf serial (lastOf origin (s .serials))) serial s a d)
+  turn-last f s a (own serial b d) = rw b (dated-last origin (classOf serial (lastOf origin (s .serials))) serial s a d)
 
   dated-verdict : (class : Class) (serial : ℕ) (s : State) (a : Acted) → Dated class origin serial s a → verdict (answerNumber (a .answer)) ≡ class
   dated-verdict Repeat serial s a d = rw (d .0)
@@ -75,7 +58,7 @@ module _ (origin : Origin) where
   read-last (Refused answer) s room = refl
   read-last (Accepted f) s room = turn-last f s (actOf f s) (turn origin f s (actOf f s) (act-dates f s))
 
-  read-verdict : (serial : ℕ) (r : Reading) (s : State) (room : List ℕ) → bears origin r ≡ serial ∷ [] → verdict (answerNumber (stepRead r s room .answer)) ≡ classOf serial (lastOf origin (s .serials))
+  pub read-verdict : (serial : ℕ) (r : Reading) (s : State) (room : List ℕ) → bears origin r ≡ serial ∷ [] → verdict (answerNumber (stepRead r s room .answer)) ≡ classOf serial (lastOf origin (s .serials))
   read-verdict serial (Refused answer) s room h = cc
   read-verdict serial (Accepted f) s room h = turn-verdict serial f s (actOf f s) (turn origin f s (actOf f s) (act-dates f s)) h
 

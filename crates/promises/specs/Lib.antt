@@ -4,3 +4,4 @@ pub mod Refusals
 pub mod Deployment
 pub mod TwoCraft
 pub mod Serials
+pub mod Dawn
