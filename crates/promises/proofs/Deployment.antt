@@ -61,7 +61,7 @@ controlled-flies s e (level count low w) = rw w e
 controlled-flies s e (upward m w) = rw w refl
 controlled-flies s e (downward m w) = rw w refl
 
-ticked-flies : (shorts : ℕ) (s : State) → isDeployWait (s .watch .mode) ≡ false → Ticks shorts s → isDeployWait (ticked shorts s .state .watch .mode) ≡ false
+pub ticked-flies : (shorts : ℕ) (s : State) → isDeployWait (s .watch .mode) ≡ false → Ticks shorts s → isDeployWait (ticked shorts s .state .watch .mode) ≡ false
 unfolding beaconStage moduleStage
 ticked-flies shorts s e (waits phase m w) = absurd (true≢false (rw m at e))
 ticked-flies shorts s e (runs f w) = rw w (controlled-flies s e (controls s))

@@ -10,6 +10,7 @@ pub mod Refusals
 pub mod Deployment
 pub mod ModuleLaws
 pub mod FreshLaws
+pub mod Powers
 pub mod TwoModes
 pub mod TwoTick
 pub mod TwoFrames
@@ -17,3 +18,5 @@ pub mod TwoPower
 pub mod TwoCraft
 pub mod Serials
 pub mod Dawn
+pub mod Requests
+pub mod AsTold

@@ -2,7 +2,7 @@
 -- Assumes nothing.
 use Prim.Native.Nat.{ℕ, _+_, _≤_, _<_}
 use native.Mathlib.Omega.{arith}
-use mathlib.Core.Path.{_≡_, refl, sym, ap, _∙_}
+use mathlib.Core.Path.{_≡_, refl, sym, _∙_}
 use mathlib.Core.Bool.{Bool, true, false, not, _&&_, _||_, true≢false, false≢true}
 use lib.ListN.{length, getD}
 use lib.Dec.{T, lit<, leb}
@@ -18,16 +18,11 @@ use Rattle.modules.specs.declared.power.Module.{Module}
 use Rattle.supervisor.specs.State.{coreFour, missionFour, withControl}
 use Rattle.supervisor.specs.Order.{inSafe, requestSet, moduleAsked}
 use Rattle.supervisor.specs.Tick.{controlled, moduleStage, allowedIn, crossedTo}
-use Rattle.supervisor.specs.Act.{actOf}
-use Rattle.supervisor.specs.declared.frame.Frame.{Frame}
-use Rattle.supervisor.specs.declared.frame.Reading.the-variants.{Accepted}
 use Rattle.supervisor.specs.declared.state.Mode.{Mode}
 use Rattle.supervisor.specs.declared.state.Mode.the-variants.{DeployWait, Recovery, Safe}
 use Rattle.supervisor.specs.declared.state.State.{State}
-use Rattle.promises.specs.History.{moduleAt, isMission, isTick}
-use Rattle.promises.proofs.ReadLaws.{Fits}
+use Rattle.promises.specs.History.{moduleAt, isMission}
 use Rattle.promises.proofs.TickLaws.{Controls, level, upward, downward, controls}
-use Rattle.promises.proofs.ActLaws.{act-still}
 
 -- eight modules
 abbrev pub Eight : State → Type 0
@@ -91,32 +86,11 @@ module _ (i : ℕ) (low : i < 8) where
   mission-allowed e Recovery = rw e at core-or-mission
   mission-allowed e Safe = all-allowed
 
--- control and frames other than ticks switch no module
-module _ (s : State) (eight : Eight s) where
-  eight-by : Controls s → Eight (controlled s)
-  eight-by (level count below w) = rw w eight
-  eight-by (upward e w) = rw w (crossed-eight (withControl 0 s) eight Safe coreFour true)
-  eight-by (downward e w) = rw w (crossed-eight (withControl 0 s) eight Recovery missionFour false)
+-- control leaves eight
+eight-by : (s : State) → Eight s → Controls s → Eight (controlled s)
+eight-by s eight (level count below w) = rw w eight
+eight-by s eight (upward e w) = rw w (crossed-eight (withControl 0 s) eight Safe coreFour true)
+eight-by s eight (downward e w) = rw w (crossed-eight (withControl 0 s) eight Recovery missionFour false)
 
-  pub controlled-eight : Eight (controlled s)
-  controlled-eight = eight-by (controls s)
-
-  module _ (i : ℕ) (low : i < 8) where
-    power-by : Controls s → moduleAt i (controlled s) .power ≡ moduleAt i s .power
-    power-by (level count below w) = rw w
-    power-by (upward e w) = rw w (ap (λ m. m .power) (at-crossed (withControl 0 s) eight i low Safe coreFour true))
-    power-by (downward e w) = rw w (ap (λ m. m .power) (at-crossed (withControl 0 s) eight i low Recovery missionFour false))
-
-    pub controlled-power : moduleAt i (controlled s) .power ≡ moduleAt i s .power
-    controlled-power = power-by (controls s)
-
-    pub act-power : (f : Frame) → Fits f → isTick (Accepted f) ≡ false → Eight (actOf f s .state) × (moduleAt i (actOf f s .state) .power ≡ moduleAt i s .power)
-    act-power f fits e =
-        act-still (λ t. Eight t × (moduleAt i t .power ≡ moduleAt i s .power))
-        (record {
-          tension = λ n r t h. h;
-          antennas = λ d t h. h;
-          thresholds = λ a d r t h. h;
-          serial = λ o n t h. h;
-          request = λ number on t e h. (asked-eight t (h .0) number on, ap (λ m. m .power) (at-asked t (h .0) i low number on) ∙ h .1);
-        }) f fits e s (eight, refl)
+pub controlled-eight : (s : State) → Eight s → Eight (controlled s)
+controlled-eight s eight = eight-by s eight (controls s)

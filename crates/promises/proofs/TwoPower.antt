@@ -20,7 +20,8 @@ use Rattle.supervisor.specs.declared.state.State.{State}
 use Rattle.promises.specs.History.{moduleAt, isMission, isTick}
 use Rattle.promises.specs.TwoCraft.{shorted}
 use Rattle.promises.proofs.ReadLaws.{Fits}
-use Rattle.promises.proofs.ModuleLaws.{at-stage, mission-low, mission-allowed, controlled-power, act-power}
+use Rattle.promises.proofs.ModuleLaws.{at-stage, mission-low, mission-allowed}
+use Rattle.promises.proofs.Powers.{controlled-power, act-power}
 use Rattle.promises.proofs.TwoModes.{AtMost, equal, below, safe-at-most}
 use Rattle.promises.proofs.TwoTick.{Sim, controlled-sim}
 
@@ -71,7 +72,7 @@ module _ (i : ℕ) (mission : isMission i ≡ true) where
   still-lit : (f : Frame) → Fits f → isTick (Accepted f) ≡ false → (a b : State) → Sim i a b → Bright a b → Bright (actOf f a .state) (actOf f b .state)
   still-lit f fits e a b h l =
       let low : i < 8 = mission-low i mission in
-      rw (act-power a (h .flight .eight) i low f fits e .1, act-power b (h .flight .eight′) i low f fits e .1) l
+      rw (act-power a (h .flight .eight) i low f fits e, act-power b (h .flight .eight′) i low f fits e) l
 
   pub act-lit : (f : Frame) → Fits f → shorted i (Accepted f) ≡ false → (a b : State) → Sim i a b → Bright a b → Bright (actOf f a .state) (actOf f b .state)
   unfolding actOf ticked

@@ -5,3 +5,4 @@ pub mod Deployment
 pub mod TwoCraft
 pub mod Serials
 pub mod Dawn
+pub mod AsTold
