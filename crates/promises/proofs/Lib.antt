@@ -20,3 +20,5 @@ pub mod Serials
 pub mod Dawn
 pub mod Requests
 pub mod AsTold
+pub mod BeaconLaws
+pub mod NeverSilent

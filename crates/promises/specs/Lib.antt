@@ -6,3 +6,4 @@ pub mod TwoCraft
 pub mod Serials
 pub mod Dawn
 pub mod AsTold
+pub mod NeverSilent
