@@ -22,3 +22,4 @@ pub mod Requests
 pub mod AsTold
 pub mod BeaconLaws
 pub mod NeverSilent
+pub mod Numbers

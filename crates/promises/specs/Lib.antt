@@ -7,3 +7,4 @@ pub mod Serials
 pub mod Dawn
 pub mod AsTold
 pub mod NeverSilent
+pub mod Numbers
