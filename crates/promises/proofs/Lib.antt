@@ -12,6 +12,7 @@ pub mod ModuleLaws
 pub mod FreshLaws
 pub mod Powers
 pub mod TwoModes
+pub mod TwoControl
 pub mod TwoTick
 pub mod TwoFrames
 pub mod TwoPower

@@ -25,7 +25,7 @@ use Rattle.promises.proofs.InRange.{called-in-range, fresh-in-range}
 use Rattle.promises.proofs.ModuleLaws.{mission-low}
 use Rattle.promises.proofs.FreshLaws.{fresh-requested, fresh-sound}
 use Rattle.promises.proofs.TwoModes.{equal, number-at-most}
-use Rattle.promises.proofs.TwoTick.{Sim}
+use Rattle.promises.proofs.TwoControl.{Sim}
 use Rattle.promises.proofs.TwoFrames.{tension-sim, act-sim}
 use Rattle.promises.proofs.TwoPower.{Lit, act-lit}
 

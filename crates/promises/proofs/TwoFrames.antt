@@ -27,7 +27,8 @@ use Rattle.promises.specs.History.{moduleAt, isMission}
 use Rattle.promises.proofs.ReadLaws.{Fits}
 use Rattle.promises.proofs.ModuleLaws.{asked-eight, at-asked, mission-low}
 use Rattle.promises.proofs.TwoModes.{safe-at-most}
-use Rattle.promises.proofs.TwoTick.{Sim, ticked-sim}
+use Rattle.promises.proofs.TwoControl.{Sim}
+use Rattle.promises.proofs.TwoTick.{ticked-sim}
 
 -- the test of an "on" that is not taken: for one of the mission four, not in SAFE
 ill-timed-first : (on m safe safe′ : Bool) → (T safe → T safe′) → T (on && m && not safe′) → T (on && m && not safe)

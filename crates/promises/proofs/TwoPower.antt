@@ -23,7 +23,7 @@ use Rattle.promises.proofs.ReadLaws.{Fits}
 use Rattle.promises.proofs.ModuleLaws.{at-stage, mission-low, mission-allowed}
 use Rattle.promises.proofs.Powers.{controlled-power, act-power}
 use Rattle.promises.proofs.TwoModes.{AtMost, equal, below, safe-at-most}
-use Rattle.promises.proofs.TwoTick.{Sim, controlled-sim}
+use Rattle.promises.proofs.TwoControl.{Sim, controlled-sim}
 
 -- neither is failed, and the first is on only if the second is
 abbrev pub Lit : Power → Power → Type 0
