@@ -2,7 +2,7 @@
 -- Assumes nothing.
 use Prim.Native.Nat.{ℕ}
 use mathlib.Core.Path.{_≡_, refl}
-use mathlib.Core.Bool.{Bool, true, false, true≢false}
+use mathlib.Core.Bool.{Bool, false, true≢false}
 use lib.Dec.{T}
 use Rattle.choice.proofs.ChoiceLaws.{decided}
 use Rattle.supervisor.specs.State.{withTension, withAntennas, withThresholds, withSerials}

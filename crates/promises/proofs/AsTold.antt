@@ -2,10 +2,9 @@
 -- Assumes nothing.
 use Prim.Native.Nat.{ℕ, _<_}
 use mathlib.Core.Path.{_≡_, refl, sym, ap, _∙_}
-use mathlib.Core.Bool.{Bool, true, false, not, true≢false, false≢true}
+use mathlib.Core.Bool.{Bool, true, false, not, true≢false}
 use mathlib.Core.List.{List, [], _∷_, _++_}
 use lib.Dec.{T}
-use Rattle.choice.proofs.ChoiceLaws.{is-true}
 use Rattle.modules.specs.Power.{isOn}
 use Rattle.supervisor.specs.Fresh.{freshState}
 use Rattle.supervisor.specs.Tick.{ticked, controlled, beaconStage}

@@ -4,7 +4,7 @@ use Prim.Native.Nat.{ℕ, _+_, _-_, _%_}
 use native.Mathlib.Omega.{arith}
 use mathlib.Core.Path.{_≡_, refl, ap, _∙_}
 use mathlib.Core.Bool.{Bool, true, false, not, _||_, true≢false}
-use mathlib.Core.List.{List, [], _∷_, _++_}
+use mathlib.Core.List.{List, _++_}
 use lib.Dec.{T, eqb}
 use lib.ListN.{getD, drop}
 use borrow.Author.Tests.{eqb-true}
@@ -28,7 +28,7 @@ use Rattle.promises.specs.History.{Call, called, doneTick, inDeployWait}
 use Rattle.promises.specs.NeverSilent.{beaconByte, beaconDue}
 use Rattle.promises.proofs.TickLaws.{Ticks, waits, runs, ticks, Controls, level, upward, downward, controls}
 use Rattle.promises.proofs.ActLaws.{watch-still}
-use Rattle.promises.proofs.Calls.{Works, Comes, stopped, second, other, comes}
+use Rattle.promises.proofs.Calls.{Works, Comes, stopped, second, other}
 
 -- the beacon's place in a report
 due-byte : (f : Frame) (a : Acted) (room : List ℕ) → getD (reportOf f a ++ drop reportBytes room) beaconByte 0 ≡ dueNumber (a .due)

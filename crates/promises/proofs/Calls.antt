@@ -4,7 +4,6 @@ use Prim.Native.Nat.{ℕ}
 use native.Mathlib.Omega.{arith}
 use mathlib.Core.Path.{_≡_, refl}
 use mathlib.Core.Bool.{Bool, true, false, _&&_}
-use mathlib.Core.List.{List}
 use lib.ListN.{length}
 use lib.Dec.{T, eqb, leb}
 use borrow.Author.Tests.{ne-eqb, le-leb}

@@ -1,30 +1,27 @@
 -- Deployment ends, proved: the seconds left of it fall by one in each done tick.
 -- Assumes nothing.
-use Prim.Native.Nat.{ℕ, _+_, _-_, _≤_, _<_}
+use Prim.Native.Nat.{ℕ, _+_, _-_, _≤_}
 use native.Mathlib.Omega.{arith}
 use mathlib.Core.Path.{_≡_, refl}
-use mathlib.Core.Bool.{Bool, true, false, _||_, true≢false}
+use mathlib.Core.Bool.{Bool, false, _||_, true≢false}
 use mathlib.Core.List.{List, [], _∷_}
-use lib.Dec.{T, eqb, ltb, ltb→lt, lit<}
-use borrow.Author.Tests.{eqb-false}
+use lib.Dec.{T, eqb, ltb→lt}
 use Rattle.choice.specs.Choice.{if_then_else_}
-use Rattle.choice.proofs.ChoiceLaws.{and-left, decided, either, within-low}
+use Rattle.choice.proofs.ChoiceLaws.{and-left, either, within-low}
 use Rattle.supervisor.specs.Range.{inRange, watchInRange, phaseInRange, waitSeconds, settleSeconds}
 use Rattle.supervisor.specs.Fresh.{freshState}
-use Rattle.supervisor.specs.Order.{requestSet}
 use Rattle.supervisor.specs.Tick.{ticked, phaseTicked, controlled, moduleStage, beaconStage}
 use Rattle.supervisor.specs.declared.state.Phase.{Phase}
 use Rattle.supervisor.specs.declared.state.Phase.the-variants.{Waiting, Settling}
 use Rattle.supervisor.specs.declared.state.Mode.{Mode}
 use Rattle.supervisor.specs.declared.state.Mode.the-variants.{DeployWait, Recovery, Safe}
-use Rattle.supervisor.specs.declared.state.Watch.{Watch}
 use Rattle.supervisor.specs.declared.state.State.{State}
 use Rattle.promises.specs.History.{Call, called, after, doneTick, doneTicks, isDeployWait, inDeployWait}
 use Rattle.promises.specs.Deployment.{Deployment}
 use Rattle.promises.proofs.Calls.{Comes, stopped, second, other, comes}
 use Rattle.promises.proofs.TickLaws.{Ticks, waits, runs, ticks, Controls, level, upward, downward, controls}
-use Rattle.promises.proofs.ActLaws.{Still, act-still, watch-still}
-use Rattle.promises.proofs.InRange.{parts, called-in-range, after-in-range, fresh-in-range}
+use Rattle.promises.proofs.ActLaws.{watch-still}
+use Rattle.promises.proofs.InRange.{parts, after-in-range, fresh-in-range}
 
 -- the seconds that are left of DEPLOY_WAIT
 secondsLeft : Mode → ℕ

@@ -2,8 +2,7 @@
 -- Assumes nothing.
 use Prim.Native.Nat.{ℕ, _<_}
 use mathlib.Core.Path.{_≡_, refl}
-use mathlib.Core.Bool.{Bool, true, false, not}
-use lib.Dec.{T}
+use mathlib.Core.Bool.{true, false, not}
 use Rattle.choice.specs.Choice.{if_then_else_}
 use Rattle.choice.proofs.Tables.{upto}
 use Rattle.modules.specs.Power.{isOn, isFailed}

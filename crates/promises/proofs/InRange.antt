@@ -2,21 +2,16 @@
 -- Assumes nothing.
 use Prim.Native.Nat.{ℕ}
 use native.Mathlib.Omega.{arith}
-use mathlib.Core.Path.{_≡_, refl, sym, _∙_}
-use mathlib.Core.Bool.{Bool, true, false, _&&_, _||_, true≢false}
+use mathlib.Core.Path.{_≡_, sym, _∙_}
+use mathlib.Core.Bool.{_||_, true≢false}
 use mathlib.Core.List.{List, [], _∷_}
 use lib.Dec.{T, eqb}
-use Rattle.choice.specs.Choice.{within}
 use Rattle.choice.proofs.ChoiceLaws.{and-left, and-right, and-both, or-right, is-true}
 use Rattle.modules.specs.Stage.{modulesInRange}
-use Rattle.supervisor.specs.Answer.{answerNumber}
 use Rattle.supervisor.specs.Range.{inRange, isReading, areThresholds}
 use Rattle.supervisor.specs.Fresh.{freshState}
-use Rattle.supervisor.specs.Serial.{movedTo}
-use Rattle.supervisor.specs.State.{withSerials}
 use Rattle.supervisor.specs.Order.{requestSet, moduleAsked}
 use Rattle.supervisor.specs.Act.{actOf}
-use Rattle.supervisor.specs.declared.serial.Origin.{Origin}
 use Rattle.supervisor.specs.declared.state.State.{State}
 use Rattle.promises.specs.History.{Call, called, answered, after}
 use Rattle.promises.specs.InRange.{InRange}

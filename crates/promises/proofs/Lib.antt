@@ -6,6 +6,7 @@ pub mod TurnLaws
 pub mod Calls
 pub mod RangeTick
 pub mod InRange
+pub mod KeyerRefusals
 pub mod Refusals
 pub mod Deployment
 pub mod ModuleLaws

@@ -1,20 +1,18 @@
 -- Laws of module i: what the stages of a tick and an order make of it; the mission four by their number.
 -- Assumes nothing.
-use Prim.Native.Nat.{ℕ, _+_, _≤_, _<_}
+use Prim.Native.Nat.{ℕ, _+_, _<_}
 use native.Mathlib.Omega.{arith}
 use mathlib.Core.Path.{_≡_, refl, sym, _∙_}
-use mathlib.Core.Bool.{Bool, true, false, not, _&&_, _||_, true≢false, false≢true}
-use lib.ListN.{length, getD}
+use mathlib.Core.Bool.{Bool, true, false, not, true≢false}
+use lib.ListN.{length}
 use lib.Dec.{T, lit<, leb}
 use borrow.Author.Tests.{leb-true, leb-false}
 use Rattle.choice.specs.Choice.{if_then_else_, bit}
-use Rattle.choice.specs.Each.{each}
 use Rattle.choice.proofs.ChoiceLaws.{is-true}
 use Rattle.choice.proofs.EachLaws.{at-each, length-each}
 use Rattle.choice.proofs.BitLaws.{bit-past}
 use Rattle.choice.proofs.Tables.{below, upto}
 use Rattle.modules.specs.Stage.{stageOf, requestedBy, moduleSecond, moduleRequested}
-use Rattle.modules.specs.declared.power.Module.{Module}
 use Rattle.supervisor.specs.State.{coreFour, missionFour, withControl}
 use Rattle.supervisor.specs.Order.{inSafe, requestSet, moduleAsked}
 use Rattle.supervisor.specs.Tick.{controlled, moduleStage, allowedIn, crossedTo}

@@ -1,17 +1,16 @@
 -- Never silent, proved: while no beacon falls due the beacon count grows with the done ticks, and it stays below 300.
 -- Assumes nothing.
-use Prim.Native.Nat.{ℕ, _+_, _%_, _≤_, _<_}
+use Prim.Native.Nat.{_+_, _%_, _<_}
 use native.Mathlib.Omega.{arith}
 use mathlib.Core.Path.{_≡_, refl, sym, _∙_}
 use mathlib.Core.Bool.{Bool, true, false, _||_, true≢false}
 use mathlib.Core.List.{List, [], _∷_}
 use lib.Dec.{T}
-use Rattle.choice.specs.Choice.{if_then_else_}
 use Rattle.choice.proofs.ChoiceLaws.{is-true, holds}
 use Rattle.supervisor.specs.Range.{inRange, basicTicks, judgeTicks}
 use Rattle.supervisor.specs.declared.state.State.{State}
 use Rattle.promises.specs.History.{Call, called, after, doneTick, doneTicks, inDeployWait}
-use Rattle.promises.specs.NeverSilent.{NeverSilent, beaconDue, someDue, SafeTicks, fiveMinutes, oneMinute}
+use Rattle.promises.specs.NeverSilent.{NeverSilent, beaconDue, someDue, SafeTicks, fiveMinutes}
 use Rattle.promises.proofs.Calls.{Comes, stopped, second, other, comes}
 use Rattle.promises.proofs.RangeTick.{counts-of}
 use Rattle.promises.proofs.InRange.{parts, after-in-range}

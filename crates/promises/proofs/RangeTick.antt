@@ -7,9 +7,9 @@ use mathlib.Core.Bool.{Bool, true, false, _&&_, _||_, true≢false}
 use mathlib.Core.List.{List, [], _∷_}
 use lib.Dec.{T, eqb, ltb, lit<, ltb→lt, lt→ltb, eqb→eq}
 use borrow.Author.Tests.{eqb-false}
-use Rattle.choice.specs.Choice.{if_then_else_, within, bit}
+use Rattle.choice.specs.Choice.{bit}
 use Rattle.choice.specs.Each.{each, eachFrom}
-use Rattle.choice.proofs.ChoiceLaws.{and-left, and-right, and-both, within-low, within-high, within-of, either, decided}
+use Rattle.choice.proofs.ChoiceLaws.{and-left, and-right, and-both, within-high, within-of, decided}
 use Rattle.modules.specs.Power.{powerInRange}
 use Rattle.modules.specs.Stage.{stageOf, requestedBy, modulesInRange, moduleSecond, moduleRequested}
 use Rattle.modules.proofs.PowerLaws.{switched-in-range}
@@ -102,7 +102,7 @@ stage-running shorts s v =
     }
 
 -- beacon: the count stays below 300, since at 300 one is due in either mode
-pub count-below : (m : Mode) (n : ℕ) → isDeployWait m ≡ false → n ≤ basicTicks → countAfter (dueAt m n) n < basicTicks
+count-below : (m : Mode) (n : ℕ) → isDeployWait m ≡ false → n ≤ basicTicks → countAfter (dueAt m n) n < basicTicks
 count-below (DeployWait phase) n e h = absurd (true≢false e)
 count-below Recovery n e h = decided (λ (d : Due). countAfter d n < basicTicks) (eqb n basicTicks) (λ e. lit< tt) (λ e. omega (arith, eqb-false n basicTicks e))
 count-below Safe n e h = decided (λ (d : Due). countAfter d n < basicTicks) (eqb (n % 60) 0) (λ e. lit< tt) (λ e. omega (arith, eqb-false (n % 60) 0 e))

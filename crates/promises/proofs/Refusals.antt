@@ -15,7 +15,6 @@ use Rattle.supervisor.specs.Serial.{classOf, lastOf, movedTo}
 use Rattle.supervisor.specs.Act.{actOf}
 use Rattle.supervisor.specs.Report.{reportBytes, reportOf}
 use Rattle.supervisor.specs.declared.serial.Origin.{Origin}
-use Rattle.supervisor.specs.declared.serial.Origin.the-variants.{Ground, Payload}
 use Rattle.supervisor.specs.declared.serial.Class.{Class}
 use Rattle.supervisor.specs.declared.serial.Class.the-variants.{Repeat, Fresh, Stale}
 use Rattle.supervisor.specs.declared.frame.Frame.{Frame}
@@ -26,6 +25,7 @@ use Rattle.promises.specs.History.{Call, answered, bears}
 use Rattle.promises.specs.Refusals.{Refusals, Untouched, Reported, SerialUsed}
 use Rattle.promises.proofs.TickLaws.{ticked-done}
 use Rattle.promises.proofs.DateLaws.{Dated, Dates, undated, dates, act-dates, unrefused, zero-or-ten, own-serial}
+use Rattle.promises.proofs.KeyerRefusals.{keying-keeps, reading-keeps}
 use Rattle.promises.proofs.Calls.{Comes, stopped, second, other, comes}
 
 -- a report has 11 bytes
@@ -76,4 +76,11 @@ module _ (s : State) (c : Call) where
       record { origin = origin; serial = serial; frame = rw (w .read) b; state = rw (w .left) moved; rest = rw (w .left) (rest-kept frame (actOf frame s) (c .room)) }
 
 pub refusals : Refusals
-refusals = record { oneToSeven = λ s c. untouched s c (comes s c); eightAndNine = λ s c. reported s c (comes s c); ten = λ s c. used s c (comes s c) }
+refusals =
+    record {
+      oneToSeven = λ s c. untouched s c (comes s c);
+      eightAndNine = λ s c. reported s c (comes s c);
+      ten = λ s c. used s c (comes s c);
+      keying = λ text room. keying-keeps room text;
+      reading = reading-keeps;
+    }

@@ -3,10 +3,10 @@
 use Prim.Native.Nat.{ℕ, _<_}
 use native.Mathlib.Omega.{arith}
 use mathlib.Core.Path.{_≡_, refl, sym, ap, _∙_}
-use mathlib.Core.Bool.{Bool, true, false, not, _&&_, true≢false}
-use lib.Dec.{T, eqb}
+use mathlib.Core.Bool.{Bool, true, false, _&&_, true≢false}
+use lib.Dec.{eqb}
 use borrow.Author.Tests.{eqb-true, ne-eqb}
-use Rattle.choice.specs.Choice.{if_then_else_, bit, within}
+use Rattle.choice.specs.Choice.{if_then_else_}
 use Rattle.choice.proofs.ChoiceLaws.{either, within-low}
 use Rattle.supervisor.specs.Answer.{answerNumber}
 use Rattle.supervisor.specs.State.{modeNumber, coreFour, missionFour, withControl, withSerials}
@@ -22,7 +22,6 @@ use Rattle.supervisor.specs.declared.serial.Class.{Class}
 use Rattle.supervisor.specs.declared.serial.Class.the-variants.{Repeat, Fresh, Stale}
 use Rattle.supervisor.specs.declared.frame.Frame.{Frame}
 use Rattle.supervisor.specs.declared.frame.Frame.the-variants.{Tick, Battery, Antennas, Order, Thresholds}
-use Rattle.supervisor.specs.declared.frame.Reading.{Reading}
 use Rattle.supervisor.specs.declared.frame.Reading.the-variants.{Accepted}
 use Rattle.supervisor.specs.declared.state.Phase.{Phase}
 use Rattle.supervisor.specs.declared.state.Mode.{Mode}
@@ -31,10 +30,9 @@ use Rattle.supervisor.specs.declared.state.State.{State}
 use Rattle.supervisor.specs.declared.act.Acted.{Acted}
 use Rattle.promises.specs.History.{Call, called, moduleAt, isMission, isTick}
 use Rattle.promises.specs.AsTold.{orders, crossing, said}
-use Rattle.promises.proofs.ReadLaws.{Fits}
 use Rattle.promises.proofs.TickLaws.{Ticks, waits, runs, ticks, ticked-done, Controls, level, upward, downward, controls}
 use Rattle.promises.proofs.ActLaws.{watch-still}
-use Rattle.promises.proofs.Calls.{Works, Comes, stopped, second, other, comes}
+use Rattle.promises.proofs.Calls.{Comes, stopped, second, other, comes}
 use Rattle.promises.proofs.ModuleLaws.{Eight, controlled-eight, at-stage, at-crossed, at-asked, core-or-mission}
 
 module _ (i : ℕ) (low : i < 8) where

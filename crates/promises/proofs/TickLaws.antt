@@ -6,11 +6,10 @@ use mathlib.Core.Path.{_≡_, refl}
 use mathlib.Core.Bool.{Bool, true, false}
 use lib.Dec.{eqb, ltb, lit<}
 use borrow.Author.Tests.{eqb-false}
-use Rattle.choice.specs.Choice.{if_then_else_}
 use Rattle.supervisor.specs.State.{coreFour, missionFour, withMode, withControl}
 use Rattle.supervisor.specs.Range.{judgeTicks}
 use Rattle.supervisor.specs.Acted.{done}
-use Rattle.supervisor.specs.Tick.{ticked, tickedIn, phaseTicked, controlled, crossed, crossedTo, moduleStage, beaconStage}
+use Rattle.supervisor.specs.Tick.{ticked, phaseTicked, controlled, crossedTo, moduleStage, beaconStage}
 use Rattle.supervisor.specs.declared.answer.Answer.the-variants.{Done}
 use Rattle.supervisor.specs.declared.state.Phase.{Phase}
 use Rattle.supervisor.specs.declared.state.Mode.{Mode}

@@ -2,7 +2,7 @@
 -- Assumes nothing.
 use Prim.Native.Nat.{ℕ}
 use mathlib.Core.Path.{_≡_, refl, ap, _∙_}
-use mathlib.Core.List.{List, [], _∷_}
+use mathlib.Core.List.{[], _∷_}
 use Rattle.choice.specs.Choice.{if_then_else_}
 use Rattle.supervisor.specs.Serial.{classOf, lastOf, movedTo}
 use Rattle.supervisor.specs.declared.serial.Origin.{Origin}

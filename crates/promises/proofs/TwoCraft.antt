@@ -1,6 +1,6 @@
 -- The better battery, proved: over the calls of both craft from the fresh start.
 -- Assumes nothing.
-use Prim.Native.Nat.{ℕ, zero, suc, _<_}
+use Prim.Native.Nat.{ℕ, zero, suc}
 use native.Mathlib.Omega.{arith}
 use mathlib.Core.Path.{_≡_, refl}
 use mathlib.Core.Bool.{true, false}
@@ -13,7 +13,6 @@ use Rattle.supervisor.specs.Fresh.{freshState}
 use Rattle.supervisor.specs.Frame.{readFrame}
 use Rattle.supervisor.specs.Act.{actOf}
 use Rattle.supervisor.specs.Step.{stepRead}
-use Rattle.supervisor.specs.declared.frame.Frame.the-variants.{Battery}
 use Rattle.supervisor.specs.declared.frame.Reading.{Reading}
 use Rattle.supervisor.specs.declared.frame.Reading.the-variants.{Refused, Accepted}
 use Rattle.supervisor.specs.declared.state.State.{State}

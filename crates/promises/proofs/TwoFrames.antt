@@ -6,9 +6,9 @@ use mathlib.Core.Path.{_≡_, refl, sym, ap, _∙_, subst}
 use mathlib.Core.Bool.{Bool, true, false, not, _&&_, true≢false, false≢true}
 use lib.Dec.{T, eqb, leb, leb→le}
 use borrow.Author.Tests.{eqb-true}
-use Rattle.choice.specs.Choice.{if_then_else_, bit}
+use Rattle.choice.specs.Choice.{if_then_else_}
 use Rattle.choice.proofs.ChoiceLaws.{and-right, sooner}
-use Rattle.supervisor.specs.State.{missionFour, withSerials, withTension, withThresholds}
+use Rattle.supervisor.specs.State.{withSerials, withTension}
 use Rattle.supervisor.specs.Range.{isReading}
 use Rattle.supervisor.specs.Serial.{classOf, lastOf, movedTo}
 use Rattle.supervisor.specs.Acted.{answered, done}
@@ -23,7 +23,7 @@ use Rattle.supervisor.specs.declared.frame.Frame.{Frame}
 use Rattle.supervisor.specs.declared.frame.Frame.the-variants.{Tick, Battery, Antennas, Order, Thresholds}
 use Rattle.supervisor.specs.declared.state.State.{State}
 use Rattle.supervisor.specs.declared.act.Acted.{Acted}
-use Rattle.promises.specs.History.{moduleAt, isMission}
+use Rattle.promises.specs.History.{isMission}
 use Rattle.promises.proofs.ReadLaws.{Fits}
 use Rattle.promises.proofs.ModuleLaws.{asked-eight, at-asked, mission-low}
 use Rattle.promises.proofs.TwoModes.{safe-at-most}
