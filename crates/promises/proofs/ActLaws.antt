@@ -5,18 +5,18 @@ use mathlib.Core.Path.{_≡_, refl}
 use mathlib.Core.Bool.{Bool, false, true≢false}
 use lib.Dec.{T}
 use Rattle.choice.proofs.ChoiceLaws.{decided}
+use Rattle.frames.specs.Frame.{isReading, areThresholds}
 use Rattle.supervisor.specs.State.{withTension, withAntennas, withThresholds, withSerials}
-use Rattle.supervisor.specs.Range.{isReading, areThresholds}
-use Rattle.supervisor.specs.Serial.{classOf, lastOf, movedTo}
+use Rattle.frames.specs.Serial.{classOf, lastOf, movedTo}
 use Rattle.supervisor.specs.Order.{isIllTimed, requestSet, orderTaken, thresholdsTaken, datedAs}
 use Rattle.supervisor.specs.Act.{actOf}
-use Rattle.supervisor.specs.declared.serial.Origin.{Origin}
-use Rattle.supervisor.specs.declared.serial.Origin.the-variants.{Ground}
-use Rattle.supervisor.specs.declared.serial.Class.{Class}
-use Rattle.supervisor.specs.declared.serial.Class.the-variants.{Repeat, Fresh, Stale}
-use Rattle.supervisor.specs.declared.frame.Frame.{Frame}
-use Rattle.supervisor.specs.declared.frame.Frame.the-variants.{Tick, Battery, Antennas, Order, Thresholds}
-use Rattle.supervisor.specs.declared.frame.Reading.the-variants.{Accepted}
+use Rattle.frames.specs.declared.serial.Origin.{Origin}
+use Rattle.frames.specs.declared.serial.Origin.the-variants.{Ground}
+use Rattle.frames.specs.declared.serial.Class.{Class}
+use Rattle.frames.specs.declared.serial.Class.the-variants.{Repeat, Fresh, Stale}
+use Rattle.frames.specs.declared.frame.Frame.{Frame}
+use Rattle.frames.specs.declared.frame.Frame.the-variants.{Tick, Battery, Antennas, Order, Thresholds}
+use Rattle.frames.specs.declared.frame.Reading.the-variants.{Accepted}
 use Rattle.supervisor.specs.declared.act.Acted.{Acted}
 use Rattle.supervisor.specs.declared.state.State.{State}
 use Rattle.promises.specs.History.{isTick}

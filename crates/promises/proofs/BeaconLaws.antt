@@ -19,8 +19,8 @@ use Rattle.supervisor.specs.declared.state.Phase.the-variants.{Waiting, Settlin
 use Rattle.supervisor.specs.declared.state.Mode.{Mode}
 use Rattle.supervisor.specs.declared.state.Mode.the-variants.{DeployWait, Recovery, Safe}
 use Rattle.supervisor.specs.declared.state.State.{State}
-use Rattle.supervisor.specs.declared.frame.Frame.{Frame}
-use Rattle.supervisor.specs.declared.frame.Frame.the-variants.{Tick}
+use Rattle.frames.specs.declared.frame.Frame.{Frame}
+use Rattle.frames.specs.declared.frame.Frame.the-variants.{Tick}
 use Rattle.supervisor.specs.declared.tick.Due.{Due}
 use Rattle.supervisor.specs.declared.tick.Due.the-variants.{Nothing, Basic, Complete}
 use Rattle.supervisor.specs.declared.act.Acted.{Acted}

@@ -9,19 +9,19 @@ use lib.Dec.{T, eqb, leb}
 use borrow.Author.Tests.{ne-eqb, le-leb}
 use Rattle.choice.specs.Choice.{within}
 use Rattle.choice.proofs.ChoiceLaws.{is-true, holds, within-low, within-high, within-of}
-use Rattle.supervisor.specs.Answer.{answerNumber}
+use Rattle.frames.specs.Answer.{answerNumber}
 use Rattle.supervisor.specs.Range.{inRange}
-use Rattle.supervisor.specs.Frame.{readFrame}
+use Rattle.frames.specs.Frame.{readFrame}
 use Rattle.supervisor.specs.Act.{actOf}
 use Rattle.supervisor.specs.Tick.{ticked}
 use Rattle.supervisor.specs.Report.{reportBytes}
 use Rattle.supervisor.specs.Step.{stepOf, stepRead, refused, reported}
-use Rattle.supervisor.specs.declared.answer.Answer.{Answer}
-use Rattle.supervisor.specs.declared.answer.Answer.the-variants.{StateOutside, NoRoom}
-use Rattle.supervisor.specs.declared.frame.Frame.{Frame}
-use Rattle.supervisor.specs.declared.frame.Frame.the-variants.{Tick, Battery, Antennas, Order, Thresholds}
-use Rattle.supervisor.specs.declared.frame.Reading.{Reading}
-use Rattle.supervisor.specs.declared.frame.Reading.the-variants.{Refused, Accepted}
+use Rattle.frames.specs.declared.answer.Answer.{Answer}
+use Rattle.frames.specs.declared.answer.Answer.the-variants.{StateOutside, NoRoom}
+use Rattle.frames.specs.declared.frame.Frame.{Frame}
+use Rattle.frames.specs.declared.frame.Frame.the-variants.{Tick, Battery, Antennas, Order, Thresholds}
+use Rattle.frames.specs.declared.frame.Reading.{Reading}
+use Rattle.frames.specs.declared.frame.Reading.the-variants.{Refused, Accepted}
 use Rattle.supervisor.specs.declared.state.State.{State}
 use Rattle.supervisor.specs.declared.act.Acted.{Acted}
 use Rattle.promises.specs.History.{Call, called, HasRoom, isTick, doneTick}

@@ -9,21 +9,21 @@ use mathlib.Core.Logic.{_⊎_, inl, inr, ⊎-elim}
 use lib.Dec.{T, eqb, eqb→eq}
 use Rattle.choice.specs.Choice.{if_then_else_, within}
 use Rattle.choice.proofs.ChoiceLaws.{either}
-use Rattle.supervisor.specs.Answer.{answerNumber}
+use Rattle.frames.specs.Answer.{answerNumber}
 use Rattle.supervisor.specs.State.{withSerials}
-use Rattle.supervisor.specs.Serial.{classOf, lastOf, movedTo}
+use Rattle.frames.specs.Serial.{classOf, lastOf, movedTo}
 use Rattle.supervisor.specs.Order.{isIllTimed, requestSet, orderTaken, thresholdsTaken, datedAs}
 use Rattle.supervisor.specs.Tick.{ticked, controlled, moduleStage, beaconStage}
 use Rattle.supervisor.specs.Act.{actOf}
 use Rattle.supervisor.specs.Acted.{answered, done}
-use Rattle.supervisor.specs.declared.answer.Answer.the-variants.{Done, IllTimed}
-use Rattle.supervisor.specs.declared.serial.Origin.{Origin}
-use Rattle.supervisor.specs.declared.serial.Origin.the-variants.{Ground, Payload}
-use Rattle.supervisor.specs.declared.serial.Class.{Class}
-use Rattle.supervisor.specs.declared.serial.Class.the-variants.{Repeat, Fresh, Stale}
-use Rattle.supervisor.specs.declared.frame.Frame.{Frame}
-use Rattle.supervisor.specs.declared.frame.Frame.the-variants.{Tick, Battery, Antennas, Order, Thresholds}
-use Rattle.supervisor.specs.declared.frame.Reading.the-variants.{Accepted}
+use Rattle.frames.specs.declared.answer.Answer.the-variants.{Done, IllTimed}
+use Rattle.frames.specs.declared.serial.Origin.{Origin}
+use Rattle.frames.specs.declared.serial.Origin.the-variants.{Ground, Payload}
+use Rattle.frames.specs.declared.serial.Class.{Class}
+use Rattle.frames.specs.declared.serial.Class.the-variants.{Repeat, Fresh, Stale}
+use Rattle.frames.specs.declared.frame.Frame.{Frame}
+use Rattle.frames.specs.declared.frame.Frame.the-variants.{Tick, Battery, Antennas, Order, Thresholds}
+use Rattle.frames.specs.declared.frame.Reading.the-variants.{Accepted}
 use Rattle.supervisor.specs.declared.act.Acted.{Acted}
 use Rattle.supervisor.specs.declared.state.State.{State}
 use Rattle.promises.specs.History.{bears, sameOrigin, isTaken}

@@ -9,18 +9,18 @@ use lib.Dec.{T, eqb, ltb}
 use borrow.Author.Tests.{eqb-true, eqb-false, ne-eqb, ltb-true}
 use Rattle.choice.specs.Choice.{if_then_else_, within}
 use Rattle.choice.proofs.ChoiceLaws.{is-true, within-low, within-high}
-use Rattle.supervisor.specs.Answer.{answerNumber}
+use Rattle.frames.specs.Answer.{answerNumber}
 use Rattle.supervisor.specs.Range.{inRange}
-use Rattle.supervisor.specs.Serial.{serialCount, staleFrom, distance, classOf, lastOf}
-use Rattle.supervisor.specs.Frame.{readFrame}
+use Rattle.frames.specs.Serial.{serialCount, staleFrom, distance, classOf, lastOf}
+use Rattle.frames.specs.Frame.{readFrame}
 use Rattle.supervisor.specs.Act.{actOf}
 use Rattle.supervisor.specs.Tick.{ticked}
-use Rattle.supervisor.specs.declared.serial.Origin.{Origin}
-use Rattle.supervisor.specs.declared.serial.Class.{Class}
-use Rattle.supervisor.specs.declared.serial.Class.the-variants.{Repeat, Fresh, Stale}
-use Rattle.supervisor.specs.declared.frame.Frame.{Frame}
-use Rattle.supervisor.specs.declared.frame.Frame.the-variants.{Tick}
-use Rattle.supervisor.specs.declared.frame.Reading.the-variants.{Accepted}
+use Rattle.frames.specs.declared.serial.Origin.{Origin}
+use Rattle.frames.specs.declared.serial.Class.{Class}
+use Rattle.frames.specs.declared.serial.Class.the-variants.{Repeat, Fresh, Stale}
+use Rattle.frames.specs.declared.frame.Frame.{Frame}
+use Rattle.frames.specs.declared.frame.Frame.the-variants.{Tick}
+use Rattle.frames.specs.declared.frame.Reading.the-variants.{Accepted}
 use Rattle.supervisor.specs.declared.act.Acted.{Acted}
 use Rattle.supervisor.specs.declared.state.State.{State}
 use Rattle.promises.specs.History.{Call, called, answered, isTaken, after, bears, moduleAt}

@@ -8,7 +8,8 @@ use mathlib.Core.List.{List, [], _∷_}
 use lib.Dec.{T, eqb}
 use Rattle.choice.proofs.ChoiceLaws.{and-left, and-right, and-both, or-right, is-true}
 use Rattle.modules.specs.Stage.{modulesInRange}
-use Rattle.supervisor.specs.Range.{inRange, isReading, areThresholds}
+use Rattle.frames.specs.Frame.{isReading, areThresholds}
+use Rattle.supervisor.specs.Range.{inRange}
 use Rattle.supervisor.specs.Fresh.{freshState}
 use Rattle.supervisor.specs.Order.{requestSet, moduleAsked}
 use Rattle.supervisor.specs.Act.{actOf}

@@ -6,8 +6,8 @@ use Rattle.modules.specs.Power.{switched}
 use Rattle.modules.specs.Stage.{stageOf, requestedBy, modulesInRange}
 use Rattle.supervisor.specs.Range.{inRange}
 use Rattle.supervisor.specs.Fresh.{freshState}
-use Rattle.supervisor.specs.Serial.{classOf}
-use Rattle.supervisor.specs.Frame.{readFrame, totalOf, orderFields}
+use Rattle.frames.specs.Serial.{classOf}
+use Rattle.frames.specs.Frame.{readFrame, totalOf, orderFields}
 use Rattle.supervisor.specs.Order.{isIllTimed, requestSet}
 use Rattle.supervisor.specs.Tick.{ticked, controlled, moduleStage, beaconStage}
 use Rattle.supervisor.specs.Act.{actOf}

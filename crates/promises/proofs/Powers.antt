@@ -13,8 +13,8 @@ use Rattle.modules.specs.declared.power.Power.{Power}
 use Rattle.supervisor.specs.State.{coreFour, missionFour, withControl}
 use Rattle.supervisor.specs.Tick.{ticked, controlled, moduleStage, allowedIn, beaconStage}
 use Rattle.supervisor.specs.Act.{actOf}
-use Rattle.supervisor.specs.declared.frame.Frame.{Frame}
-use Rattle.supervisor.specs.declared.frame.Reading.the-variants.{Accepted}
+use Rattle.frames.specs.declared.frame.Frame.{Frame}
+use Rattle.frames.specs.declared.frame.Reading.the-variants.{Accepted}
 use Rattle.supervisor.specs.declared.state.Mode.the-variants.{Recovery, Safe}
 use Rattle.supervisor.specs.declared.state.State.{State}
 use Rattle.promises.specs.History.{Call, called, after, moduleAt, isTick}

@@ -8,13 +8,12 @@ use lib.ListN.{length}
 use lib.Dec.{T, eqb, leb}
 use Rattle.choice.specs.Choice.{within, word}
 use Rattle.choice.proofs.ChoiceLaws.{is-true, either, decided, holds, and-right}
-use Rattle.supervisor.specs.Answer.{answerNumber}
-use Rattle.supervisor.specs.Range.{isReading, areThresholds}
-use Rattle.supervisor.specs.Frame.{readFrame, fieldsOf, totalOf, byteAt, wordAt, batteryFields, antennasFields, orderFields, thresholdsFields, tickKind, batteryKind, antennasKind, orderKind}
-use Rattle.supervisor.specs.declared.frame.Frame.{Frame}
-use Rattle.supervisor.specs.declared.frame.Frame.the-variants.{Tick, Battery, Antennas, Order, Thresholds}
-use Rattle.supervisor.specs.declared.frame.Reading.{Reading}
-use Rattle.supervisor.specs.declared.frame.Reading.the-variants.{Refused, Accepted}
+use Rattle.frames.specs.Answer.{answerNumber}
+use Rattle.frames.specs.Frame.{readFrame, fieldsOf, totalOf, byteAt, wordAt, batteryFields, antennasFields, orderFields, thresholdsFields, tickKind, batteryKind, antennasKind, orderKind, isReading, areThresholds}
+use Rattle.frames.specs.declared.frame.Frame.{Frame}
+use Rattle.frames.specs.declared.frame.Frame.the-variants.{Tick, Battery, Antennas, Order, Thresholds}
+use Rattle.frames.specs.declared.frame.Reading.{Reading}
+use Rattle.frames.specs.declared.frame.Reading.the-variants.{Refused, Accepted}
 
 -- the fields of a frame are in their ranges
 abbrev pub Fits : Frame → Type 0

@@ -5,19 +5,19 @@ use mathlib.Core.Path.{_≡_, refl, sym, ap, _∙_}
 use mathlib.Core.List.{List, [], _∷_, _++_}
 use mathlib.Core.Logic.{⊎-elim}
 use lib.Dec.{T}
-use Rattle.supervisor.specs.Answer.{answerNumber}
+use Rattle.frames.specs.Answer.{answerNumber}
 use Rattle.supervisor.specs.Range.{inRange}
 use Rattle.supervisor.specs.Fresh.{freshState}
-use Rattle.supervisor.specs.Serial.{classOf, lastOf}
-use Rattle.supervisor.specs.Frame.{readFrame}
+use Rattle.frames.specs.Serial.{classOf, lastOf}
+use Rattle.frames.specs.Frame.{readFrame}
 use Rattle.supervisor.specs.Act.{actOf}
 use Rattle.supervisor.specs.Step.{stepRead}
-use Rattle.supervisor.specs.declared.serial.Origin.{Origin}
-use Rattle.supervisor.specs.declared.serial.Class.{Class}
-use Rattle.supervisor.specs.declared.serial.Class.the-variants.{Repeat, Fresh, Stale}
-use Rattle.supervisor.specs.declared.frame.Frame.{Frame}
-use Rattle.supervisor.specs.declared.frame.Reading.{Reading}
-use Rattle.supervisor.specs.declared.frame.Reading.the-variants.{Refused, Accepted}
+use Rattle.frames.specs.declared.serial.Origin.{Origin}
+use Rattle.frames.specs.declared.serial.Class.{Class}
+use Rattle.frames.specs.declared.serial.Class.the-variants.{Repeat, Fresh, Stale}
+use Rattle.frames.specs.declared.frame.Frame.{Frame}
+use Rattle.frames.specs.declared.frame.Reading.{Reading}
+use Rattle.frames.specs.declared.frame.Reading.the-variants.{Refused, Accepted}
 use Rattle.supervisor.specs.declared.act.Acted.{Acted}
 use Rattle.supervisor.specs.declared.state.State.{State}
 use Rattle.promises.specs.History.{Call, called, answered, after, HasRoom, Roomy, bears}

@@ -10,7 +10,7 @@ use Rattle.supervisor.specs.State.{coreFour, missionFour, withMode, withControl
 use Rattle.supervisor.specs.Range.{judgeTicks}
 use Rattle.supervisor.specs.Acted.{done}
 use Rattle.supervisor.specs.Tick.{ticked, phaseTicked, controlled, crossedTo, moduleStage, beaconStage}
-use Rattle.supervisor.specs.declared.answer.Answer.the-variants.{Done}
+use Rattle.frames.specs.declared.answer.Answer.the-variants.{Done}
 use Rattle.supervisor.specs.declared.state.Phase.{Phase}
 use Rattle.supervisor.specs.declared.state.Mode.{Mode}
 use Rattle.supervisor.specs.declared.state.Mode.the-variants.{DeployWait, Recovery, Safe}

@@ -4,13 +4,13 @@ use Prim.Native.Nat.{ℕ}
 use mathlib.Core.Path.{_≡_, refl, ap, _∙_}
 use mathlib.Core.List.{[], _∷_}
 use Rattle.choice.specs.Choice.{if_then_else_}
-use Rattle.supervisor.specs.Serial.{classOf, lastOf, movedTo}
-use Rattle.supervisor.specs.declared.serial.Origin.{Origin}
-use Rattle.supervisor.specs.declared.serial.Origin.the-variants.{Ground, Payload}
-use Rattle.supervisor.specs.declared.serial.Class.{Class}
-use Rattle.supervisor.specs.declared.serial.Class.the-variants.{Repeat, Fresh, Stale}
-use Rattle.supervisor.specs.declared.frame.Frame.{Frame}
-use Rattle.supervisor.specs.declared.frame.Reading.the-variants.{Accepted}
+use Rattle.frames.specs.Serial.{classOf, lastOf, movedTo}
+use Rattle.frames.specs.declared.serial.Origin.{Origin}
+use Rattle.frames.specs.declared.serial.Origin.the-variants.{Ground, Payload}
+use Rattle.frames.specs.declared.serial.Class.{Class}
+use Rattle.frames.specs.declared.serial.Class.the-variants.{Repeat, Fresh, Stale}
+use Rattle.frames.specs.declared.frame.Frame.{Frame}
+use Rattle.frames.specs.declared.frame.Reading.the-variants.{Accepted}
 use Rattle.supervisor.specs.declared.act.Acted.{Acted}
 use Rattle.supervisor.specs.declared.state.State.{State}
 use Rattle.promises.specs.History.{bears, sameOrigin}

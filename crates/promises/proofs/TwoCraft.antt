@@ -10,11 +10,11 @@ use lib.Dec.{T}
 use Rattle.choice.specs.Choice.{word}
 use Rattle.supervisor.specs.Range.{inRange}
 use Rattle.supervisor.specs.Fresh.{freshState}
-use Rattle.supervisor.specs.Frame.{readFrame}
+use Rattle.frames.specs.Frame.{readFrame}
 use Rattle.supervisor.specs.Act.{actOf}
 use Rattle.supervisor.specs.Step.{stepRead}
-use Rattle.supervisor.specs.declared.frame.Reading.{Reading}
-use Rattle.supervisor.specs.declared.frame.Reading.the-variants.{Refused, Accepted}
+use Rattle.frames.specs.declared.frame.Reading.{Reading}
+use Rattle.frames.specs.declared.frame.Reading.the-variants.{Refused, Accepted}
 use Rattle.supervisor.specs.declared.state.State.{State}
 use Rattle.promises.specs.History.{Call, called, after, HasRoom, Roomy, moduleAt, isMission}
 use Rattle.promises.specs.TwoCraft.{TwoCraft, AsGood, same, higher, Paired, start, next, shorted, NeverShorted}

@@ -8,19 +8,19 @@ use lib.Dec.{T, eqb, leb, leb→le}
 use borrow.Author.Tests.{eqb-true}
 use Rattle.choice.specs.Choice.{if_then_else_}
 use Rattle.choice.proofs.ChoiceLaws.{and-right, sooner}
+use Rattle.frames.specs.Frame.{isReading}
 use Rattle.supervisor.specs.State.{withSerials, withTension}
-use Rattle.supervisor.specs.Range.{isReading}
-use Rattle.supervisor.specs.Serial.{classOf, lastOf, movedTo}
+use Rattle.frames.specs.Serial.{classOf, lastOf, movedTo}
 use Rattle.supervisor.specs.Acted.{answered, done}
 use Rattle.supervisor.specs.Order.{inSafe, isIllTimed, requestSet, orderTaken, thresholdsTaken, dated, datedAs}
 use Rattle.supervisor.specs.Act.{actOf}
-use Rattle.supervisor.specs.declared.answer.Answer.the-variants.{IllTimed}
-use Rattle.supervisor.specs.declared.serial.Origin.{Origin}
-use Rattle.supervisor.specs.declared.serial.Origin.the-variants.{Ground}
-use Rattle.supervisor.specs.declared.serial.Class.{Class}
-use Rattle.supervisor.specs.declared.serial.Class.the-variants.{Repeat, Fresh, Stale}
-use Rattle.supervisor.specs.declared.frame.Frame.{Frame}
-use Rattle.supervisor.specs.declared.frame.Frame.the-variants.{Tick, Battery, Antennas, Order, Thresholds}
+use Rattle.frames.specs.declared.answer.Answer.the-variants.{IllTimed}
+use Rattle.frames.specs.declared.serial.Origin.{Origin}
+use Rattle.frames.specs.declared.serial.Origin.the-variants.{Ground}
+use Rattle.frames.specs.declared.serial.Class.{Class}
+use Rattle.frames.specs.declared.serial.Class.the-variants.{Repeat, Fresh, Stale}
+use Rattle.frames.specs.declared.frame.Frame.{Frame}
+use Rattle.frames.specs.declared.frame.Frame.the-variants.{Tick, Battery, Antennas, Order, Thresholds}
 use Rattle.supervisor.specs.declared.state.State.{State}
 use Rattle.supervisor.specs.declared.act.Acted.{Acted}
 use Rattle.promises.specs.History.{isMission}

@@ -9,10 +9,10 @@ use Rattle.choice.specs.Choice.{if_then_else_}
 use Rattle.modules.specs.Power.{isOn}
 use Rattle.supervisor.specs.State.{modeNumber}
 use Rattle.supervisor.specs.Fresh.{freshState}
-use Rattle.supervisor.specs.Frame.{readFrame}
-use Rattle.supervisor.specs.declared.frame.Frame.the-variants.{Tick, Battery, Antennas, Order, Thresholds}
-use Rattle.supervisor.specs.declared.frame.Reading.{Reading}
-use Rattle.supervisor.specs.declared.frame.Reading.the-variants.{Refused, Accepted}
+use Rattle.frames.specs.Frame.{readFrame}
+use Rattle.frames.specs.declared.frame.Frame.the-variants.{Tick, Battery, Antennas, Order, Thresholds}
+use Rattle.frames.specs.declared.frame.Reading.{Reading}
+use Rattle.frames.specs.declared.frame.Reading.the-variants.{Refused, Accepted}
 use Rattle.supervisor.specs.declared.state.Mode.{Mode}
 use Rattle.supervisor.specs.declared.state.State.{State}
 use Rattle.promises.specs.History.{Call, called, answered, after, doneTick, moduleAt, isMission}

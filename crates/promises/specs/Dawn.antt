@@ -6,11 +6,11 @@ use mathlib.Core.Bool.{Bool, true, false}
 use mathlib.Core.List.{List, [], _∷_}
 use lib.Dec.{T}
 use Rattle.choice.specs.Choice.{if_then_else_, within}
-use Rattle.supervisor.specs.Serial.{serialCount, distance, lastOf}
-use Rattle.supervisor.specs.Frame.{readFrame}
-use Rattle.supervisor.specs.declared.serial.Origin.{Origin}
-use Rattle.supervisor.specs.declared.frame.Frame.the-variants.{Order}
-use Rattle.supervisor.specs.declared.frame.Reading.the-variants.{Accepted}
+use Rattle.frames.specs.Serial.{serialCount, distance, lastOf}
+use Rattle.frames.specs.Frame.{readFrame}
+use Rattle.frames.specs.declared.serial.Origin.{Origin}
+use Rattle.frames.specs.declared.frame.Frame.the-variants.{Order}
+use Rattle.frames.specs.declared.frame.Reading.the-variants.{Accepted}
 use Rattle.supervisor.specs.declared.state.State.{State}
 use Rattle.promises.specs.History.{Call, called, answered, isTaken, after, HasRoom, bears, moduleAt}
 

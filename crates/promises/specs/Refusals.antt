@@ -7,10 +7,10 @@ use lib.Dec.{T}
 use lib.ListN.{drop}
 use Rattle.choice.specs.Choice.{within}
 use Rattle.supervisor.specs.State.{withSerials}
-use Rattle.supervisor.specs.Serial.{movedTo}
-use Rattle.supervisor.specs.Frame.{readFrame}
+use Rattle.frames.specs.Serial.{movedTo}
+use Rattle.frames.specs.Frame.{readFrame}
 use Rattle.supervisor.specs.Report.{reportBytes}
-use Rattle.supervisor.specs.declared.serial.Origin.{Origin}
+use Rattle.frames.specs.declared.serial.Origin.{Origin}
 use Rattle.supervisor.specs.declared.state.State.{State}
 use Rattle.morse.specs.Answers.{Reply, Outcome}
 use Rattle.morse.specs.Keying.{keyOf, keyReply}

@@ -9,12 +9,11 @@ use lib.Dec.{T}
 use Rattle.choice.specs.Choice.{word, bit}
 use Rattle.modules.specs.Power.{isOn}
 use Rattle.supervisor.specs.State.{modeNumber}
-use Rattle.supervisor.specs.Range.{isReading}
 use Rattle.supervisor.specs.Fresh.{freshState}
-use Rattle.supervisor.specs.Frame.{readFrame, batteryKind}
-use Rattle.supervisor.specs.declared.frame.Frame.the-variants.{Tick, Battery, Antennas, Order, Thresholds}
-use Rattle.supervisor.specs.declared.frame.Reading.{Reading}
-use Rattle.supervisor.specs.declared.frame.Reading.the-variants.{Refused, Accepted}
+use Rattle.frames.specs.Frame.{readFrame, batteryKind, isReading}
+use Rattle.frames.specs.declared.frame.Frame.the-variants.{Tick, Battery, Antennas, Order, Thresholds}
+use Rattle.frames.specs.declared.frame.Reading.{Reading}
+use Rattle.frames.specs.declared.frame.Reading.the-variants.{Refused, Accepted}
 use Rattle.supervisor.specs.declared.state.State.{State}
 use Rattle.promises.specs.History.{Call, after, Roomy, moduleAt, isMission}
 

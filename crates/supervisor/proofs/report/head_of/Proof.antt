@@ -1,3 +1,5 @@
+-- `head_of` meets its contract.
+-- Assumes nothing.
 use borrow.Author.Needs.{needs}
 use Rattle.supervisor.proofs.report.head_of.Statement.{statement}
 use Rattle.supervisor.proofs.report.head_of.Tie as tie
@@ -30,19 +32,19 @@ enum-known-frame-2 : tie.Need-enum-known-frame-2
 enum-known-frame-2 c = search needs
 
 returns : tie.Need-returns
-returns c = search needs
+returns c = simp (c .before .enum-told .given .1, c .bare .ensures)
 
 returns-2 : tie.Need-returns-2
-returns-2 c = search needs
+returns-2 c = simp (c .before .enum-told2 .given .1, c .bare2 .ensures)
 
 returns-3 : tie.Need-returns-3
-returns-3 c = search needs
+returns-3 c = simp (c .before .enum-told3 .given .1, c .bare3 .ensures)
 
 returns-4 : tie.Need-returns-4
-returns-4 c = search needs
+returns-4 c = simp (c .before .before .frame .given .1, c .origin-number .ensures)
 
 returns-5 : tie.Need-returns-5
-returns-5 c = search needs
+returns-5 c = simp (c .before .frame2 .given .1)
 
 pub head-of-spec : {M : Type 1} → statement M
 head-of-spec =

@@ -1,3 +1,6 @@
+-- `Mode::crossing` meets its contract.
+-- Assumes nothing.
+use borrow.Author.Tests.{lt-ltb, le-ltb}
 use borrow.Author.Needs.{needs}
 use Rattle.supervisor.proofs.state.Mode.crossing.Statement.{statement}
 use Rattle.supervisor.proofs.state.Mode.crossing.Tie as tie
@@ -15,16 +18,16 @@ returns : tie.Need-returns
 returns c = search needs
 
 returns-2 : tie.Need-returns-2
-returns-2 c = search needs
+returns-2 c = simp (c .before .before .enum-told2 .given .1, lt-ltb _ _ (c .if1 .taken))
 
 returns-3 : tie.Need-returns-3
-returns-3 c = search needs
+returns-3 c = simp (c .before .before .enum-told2 .given .1, le-ltb _ _ (c .if1 .left))
 
 returns-4 : tie.Need-returns-4
-returns-4 c = search needs
+returns-4 c = simp (c .before .before .enum-told3 .given .1, lt-ltb _ _ (c .if2 .taken))
 
 returns-5 : tie.Need-returns-5
-returns-5 c = search needs
+returns-5 c = simp (c .before .before .enum-told3 .given .1, le-ltb _ _ (c .if2 .left))
 
 pub crossing-spec : {M : Type 1} → statement M
 crossing-spec =

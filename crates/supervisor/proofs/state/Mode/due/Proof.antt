@@ -1,3 +1,6 @@
+-- `Mode::due` meets its contract.
+-- Assumes nothing.
+use borrow.Author.Tests.{eq-eqb, ne-eqb}
 use borrow.Author.Needs.{needs}
 use Rattle.supervisor.proofs.state.Mode.due.Statement.{statement}
 use Rattle.supervisor.proofs.state.Mode.due.Tie as tie
@@ -15,16 +18,16 @@ returns : tie.Need-returns
 returns c = search needs
 
 returns-2 : tie.Need-returns-2
-returns-2 c = search needs
+returns-2 c = simp (c .before .enum-told2 .given .1, eq-eqb _ _ (c .if1 .taken))
 
 returns-3 : tie.Need-returns-3
-returns-3 c = search needs
+returns-3 c = simp (c .before .enum-told2 .given .1, ne-eqb _ _ (c .if1 .left))
 
 returns-4 : tie.Need-returns-4
-returns-4 c = search needs
+returns-4 c = simp (c .before .enum-told3 .given .1, eq-eqb _ _ (c .if2 .taken))
 
 returns-5 : tie.Need-returns-5
-returns-5 c = search needs
+returns-5 c = simp (c .before .enum-told3 .given .1, ne-eqb _ _ (c .if2 .left))
 
 pub due-spec : {M : Type 1} → statement M
 due-spec =

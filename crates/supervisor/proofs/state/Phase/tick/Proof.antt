@@ -1,4 +1,11 @@
+-- `Phase::tick` meets its contract.
+-- Assumes nothing.
+use native.Mathlib.Omega.{arith}
+use borrow.Author.Tests.{ltb-true, eq-eqb, ne-eqb}
 use borrow.Author.Needs.{needs}
+use Rattle.choice.specs.Choice.{within}
+use Rattle.supervisor.specs.Range.{waitSeconds, settleSeconds}
+use Rattle.choice.proofs.ChoiceLaws.{holds, within-low}
 use Rattle.supervisor.proofs.state.Phase.tick.Statement.{statement}
 use Rattle.supervisor.proofs.state.Phase.tick.Tie as tie
 
@@ -6,25 +13,25 @@ enum-known-self : tie.Need-enum-known-self
 enum-known-self c = search needs
 
 add-now : tie.Need-add-now
-add-now c = search needs
+add-now c = omega (arith, ltb-true (c .before .self .given .0 .0) waitSeconds (rw (c .before .self .given .1) at (c .before .before .before .pre)))
 
 enum-known-self-2 : tie.Need-enum-known-self-2
 enum-known-self-2 c = search needs
 
 sub-now : tie.Need-sub-now
-sub-now c = search needs
+sub-now c = omega (arith, within-low 1 settleSeconds (c .before .self2 .given .0 .0) (holds (within 1 settleSeconds (c .before .self2 .given .0 .0)) (rw (c .before .self2 .given .1) at (c .before .before .before .pre))))
 
 returns : tie.Need-returns
-returns c = search needs
+returns c = simp (c .before .before .self .given .1, c .if1 .taken)
 
 returns-2 : tie.Need-returns-2
-returns-2 c = search needs
+returns-2 c = simp (c .before .before .self .given .1, c .if1 .left)
 
 returns-3 : tie.Need-returns-3
-returns-3 c = search needs
+returns-3 c = simp (c .before .before .self2 .given .1, eq-eqb _ _ (c .if2 .taken))
 
 returns-4 : tie.Need-returns-4
-returns-4 c = search needs
+returns-4 c = simp (c .before .before .self2 .given .1, ne-eqb _ _ (c .if2 .left))
 
 pub tick-spec : {M : Type 1} → statement M
 tick-spec =

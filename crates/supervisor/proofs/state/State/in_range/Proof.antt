@@ -1,4 +1,7 @@
+-- `State::in_range` meets its contract.
+-- Assumes nothing.
 use borrow.Author.Needs.{needs}
+use Rattle.supervisor.specs.Range.{inRange}
 use Rattle.supervisor.proofs.state.State.in_range.Statement.{statement}
 use Rattle.supervisor.proofs.state.State.in_range.Tie as tie
 
@@ -12,7 +15,8 @@ in-range-requires-3 : tie.Need-in-range-requires-3
 in-range-requires-3 c κs = search needs
 
 returns : tie.Need-returns
-returns c = search needs
+unfolding inRange
+returns c = simp (c .in-range3 .ensures, c .before .in-range2 .ensures, c .before .before .in-range .ensures)
 
 pub in-range-spec : {M : Type 1} → statement M
 in-range-spec =

@@ -1,3 +1,5 @@
+-- `State::order` meets its contract.
+-- Assumes nothing.
 use borrow.Author.Needs.{needs}
 use Rattle.supervisor.proofs.state.State.order.Statement.{statement}
 use Rattle.supervisor.proofs.state.State.order.Tie as tie
@@ -36,16 +38,16 @@ answered-requires-4 : tie.Need-answered-requires-4
 answered-requires-4 c κs = search needs
 
 returns : tie.Need-returns
-returns c = search needs
+returns c = simp (c .answered .ensures, rw (c .before .before .before .class .ensures) at (c .before .enum-told .given .1))
 
 returns-2 : tie.Need-returns-2
-returns-2 c = search needs
+returns-2 c = simp (c .answered2 .ensures, rw (c .before .before .before .class .ensures) at (c .before .enum-told2 .given .1))
 
 returns-3 : tie.Need-returns-3
-returns-3 c = search needs
+returns-3 c = simp (c .answered3 .ensures, c .before .before .before .before .moved .ensures, rw (c .before .before .before .before .before .before .before .class .ensures) at (c .before .before .before .before .before .enum-told3 .given .1), rw (c .before .before .is-ill-timed .ensures) at (c .before .if1 .taken))
 
 returns-4 : tie.Need-returns-4
-returns-4 c = search needs
+returns-4 c = simp (c .answered4 .ensures, c .before .request .ensures, c .before .before .before .before .before .moved .ensures, rw (c .before .before .before .before .before .before .before .before .class .ensures) at (c .before .before .before .before .before .before .enum-told3 .given .1), rw (c .before .before .before .is-ill-timed .ensures) at (c .before .before .if1 .left))
 
 pub order-spec : {M : Type 1} → statement M
 order-spec =

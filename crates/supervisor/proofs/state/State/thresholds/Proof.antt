@@ -1,3 +1,5 @@
+-- `State::thresholds` meets its contract.
+-- Assumes nothing.
 use borrow.Author.Needs.{needs}
 use Rattle.supervisor.proofs.state.State.thresholds.Statement.{statement}
 use Rattle.supervisor.proofs.state.State.thresholds.Tie as tie
@@ -27,13 +29,13 @@ answered-requires-3 : tie.Need-answered-requires-3
 answered-requires-3 c κs = search needs
 
 returns : tie.Need-returns
-returns c = search needs
+returns c = simp (c .answered .ensures, rw (c .before .before .before .class .ensures) at (c .before .enum-told .given .1))
 
 returns-2 : tie.Need-returns-2
-returns-2 c = search needs
+returns-2 c = simp (c .answered2 .ensures, rw (c .before .before .before .class .ensures) at (c .before .enum-told2 .given .1))
 
 returns-3 : tie.Need-returns-3
-returns-3 c = search needs
+returns-3 c = simp (c .answered3 .ensures, c .before .before .before .moved .ensures, rw (c .before .before .before .before .before .before .class .ensures) at (c .before .before .before .before .enum-told3 .given .1))
 
 pub thresholds-spec : {M : Type 1} → statement M
 thresholds-spec =

@@ -1,0 +1,4 @@
+pub mod OrderLaws
+pub mod TickLaws
+pub mod Unique
+pub mod ShutOut

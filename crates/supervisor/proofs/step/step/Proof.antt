@@ -1,0 +1,60 @@
+-- `step` meets its contract.
+-- Assumes nothing.
+use borrow.Author.Tests.{le-leb, lt-leb, not-false, not-true}
+use borrow.Author.Needs.{needs}
+use Rattle.supervisor.specs.Step.{stepOf}
+use Rattle.supervisor.proofs.step.step.Statement.{statement}
+use Rattle.supervisor.proofs.step.step.Tie as tie
+
+in-range-requires : tie.Need-in-range-requires
+in-range-requires c κs = search needs
+
+returns : tie.Need-returns
+unfolding stepOf
+returns c = simp (rw (c .before .in-range .ensures) at (not-true (c .before .in-range .result) (c .if1 .taken)))
+
+returns-2 : tie.Need-returns-2
+unfolding stepOf
+returns-2 c = simp (rw (c .before .before .in-range .ensures) at (not-false (c .before .before .in-range .result) (c .before .if1 .left)), lt-leb _ _ (c .if2 .taken))
+
+read-requires : tie.Need-read-requires
+read-requires c κs = search needs
+
+enum-known-answer : tie.Need-enum-known-answer
+enum-known-answer c = search needs
+
+enum-known-frame : tie.Need-enum-known-frame
+enum-known-frame c = search needs
+
+act-requires : tie.Need-act-requires
+act-requires c κs = rw (c .before .before .before .before .before .before .in-range .ensures) at (not-false (c .before .before .before .before .before .before .in-range .result) (c .before .before .before .before .before .if1 .left))
+
+write-requires : tie.Need-write-requires
+write-requires c κs = search needs
+
+returns-3 : tie.Need-returns-3
+unfolding stepOf
+returns-3 c = simp (rw (c .before .before .before .before .before .before .in-range .ensures) at (not-false (c .before .before .before .before .before .before .in-range .result) (c .before .before .before .before .before .if1 .left)), le-leb _ _ (c .before .before .before .before .if2 .left), rw (c .before .before .before .read .ensures) at (c .before .answer .given .1))
+
+same-length : tie.Need-same-length
+same-length c = search needs
+
+returns-4 : tie.Need-returns-4
+unfolding stepOf
+returns-4 c = simp (rw (c .before .before .before .before .before .before .before .before .before .before .before .before .in-range .ensures) at (not-false (c .before .before .before .before .before .before .before .before .before .before .before .before .in-range .result) (c .before .before .before .before .before .before .before .before .before .before .before .if1 .left)), le-leb _ _ (c .before .before .before .before .before .before .before .before .before .before .if2 .left), rw (c .before .before .before .before .before .before .before .before .before .read .ensures) at (c .before .before .before .before .before .before .before .frame .given .1), c .before .before .before .write .ensures, c .before .before .before .before .before .act .ensures)
+
+pub step-spec : {M : Type 1} → statement M
+step-spec =
+    tie.close
+    (tie.spec
+    in-range-requires
+    returns
+    returns-2
+    read-requires
+    enum-known-answer
+    enum-known-frame
+    act-requires
+    write-requires
+    returns-3
+    same-length
+    returns-4)
