@@ -24,9 +24,10 @@ use Rattle.frames.specs.declared.frame.Frame.the-variants.{Tick}
 use Rattle.supervisor.specs.declared.tick.Due.{Due}
 use Rattle.supervisor.specs.declared.tick.Due.the-variants.{Nothing, Basic, Complete}
 use Rattle.supervisor.specs.declared.act.Acted.{Acted}
+use Rattle.supervisor.proofs.TickLaws.{stages-beacon}
 use Rattle.promises.specs.History.{Call, called, doneTick, inDeployWait}
 use Rattle.promises.specs.NeverSilent.{beaconByte, beaconDue}
-use Rattle.promises.proofs.TickLaws.{Ticks, waits, runs, ticks, Controls, level, upward, downward, controls}
+use Rattle.promises.proofs.TickLaws.{Ticks, waits, runs, ticks}
 use Rattle.promises.proofs.ActLaws.{watch-still}
 use Rattle.promises.proofs.Calls.{Works, Comes, stopped, second, other}
 
@@ -47,20 +48,14 @@ not-sixty (DeployWait phase) count e d z = omega arith
 not-sixty Recovery count e d z = omega arith
 not-sixty Safe count e d z = let due : _≡_ {A = ℕ} 2 0 = rw z at d in omega arith
 
--- control leaves the beacon count
-controlled-beacon : (s : State) → Controls s → controlled s .watch .beacon ≡ s .watch .beacon
-controlled-beacon s (level count low w) = rw w
-controlled-beacon s (upward e w) = rw w
-controlled-beacon s (downward e w) = rw w
-
 -- the three stages, with none due
 module _ (shorts : ℕ) (s : State) where
   staged : State
   staged = moduleStage shorts (controlled s)
 
   staged-beacon : staged .watch .beacon ≡ s .watch .beacon
-  unfolding staged moduleStage
-  staged-beacon = controlled-beacon s (controls s)
+  unfolding staged
+  staged-beacon = stages-beacon shorts s
 
   silent-count : dueNumber (beaconStage staged .due) ≡ 0 → beaconStage staged .state .watch .beacon ≡ s .watch .beacon + 1
   unfolding beaconStage

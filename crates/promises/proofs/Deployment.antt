@@ -16,6 +16,7 @@ use Rattle.supervisor.specs.declared.state.Phase.the-variants.{Waiting, Settlin
 use Rattle.supervisor.specs.declared.state.Mode.{Mode}
 use Rattle.supervisor.specs.declared.state.Mode.the-variants.{DeployWait, Recovery, Safe}
 use Rattle.supervisor.specs.declared.state.State.{State}
+use Rattle.supervisor.proofs.TickLaws.{inRange-phase}
 use Rattle.promises.specs.History.{Call, called, after, doneTick, doneTicks, isDeployWait, inDeployWait}
 use Rattle.promises.specs.Deployment.{Deployment}
 use Rattle.promises.proofs.Calls.{Comes, stopped, second, other, comes}
@@ -64,10 +65,8 @@ ticked-flies shorts s e (waits phase m w) = absurd (true≢false (rw m at e))
 ticked-flies shorts s e (runs f w) = rw w (controlled-flies s e (controls s))
 
 ticked-left : (shorts : ℕ) (s : State) → T (inRange s) → Ticks shorts s → secondsLeft (ticked shorts s .state .watch .mode) ≤ secondsLeft (s .watch .mode) - 1
-ticked-left shorts s h (waits phase e w) = rw (w, e) (phase-left (s .antennas) phase (deploying phase (s .watch .control) (s .watch .beacon) (rw e at (parts s h .watch))))
-  where
-    deploying : (p : Phase) (c b : ℕ) → T (watchInRange (DeployWait p) c b) → T (phaseInRange p)
-    deploying p c b t = search (and-left)
+ticked-left shorts s h (waits phase e w) =
+    rw (w, e) (phase-left (s .antennas) phase (inRange-phase phase (s .watch .control) (s .watch .beacon) (rw e at (parts s h .watch))))
 ticked-left shorts s h (runs e w) = omega (arith, none-left (ticked shorts s .state .watch .mode) (ticked-flies shorts s e (runs e w)))
 
 -- a call takes off as many seconds as it is done ticks

@@ -43,7 +43,7 @@ valid-still =
 
 by-comes : (s : State) (c : Call) → T (inRange s) → Comes s c → T (inRange (called s c .state))
 by-comes s c h (stopped answer w) = rw (w .left) h
-by-comes s c h (second shorts w) = rw (w .left) (whole _ (ticked-valid shorts s (parts s h)))
+by-comes s c h (second shorts w) = rw (w .left) (whole _ (ticked-valid shorts s (is-true (inRange s) h) (parts s h)))
 by-comes s c h (other frame e w) = rw (w .left) (whole _ (act-still Valid valid-still frame (w .fits) e s (parts s h)))
 
 pub called-in-range : (s : State) (c : Call) → T (inRange s) → T (inRange (called s c .state))

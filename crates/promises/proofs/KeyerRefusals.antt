@@ -8,7 +8,7 @@ use lib.Dec.{T, ltb}
 use lib.ListN.{length}
 use Rattle.choice.specs.Choice.{within}
 use Rattle.choice.proofs.ChoiceLaws.{either}
-use Rattle.morse.specs.Answers.{Outcome, outcome}
+use Rattle.morse.specs.Answers.{Outcome}
 use Rattle.morse.specs.Texts.{faultOf}
 use Rattle.morse.specs.Units.{unitsOf}
 use Rattle.morse.specs.Keying.{keyOf, keyBy, keyUnits, keyReply}

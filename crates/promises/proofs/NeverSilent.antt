@@ -7,13 +7,14 @@ use mathlib.Core.Bool.{Bool, true, false, _||_, true≢false}
 use mathlib.Core.List.{List, [], _∷_}
 use lib.Dec.{T}
 use Rattle.choice.proofs.ChoiceLaws.{is-true, holds}
-use Rattle.supervisor.specs.Range.{inRange, basicTicks, judgeTicks}
+use Rattle.supervisor.specs.Range.{inRange}
 use Rattle.supervisor.specs.declared.state.State.{State}
+use Rattle.supervisor.proofs.TickLaws.{beacon-low}
 use Rattle.promises.specs.History.{Call, called, after, doneTick, doneTicks, inDeployWait}
 use Rattle.promises.specs.NeverSilent.{NeverSilent, beaconDue, someDue, SafeTicks, fiveMinutes}
 use Rattle.promises.proofs.Calls.{Comes, stopped, second, other, comes}
-use Rattle.promises.proofs.RangeTick.{counts-of}
-use Rattle.promises.proofs.InRange.{parts, after-in-range}
+use Rattle.promises.proofs.TickLaws.{in-flight}
+use Rattle.promises.proofs.InRange.{after-in-range}
 use Rattle.promises.proofs.Deployment.{stays-over}
 use Rattle.promises.proofs.BeaconLaws.{call-count, call-sixty}
 
@@ -50,9 +51,8 @@ below-five-minutes : (cs : List Call) (s : State) (valid : Bool) → inRange s �
 below-five-minutes cs s false e out h = omega (arith, no-ticks cs s e)
 below-five-minutes cs s true e out h =
     let t : State = after s cs in
-    let counts : (t .watch .control < judgeTicks) × (t .watch .beacon < basicTicks) =
-    counts-of (t .watch .mode) (t .watch .control) (t .watch .beacon) (stays-over s cs out) (parts t (after-in-range cs s (holds (inRange s) e)) .watch) in
-    omega (arith, silent-count cs s out h)
+    let valid : inRange t ≡ true = is-true (inRange t) (after-in-range cs s (holds (inRange s) e)) in
+    omega (arith, silent-count cs s out h, beacon-low t valid (in-flight (t .watch .mode) (stays-over s cs out)))
 
 -- what is not silent has a beacon due
 not-silent : (due : Bool) → (due ≡ false → ⊥) → T due

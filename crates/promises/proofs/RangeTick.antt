@@ -15,7 +15,7 @@ use Rattle.modules.specs.Stage.{stageOf, requestedBy, modulesInRange, moduleSec
 use Rattle.modules.proofs.PowerLaws.{switched-in-range}
 use Rattle.modules.specs.declared.power.Module.{Module}
 use Rattle.supervisor.specs.State.{coreFour, missionFour, withControl}
-use Rattle.supervisor.specs.Range.{watchInRange, phaseInRange, batteryInRange, waitSeconds, settleSeconds, judgeTicks, basicTicks}
+use Rattle.supervisor.specs.Range.{inRange, watchInRange, phaseInRange, batteryInRange, waitSeconds, settleSeconds, judgeTicks, basicTicks}
 use Rattle.supervisor.specs.Tick.{ticked, phaseTicked, controlled, crossedTo, moduleStage, allowedIn, beaconStage, dueAt, countAfter}
 use Rattle.supervisor.specs.declared.state.Phase.{Phase}
 use Rattle.supervisor.specs.declared.state.Phase.the-variants.{Waiting, Settling}
@@ -23,8 +23,9 @@ use Rattle.supervisor.specs.declared.state.Mode.{Mode}
 use Rattle.supervisor.specs.declared.state.Mode.the-variants.{DeployWait, Recovery, Safe}
 use Rattle.supervisor.specs.declared.state.State.{State}
 use Rattle.supervisor.specs.declared.tick.Due.{Due}
+use Rattle.supervisor.proofs.TickLaws.{inFlight, inRange-phase, control-low, beacon-low}
 use Rattle.promises.specs.History.{isDeployWait}
-use Rattle.promises.proofs.TickLaws.{Ticks, waits, runs, ticks, Controls, level, upward, downward, controls}
+use Rattle.promises.proofs.TickLaws.{Ticks, waits, runs, ticks, in-flight, Controls, level, upward, downward, controls}
 
 -- the parts of check 1
 abbrev pub Valid : State → Type 0
@@ -45,14 +46,6 @@ Running s =
       battery : T (batteryInRange (s .battery));
       modules : T (modulesInRange (s .modules));
     }
-
-counts : (c b : ℕ) → T (ltb c judgeTicks && ltb b basicTicks) → (c < judgeTicks) × (b < basicTicks)
-counts c b h = (ltb→lt c judgeTicks (and-left (ltb c judgeTicks) (ltb b basicTicks) h), ltb→lt b basicTicks (and-right (ltb c judgeTicks) (ltb b basicTicks) h))
-
-pub counts-of : (m : Mode) (c b : ℕ) → isDeployWait m ≡ false → T (watchInRange m c b) → (c < judgeTicks) × (b < basicTicks)
-counts-of (DeployWait phase) c b e h = absurd (true≢false e)
-counts-of Recovery c b e h = counts c b h
-counts-of Safe c b e h = counts c b h
 
 counted : (c b : ℕ) → c < judgeTicks → b < basicTicks → T (ltb c judgeTicks && ltb b basicTicks)
 counted c b p q = and-both (ltb c judgeTicks) (ltb b basicTicks) (lt→ltb c judgeTicks p) (lt→ltb b basicTicks q)
@@ -135,17 +128,20 @@ phase-valid antennas (Settling left) c b h z =
     (λ e. phase-counts (Settling (left - 1)) c b
     (within-of 1 settleSeconds (left - 1) (omega (arith, eqb-false (left - 1) 0 e)) (omega (arith, within-high 1 settleSeconds left h))) z)
 
-zeros : (p : Phase) (c b : ℕ) → T (watchInRange (DeployWait p) c b) → T (phaseInRange p) × (c ≡ 0) × (b ≡ 0)
-zeros p c b h = (search (and-left, and-right), eqb→eq c 0 (search (and-left, and-right)), eqb→eq b 0 (search (and-left, and-right)))
+zeros : (p : Phase) (c b : ℕ) → T (watchInRange (DeployWait p) c b) → (c ≡ 0) × (b ≡ 0)
+zeros p c b h = (eqb→eq c 0 (search (and-left, and-right)), eqb→eq b 0 (search (and-left, and-right)))
 
-by-ticks : (shorts : ℕ) (s : State) → Valid s → Ticks shorts s → Valid (ticked shorts s .state)
-by-ticks shorts s v (waits phase e w) =
-    let h : T (phaseInRange phase) × (s .watch .control ≡ 0) × (s .watch .beacon ≡ 0) = zeros phase (s .watch .control) (s .watch .beacon) (rw e at (v .watch)) in
-    rw w (record { watch = phase-valid (s .antennas) phase (s .watch .control) (s .watch .beacon) (h .0) (h .1, h .2); battery = v .battery; modules = v .modules })
-by-ticks shorts s v (runs e w) =
-    let h : (s .watch .control < judgeTicks) × (s .watch .beacon < basicTicks) = counts-of (s .watch .mode) (s .watch .control) (s .watch .beacon) e (v .watch) in
-    rw w (beacon-valid (moduleStage shorts (controlled s)) (stage-running shorts (controlled s)
-    (controlled-running s (record { flies = e; control = h .0; beacon = h .1; battery = v .battery; modules = v .modules }) (controls s))))
+by-ticks : (shorts : ℕ) (s : State) → inRange s ≡ true → Valid s → Ticks shorts s → Valid (ticked shorts s .state)
+by-ticks shorts s h v (waits phase e w) =
+    let watch : T (watchInRange (DeployWait phase) (s .watch .control) (s .watch .beacon)) = rw e at (v .watch) in
+    let phased : T (phaseInRange phase) = inRange-phase phase (s .watch .control) (s .watch .beacon) watch in
+    rw w (record { watch = phase-valid (s .antennas) phase (s .watch .control) (s .watch .beacon) phased (zeros phase (s .watch .control) (s .watch .beacon) watch); battery = v .battery; modules = v .modules })
+by-ticks shorts s h v (runs e w) =
+    let flies : T (inFlight (s .watch .mode)) = in-flight (s .watch .mode) e in
+    rw w
+    (beacon-valid (moduleStage shorts (controlled s))
+    (stage-running shorts (controlled s)
+    (controlled-running s (record { flies = e; control = control-low s h flies; beacon = beacon-low s h flies; battery = v .battery; modules = v .modules }) (controls s))))
 
-pub ticked-valid : (shorts : ℕ) (s : State) → Valid s → Valid (ticked shorts s .state)
-ticked-valid shorts s v = by-ticks shorts s v (ticks shorts s)
+pub ticked-valid : (shorts : ℕ) (s : State) → inRange s ≡ true → Valid s → Valid (ticked shorts s .state)
+ticked-valid shorts s h v = by-ticks shorts s h v (ticks shorts s)

@@ -3,8 +3,8 @@
 use Prim.Native.Nat.{ℕ, _+_, _<_}
 use native.Mathlib.Omega.{arith}
 use mathlib.Core.Path.{_≡_, refl}
-use mathlib.Core.Bool.{Bool, true, false}
-use lib.Dec.{eqb, ltb, lit<}
+use mathlib.Core.Bool.{Bool, true, false, true≢false}
+use lib.Dec.{T, eqb, ltb, lit<}
 use borrow.Author.Tests.{eqb-false}
 use Rattle.supervisor.specs.State.{coreFour, missionFour, withMode, withControl}
 use Rattle.supervisor.specs.Range.{judgeTicks}
@@ -15,11 +15,17 @@ use Rattle.supervisor.specs.declared.state.Phase.{Phase}
 use Rattle.supervisor.specs.declared.state.Mode.{Mode}
 use Rattle.supervisor.specs.declared.state.Mode.the-variants.{DeployWait, Recovery, Safe}
 use Rattle.supervisor.specs.declared.state.State.{State}
+use Rattle.supervisor.proofs.TickLaws.{inFlight}
 use Rattle.promises.specs.History.{isDeployWait}
 
 pub data Ticks (shorts : ℕ) (s : State) : Type 0 where
   waits : (phase : Phase) → s .watch .mode ≡ DeployWait phase → ticked shorts s ≡ done (withMode (phaseTicked (s .antennas) phase) s) → Ticks shorts s
   runs : isDeployWait (s .watch .mode) ≡ false → ticked shorts s ≡ beaconStage (moduleStage shorts (controlled s)) → Ticks shorts s
+
+pub in-flight : (m : Mode) → isDeployWait m ≡ false → T (inFlight m)
+in-flight (DeployWait phase) e = absurd (true≢false e)
+in-flight Recovery e = tt
+in-flight Safe e = tt
 
 by-mode : (shorts : ℕ) (s : State) (m : Mode) → s .watch .mode ≡ m → Ticks shorts s
 unfolding ticked
