@@ -34,7 +34,9 @@ Still P =
     }
 
 module _ (P : State → Type 0) (still : Still P) where
-  dated-still : (class : Class) (origin : Origin) (serial : ℕ) (taken : State → Acted) → ((s : State) → P s → P (taken s .state)) → (s : State) → P s → P (datedAs class origin serial taken s .state)
+  dated-still :
+      (class : Class) (origin : Origin) (serial : ℕ) (taken : State → Acted) → ((s : State) → P s → P (taken s .state)) → (s : State) → P s →
+      P (datedAs class origin serial taken s .state)
   dated-still Repeat origin serial taken keeps s p = p
   dated-still Stale origin serial taken keeps s p = p
   dated-still Fresh origin serial taken keeps s p = keeps (withSerials (movedTo origin serial (s .serials)) s) (still .serial origin serial s p)

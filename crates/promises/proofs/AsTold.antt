@@ -21,12 +21,16 @@ use Rattle.promises.proofs.Powers.{called-eight, after-eight, act-power
 use Rattle.promises.proofs.Requests.{called-said}
 
 -- the requests of a history
-after-said : (mission : Bool) (i : ℕ) → i < 8 → isMission i ≡ mission → (cs : List Call) (s : State) (word : Bool) → Eight s → moduleAt i s .requested ≡ word → moduleAt i (after s cs) .requested ≡ lastWord mission i word s cs
+after-said :
+    (mission : Bool) (i : ℕ) → i < 8 → isMission i ≡ mission → (cs : List Call) (s : State) (word : Bool) → Eight s → moduleAt i s .requested ≡ word →
+    moduleAt i (after s cs) .requested ≡ lastWord mission i word s cs
 after-said mission i low e [] s word n h = h
 after-said mission i low e (c ∷ cs) s word n h =
     after-said mission i low e cs (called s c .state) (said mission i s c word) (called-eight s c n) (called-said i low mission e s n c ∙ ap (said mission i s c) h)
 
-fresh-said : (mission : Bool) (i : ℕ) → i < 8 → isMission i ≡ mission → (cs : List Call) → moduleAt i (after freshState cs) .requested ≡ lastWord mission i (not mission) freshState cs
+fresh-said :
+    (mission : Bool) (i : ℕ) → i < 8 → isMission i ≡ mission → (cs : List Call) →
+    moduleAt i (after freshState cs) .requested ≡ lastWord mission i (not mission) freshState cs
 fresh-said mission i low e cs = after-said mission i low e cs freshState (not mission) fresh-eight (fresh-requested i low ∙ ap not e)
 
 module _ (i : ℕ) (low : i < 8) where
@@ -48,12 +52,16 @@ module _ (i : ℕ) (low : i < 8) where
   after-dark (c ∷ cs) s n dark = after-dark cs (called s c .state) (called-eight s c n) (called-dark s c n dark (comes s c))
 
   -- a module that is on after a tick is requested
-  tick-asked : (shorts : ℕ) (s : State) → Eight s → Dark s → Ticks shorts s → T (isOn (moduleAt i (ticked shorts s .state) .power)) → T (moduleAt i (ticked shorts s .state) .requested)
+  tick-asked :
+      (shorts : ℕ) (s : State) → Eight s → Dark s → Ticks shorts s → T (isOn (moduleAt i (ticked shorts s .state) .power)) →
+      T (moduleAt i (ticked shorts s .state) .requested)
   unfolding beaconStage
   tick-asked shorts s n dark (waits phase e w) t = absurd (rw (dark (rw e)) at (rw w at t))
   tick-asked shorts s n dark (runs e w) t = rw w (on-requested (controlled s) (controlled-eight s n) i low shorts (rw w at t))
 
-  called-asked : (s : State) (c : Call) → Eight s → Dark s → Comes s c → T (doneTick s c) → T (isOn (moduleAt i (called s c .state) .power)) → T (moduleAt i (called s c .state) .requested)
+  called-asked :
+      (s : State) (c : Call) → Eight s → Dark s → Comes s c → T (doneTick s c) → T (isOn (moduleAt i (called s c .state) .power)) →
+      T (moduleAt i (called s c .state) .requested)
   called-asked s c n dark (stopped answer w) d t = absurd (rw (w .tick) at d)
   called-asked s c n dark (second shorts w) d t = rw (w .left) (tick-asked shorts s n dark (ticks shorts s) (rw (w .left) at t))
   called-asked s c n dark (other frame e w) d t = absurd (rw (w .tick, e) at d)

@@ -70,12 +70,16 @@ not-safe : (antennas : Bool) (p : Phase) → modeNumber (phaseTicked antennas p)
 not-safe antennas (Waiting waited) = either (λ (m : Mode). modeNumber m ≡ 2 → ⊥) (antennas || eqb (waited + 1) waitSeconds) (omega arith) (omega arith)
 not-safe antennas (Settling left) = either (λ (m : Mode). modeNumber m ≡ 2 → ⊥) (eqb (left - 1) 0) (omega arith) (omega arith)
 
-tick-count : (shorts : ℕ) (s : State) → Ticks shorts s → inDeployWait s ≡ false → dueNumber (ticked shorts s .due) ≡ 0 → ticked shorts s .state .watch .beacon ≡ s .watch .beacon + 1
+tick-count :
+    (shorts : ℕ) (s : State) → Ticks shorts s → inDeployWait s ≡ false → dueNumber (ticked shorts s .due) ≡ 0 →
+    ticked shorts s .state .watch .beacon ≡ s .watch .beacon + 1
 unfolding staged
 tick-count shorts s (waits phase m w) out d = absurd (true≢false (rw m at out))
 tick-count shorts s (runs m w) out d = rw w (silent-count shorts s (rw w at d))
 
-tick-sixty : (shorts : ℕ) (s : State) → Ticks shorts s → modeNumber (ticked shorts s .state .watch .mode) ≡ 2 → dueNumber (ticked shorts s .due) ≡ 0 → ticked shorts s .state .watch .beacon % 60 ≡ s .watch .beacon % 60 + 1
+tick-sixty :
+    (shorts : ℕ) (s : State) → Ticks shorts s → modeNumber (ticked shorts s .state .watch .mode) ≡ 2 → dueNumber (ticked shorts s .due) ≡ 0 →
+    ticked shorts s .state .watch .beacon % 60 ≡ s .watch .beacon % 60 + 1
 unfolding staged
 tick-sixty shorts s (waits phase m w) safe d = absurd (not-safe (s .antennas) phase (rw w at safe))
 tick-sixty shorts s (runs m w) safe d = rw w (omega (arith, silent-count shorts s (rw w at d), silent-sixty shorts s (rw w at safe) (rw w at d)))
@@ -97,7 +101,9 @@ module _ (s : State) (c : Call) (silent : beaconDue s c ≡ false) where
   call-count out (second shorts w) = rw (w .tick, w .left) (tick-count shorts s (ticks shorts s) out (silent-tick shorts w))
   call-count out (other frame e w) = rw (w .tick, e, w .left, watch-still frame (w .fits) e s) (omega arith)
 
-  pub call-sixty : (T (doneTick s c) → modeNumber (called s c .state .watch .mode) ≡ 2) → Comes s c → called s c .state .watch .beacon % 60 ≡ s .watch .beacon % 60 + (if doneTick s c then 1 else 0)
+  pub call-sixty :
+      (T (doneTick s c) → modeNumber (called s c .state .watch .mode) ≡ 2) → Comes s c →
+      called s c .state .watch .beacon % 60 ≡ s .watch .beacon % 60 + (if doneTick s c then 1 else 0)
   call-sixty safe (stopped answer w) = rw (w .tick, w .left) (omega arith)
   call-sixty safe (second shorts w) = rw (w .tick, w .left) (tick-sixty shorts s (ticks shorts s) (rw (w .left) at (safe (rw (w .tick) tt))) (silent-tick shorts w))
   call-sixty safe (other frame e w) = rw (w .tick, e, w .left, watch-still frame (w .fits) e s) (omega arith)

@@ -60,7 +60,9 @@ module _ (s : State) (c : Call) where
   stops answer number outside left =
       stopped answer (record { number = number; outside = outside; left = left; tick = rw left (not-zero (isTick (readFrame (c .input))) (answerNumber answer) number) })
 
-  works : (frame : Frame) → isTick (Accepted frame) ≡ false → Fits frame → readFrame (c .input) ≡ Accepted frame → T (inRange s) → called s c ≡ reported frame (actOf frame s) (c .room) → Comes s c
+  works :
+      (frame : Frame) → isTick (Accepted frame) ≡ false → Fits frame → readFrame (c .input) ≡ Accepted frame → T (inRange s) →
+      called s c ≡ reported frame (actOf frame s) (c .room) → Comes s c
   works frame e fits read valid left = other frame e (record { fits = fits; valid = valid; read = read; left = left; tick = rw (read, e) })
 
   by-reading : (r : Reading) → Sound r → readFrame (c .input) ≡ r → T (inRange s) → called s c ≡ stepRead r s (c .room) → Comes s c

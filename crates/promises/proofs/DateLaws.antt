@@ -66,7 +66,10 @@ pub ticked-dates : (shorts : ℕ) (s : State) → Dates (Tick shorts) s (ticked 
 ticked-dates shorts s = undated (λ origin. refl) (ticked-done shorts s) (ticked-serials shorts s (ticks shorts s))
 
 -- orders and thresholds
-as-dated : (class : Class) (by : Origin) (serial : ℕ) (taken : State → Acted) → ((s t : State) → t ≡ withSerials (movedTo by serial (s .serials)) s → Dated Fresh by serial s (taken t)) → (s : State) → Dated class by serial s (datedAs class by serial taken s)
+as-dated :
+    (class : Class) (by : Origin) (serial : ℕ) (taken : State → Acted) →
+    ((s t : State) → t ≡ withSerials (movedTo by serial (s .serials)) s → Dated Fresh by serial s (taken t)) → (s : State) →
+    Dated class by serial s (datedAs class by serial taken s)
 as-dated Repeat by serial taken fresh s = (refl, refl)
 as-dated Stale by serial taken fresh s = (refl, refl)
 as-dated Fresh by serial taken fresh s = fresh s (withSerials (movedTo by serial (s .serials)) s) refl
@@ -74,14 +77,18 @@ as-dated Fresh by serial taken fresh s = fresh s (withSerials (movedTo by serial
 not-ten : _≡_ {A = ℕ} 0 10 → ⊥
 not-ten e = omega arith
 
-order-dated : (number : ℕ) (on : Bool) (by : Origin) (serial : ℕ) (s t : State) → t ≡ withSerials (movedTo by serial (s .serials)) s → Dated Fresh by serial s (orderTaken number on t)
+order-dated :
+    (number : ℕ) (on : Bool) (by : Origin) (serial : ℕ) (s t : State) → t ≡ withSerials (movedTo by serial (s .serials)) s →
+    Dated Fresh by serial s (orderTaken number on t)
 unfolding requestSet
 order-dated number on by serial s t e =
     either (Dated Fresh by serial s) (isIllTimed number on (t .watch .mode)) {x = answered IllTimed t} {y = done (requestSet number on t)}
     (record { taken = tt; serials = ap (λ r. r .serials) e; ill = λ ten. e })
     (record { taken = tt; serials = ap (λ r. r .serials) e; ill = λ ten. absurd (not-ten ten) })
 
-thresholds-dated : (ascend descend serial : ℕ) (s t : State) → t ≡ withSerials (movedTo Ground serial (s .serials)) s → Dated Fresh Ground serial s (thresholdsTaken ascend descend t)
+thresholds-dated :
+    (ascend descend serial : ℕ) (s t : State) → t ≡ withSerials (movedTo Ground serial (s .serials)) s →
+    Dated Fresh Ground serial s (thresholdsTaken ascend descend t)
 thresholds-dated ascend descend serial s t e = record { taken = tt; serials = ap (λ r. r .serials) e; ill = λ ten. absurd (not-ten ten) }
 
 pub act-dates : (f : Frame) (s : State) → Dates f s (actOf f s)

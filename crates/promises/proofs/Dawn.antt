@@ -36,7 +36,9 @@ use Rattle.promises.proofs.Refusals.{refusals}
 -- Distances
 
 -- a fresh serial lies 1 to 32,767 ahead of the last
-ahead : (d : ℕ) (zero near : Bool) → eqb d 0 ≡ zero → ltb d staleFrom ≡ near → (if zero then Repeat else if near then Fresh else Stale) ≡ Fresh → (0 < d) × (d < staleFrom)
+ahead :
+    (d : ℕ) (zero near : Bool) → eqb d 0 ≡ zero → ltb d staleFrom ≡ near → (if zero then Repeat else if near then Fresh else Stale) ≡ Fresh →
+    (0 < d) × (d < staleFrom)
 ahead d true near e f h = let z : _≡_ {A = ℕ} 0 1 = cc in absurd (omega arith)
 ahead d false false e f h = let z : _≡_ {A = ℕ} 0 1 = cc in absurd (omega arith)
 ahead d false true e f h = (omega (arith, eqb-false d 0 e), ltb-true d staleFrom f)
@@ -70,7 +72,9 @@ not-taken n h =
 module _ (origin : Origin) where
   -- where an origin's last serial stands after a call, modulo 65,536
   abbrev Strides : State → Call → Type 0
-  Strides s c = lastOf origin (called s c .state .serials) % serialCount ≡ (lastOf origin (s .serials) + stride (isTaken (answered s c)) (bears origin (readFrame (c .input))) (lastOf origin (s .serials))) % serialCount
+  Strides s c =
+      lastOf origin (called s c .state .serials) % serialCount
+      ≡ (lastOf origin (s .serials) + stride (isTaken (answered s c)) (bears origin (readFrame (c .input))) (lastOf origin (s .serials))) % serialCount
 
   own-strides : (class : Class) (serial : ℕ) (s : State) (a : Acted) → classOf serial (lastOf origin (s .serials)) ≡ class → Dated class origin serial s a →
       lastOf origin (a .state .serials) % serialCount ≡ (lastOf origin (s .serials) + stride (isTaken (answerNumber (a .answer))) (serial ∷ []) (lastOf origin (s .serials))) % serialCount
@@ -95,19 +99,25 @@ module _ (origin : Origin) where
   after-strides (c ∷ cs) s = omega (arith, after-strides cs (called s c .state), strides s c (comes s c))
 
   -- a frame that was taken left its serial
-  left-by : (class : Class) (serial : ℕ) (s : State) (a : Acted) → T (isTaken (answerNumber (a .answer))) → Dated class origin serial s a → lastOf origin (a .state .serials) ≡ serial
+  left-by :
+      (class : Class) (serial : ℕ) (s : State) (a : Acted) → T (isTaken (answerNumber (a .answer))) → Dated class origin serial s a →
+      lastOf origin (a .state .serials) ≡ serial
   left-by Repeat serial s a t d = absurd (rw (d .0) at t)
   left-by Stale serial s a t d = absurd (rw (d .0) at t)
   left-by Fresh serial s a t d = dated-last origin Fresh serial s a d
 
-  turn-left : (f : Frame) (s : State) (c : Call) (a : Acted) (serial : ℕ) → bears origin (readFrame (c .input)) ≡ serial ∷ [] → T (isTaken (answered s c)) → Works s c f a → Turn origin f s a → lastOf origin (called s c .state .serials) ≡ serial
+  turn-left :
+      (f : Frame) (s : State) (c : Call) (a : Acted) (serial : ℕ) → bears origin (readFrame (c .input)) ≡ serial ∷ [] → T (isTaken (answered s c)) →
+      Works s c f a → Turn origin f s a → lastOf origin (called s c .state .serials) ≡ serial
   turn-left f s c a serial b t w (none z e) = let read : bears origin (Accepted f) ≡ serial ∷ [] = rw (w .read) at b in cc
   turn-left f s c a serial b t w (own n z d) =
       let read : bears origin (Accepted f) ≡ serial ∷ [] = rw (w .read) at b in
       let e : n ≡ serial = cc in
       rw (w .left) (left-by (classOf n (lastOf origin (s .serials))) n s a (rw (w .left) at t) d ∙ e)
 
-  taken-left : (s : State) (c : Call) (serial : ℕ) → bears origin (readFrame (c .input)) ≡ serial ∷ [] → T (isTaken (answered s c)) → Comes s c → T (inRange s) × (lastOf origin (called s c .state .serials) ≡ serial)
+  taken-left :
+      (s : State) (c : Call) (serial : ℕ) → bears origin (readFrame (c .input)) ≡ serial ∷ [] → T (isTaken (answered s c)) → Comes s c →
+      T (inRange s) × (lastOf origin (called s c .state .serials) ≡ serial)
   taken-left s c serial b t (stopped answer w) = absurd (rw (not-taken (answerNumber answer) (w .number)) at (rw (w .left) at t))
   taken-left s c serial b t (second shorts w) = (w .valid, turn-left (Tick shorts) s c (ticked shorts s) serial b t w (turn origin (Tick shorts) s (ticked shorts s) (ticked-dates shorts s)))
   taken-left s c serial b t (other frame e w) = (w .valid, turn-left frame s c (actOf frame s) serial b t w (turn origin frame s (actOf frame s) (act-dates frame s)))
@@ -118,7 +128,9 @@ eight-or-nine n true q e f h = rw (eqb-true n 8 e) tt
 eight-or-nine n false true e f h = rw (eqb-true n 9 f) tt
 eight-or-nine n false false e f h = absurd (h refl)
 
-late-not-taken : (origin : Origin) (s : State) (first : Call) (since : List Call) (late : Call) → Late origin s first since late → NotTaken (after (called s first .state) since) late
+late-not-taken :
+    (origin : Origin) (s : State) (first : Call) (since : List Call) (late : Call) → Late origin s first since late →
+    NotTaken (after (called s first .state) since) late
 late-not-taken origin s first since late l =
     let (valid, last) = taken-left origin s first (l .serial) (l .bearsSerial) (l .taken) (comes s first) in
     let t : State = after (called s first .state) since in

@@ -9,10 +9,11 @@ use lib.Dec.{T, eqb}
 use Rattle.choice.proofs.ChoiceLaws.{and-left, and-right, and-both, or-right, is-true}
 use Rattle.modules.specs.Stage.{modulesInRange}
 use Rattle.frames.specs.Frame.{isReading, areThresholds}
-use Rattle.supervisor.specs.Range.{inRange}
+use Rattle.supervisor.specs.Range.{inRange, batteryInRange}
 use Rattle.supervisor.specs.Fresh.{freshState}
 use Rattle.supervisor.specs.Order.{requestSet, moduleAsked}
 use Rattle.supervisor.specs.Act.{actOf}
+use Rattle.supervisor.specs.declared.state.Battery.{Battery}
 use Rattle.supervisor.specs.declared.state.State.{State}
 use Rattle.promises.specs.History.{Call, called, answered, after}
 use Rattle.promises.specs.InRange.{InRange}
@@ -30,13 +31,24 @@ whole : (s : State) → Valid s → T (inRange s)
 unfolding inRange
 whole s v = search (and-both, v) depth 8
 
+-- another tension, or other thresholds, in range
+tension-valid : (millivolts : ℕ) (b : Battery) → T (isReading millivolts) → T (batteryInRange b) → T (batteryInRange (record { tension = millivolts; ascend = b .ascend; descend = b .descend }))
+tension-valid millivolts b r h =
+    let limits : T (areThresholds (b .ascend) (b .descend)) = search (and-right) in
+    and-both (eqb millivolts 0 || isReading millivolts) (areThresholds (b .ascend) (b .descend)) (or-right (eqb millivolts 0) (isReading millivolts) r) limits
+
+thresholds-valid : (ascend descend : ℕ) (b : Battery) → T (areThresholds ascend descend) → T (batteryInRange b) → T (batteryInRange (record { tension = b .tension; ascend = ascend; descend = descend }))
+thresholds-valid ascend descend b r h =
+    let reading : T (eqb (b .tension) 0 || isReading (b .tension)) = search (and-left) in
+    and-both (eqb (b .tension) 0 || isReading (b .tension)) (areThresholds ascend descend) reading r
+
 valid-still : Still Valid
 unfolding requestSet
 valid-still =
     record {
-      tension = λ millivolts r s v. record { watch = v .watch; battery = and-both (eqb millivolts 0 || isReading millivolts) (areThresholds (s .battery .ascend) (s .battery .descend)) (or-right (eqb millivolts 0) (isReading millivolts) r) (and-right (eqb (s .battery .tension) 0 || isReading (s .battery .tension)) (areThresholds (s .battery .ascend) (s .battery .descend)) (v .battery)); modules = v .modules };
+      tension = λ millivolts r s v. record { watch = v .watch; battery = tension-valid millivolts (s .battery) r (v .battery); modules = v .modules };
       antennas = λ deployed s v. v;
-      thresholds = λ ascend descend r s v. record { watch = v .watch; battery = and-both (eqb (s .battery .tension) 0 || isReading (s .battery .tension)) (areThresholds ascend descend) (and-left (eqb (s .battery .tension) 0 || isReading (s .battery .tension)) (areThresholds (s .battery .ascend) (s .battery .descend)) (v .battery)) r; modules = v .modules };
+      thresholds = λ ascend descend r s v. record { watch = v .watch; battery = thresholds-valid ascend descend (s .battery) r (v .battery); modules = v .modules };
       serial = λ origin serial s v. v;
       request = λ number on s e v. record { watch = v .watch; battery = v .battery; modules = each-in-range (moduleAsked number on) (λ i m h. h) (s .modules) (v .modules) };
     }

@@ -56,7 +56,9 @@ module _ (units room : List ℕ) where
       let never : (text : List ℕ) → Keys text units → ⊥ = λ text k. differs (rw (r .told text k) (text-leaves text (rw (r .told text k) at h))) in
       differs (rw (r .refused never) refl)
 
-  pub reading-keeps : (left : Outcome Heard) → Read units room left → T (within 14 15 (readReply (left .answer) .number)) → Unwritten (readReply (left .answer)) room (left .room)
+  pub reading-keeps :
+      (left : Outcome Heard) → Read units room left → T (within 14 15 (readReply (left .answer) .number)) →
+      Unwritten (readReply (left .answer)) room (left .room)
   reading-keeps left r h =
       record {
         count = no-count (left .answer) h;

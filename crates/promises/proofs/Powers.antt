@@ -75,7 +75,9 @@ on-wanted : (wanted short : Bool) (p : Power) → T (isOn (switched wanted short
 on-wanted true short p t = tt
 on-wanted false short p t = rw (unwanted-switched short p) at t
 
-pub on-requested : (s : State) → Eight s → (i : ℕ) → i < 8 → (shorts : ℕ) → T (isOn (moduleAt i (moduleStage shorts s) .power)) → T (moduleAt i (moduleStage shorts s) .requested)
+pub on-requested :
+    (s : State) → Eight s → (i : ℕ) → i < 8 → (shorts : ℕ) → T (isOn (moduleAt i (moduleStage shorts s) .power)) →
+    T (moduleAt i (moduleStage shorts s) .requested)
 on-requested s n i low shorts t =
     let wanted : Bool = moduleAt i s .requested && bit i (allowedIn (s .watch .mode)) in
     rw (at-stage s n i low shorts)

@@ -86,12 +86,15 @@ controlled-running s v (downward e w) = rw w (crossed-running Recovery missionFo
 stage-running : (shorts : ℕ) (s : State) → Running s → Running (moduleStage shorts s)
 unfolding moduleStage stageOf
 stage-running shorts s v =
+    let allowed : ℕ = allowedIn (s .watch .mode) in
     record {
       flies = v .flies;
       control = v .control;
       beacon = v .beacon;
       battery = v .battery;
-      modules = each-in-range (moduleSecond (allowedIn (s .watch .mode)) shorts) (λ i m h. switched-in-range (m .requested && bit i (allowedIn (s .watch .mode))) (bit i shorts) (m .power) h) (s .modules) (v .modules);
+      modules =
+          each-in-range (moduleSecond allowed shorts) (λ i m h. switched-in-range (m .requested && bit i allowed) (bit i shorts) (m .power) h)
+          (s .modules) (v .modules);
     }
 
 -- beacon: the count stays below 300, since at 300 one is due in either mode
@@ -133,9 +136,15 @@ zeros p c b h = (eqb→eq c 0 (search (and-left, and-right)), eqb→eq b 0 (sear
 
 by-ticks : (shorts : ℕ) (s : State) → inRange s ≡ true → Valid s → Ticks shorts s → Valid (ticked shorts s .state)
 by-ticks shorts s h v (waits phase e w) =
-    let watch : T (watchInRange (DeployWait phase) (s .watch .control) (s .watch .beacon)) = rw e at (v .watch) in
-    let phased : T (phaseInRange phase) = inRange-phase phase (s .watch .control) (s .watch .beacon) watch in
-    rw w (record { watch = phase-valid (s .antennas) phase (s .watch .control) (s .watch .beacon) phased (zeros phase (s .watch .control) (s .watch .beacon) watch); battery = v .battery; modules = v .modules })
+    let c : ℕ = s .watch .control in
+    let b : ℕ = s .watch .beacon in
+    let watch : T (watchInRange (DeployWait phase) c b) = rw e at (v .watch) in
+    rw w
+    (record {
+      watch = phase-valid (s .antennas) phase c b (inRange-phase phase c b watch) (zeros phase c b watch);
+      battery = v .battery;
+      modules = v .modules;
+    })
 by-ticks shorts s h v (runs e w) =
     let flies : T (inFlight (s .watch .mode)) = in-flight (s .watch .mode) e in
     rw w

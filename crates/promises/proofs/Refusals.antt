@@ -37,7 +37,9 @@ rest-kept f a room = refl
 dated-old : (class : Class) (by : Origin) (serial : ℕ) (s : State) (a : Acted) → Dated class by serial s a → T (within 8 9 (answerNumber (a .answer))) → a .state ≡ s
 dated-old Repeat by serial s a d h = d .1
 dated-old Stale by serial s a d h = d .1
-dated-old Fresh by serial s a d h = ⊎-elim (λ (e : answerNumber (a .answer) ≡ 0). absurd (rw e at h)) (λ (e : answerNumber (a .answer) ≡ 10). absurd (rw e at h)) (zero-or-ten (answerNumber (a .answer)) (d .taken))
+dated-old Fresh by serial s a d h =
+    ⊎-elim (λ (e : answerNumber (a .answer) ≡ 0). absurd (rw e at h)) (λ (e : answerNumber (a .answer) ≡ 10). absurd (rw e at h))
+    (zero-or-ten (answerNumber (a .answer)) (d .taken))
 
 old : (f : Frame) (s : State) (a : Acted) → Dates f s a → T (within 8 9 (answerNumber (a .answer))) → a .state ≡ s
 old f s a (undated b e k) h = absurd (rw e at h)
@@ -47,7 +49,9 @@ old f s a (dates by serial b d) h = dated-old (classOf serial (lastOf by (s .ser
 abbrev Used : Frame → State → Acted → Type 0
 Used f s a = (origin : Origin) × (serial : ℕ) × (bears origin (Accepted f) ≡ serial ∷ []) × (a .state ≡ withSerials (movedTo origin serial (s .serials)) s)
 
-dated-ill : (class : Class) (by : Origin) (serial : ℕ) (s : State) (a : Acted) → Dated class by serial s a → answerNumber (a .answer) ≡ 10 → a .state ≡ withSerials (movedTo by serial (s .serials)) s
+dated-ill :
+    (class : Class) (by : Origin) (serial : ℕ) (s : State) (a : Acted) → Dated class by serial s a → answerNumber (a .answer) ≡ 10 →
+    a .state ≡ withSerials (movedTo by serial (s .serials)) s
 dated-ill Repeat by serial s a d h = absurd (omega (arith, d .0))
 dated-ill Stale by serial s a d h = absurd (omega (arith, d .0))
 dated-ill Fresh by serial s a d h = d .ill h

@@ -43,10 +43,21 @@ module _ (i : ℕ) (low : i < 8) where
   abbrev Told : Frame → State → Acted → Type 0
   Told f s a = requestAt (a .state) ≡ (if eqb (answerNumber (a .answer)) 0 then orders i (Accepted f) (requestAt s) else requestAt s)
 
-  dated-told : (class : Class) (f : Frame) (by : Origin) (serial : ℕ) (taken : State → Acted) → ((s : State) → Eight s → Told f s (taken (withSerials (movedTo by serial (s .serials)) s))) → (s : State) → Eight s → Told f s (datedAs class by serial taken s)
+  dated-told :
+      (class : Class) (f : Frame) (by : Origin) (serial : ℕ) (taken : State → Acted) →
+      ((s : State) → Eight s → Told f s (taken (withSerials (movedTo by serial (s .serials)) s))) → (s : State) → Eight s →
+      Told f s (datedAs class by serial taken s)
   dated-told Repeat f by serial taken told s e = refl
   dated-told Stale f by serial taken told s e = refl
   dated-told Fresh f by serial taken told s e = told s e
+
+  -- an order that is taken, from a state with the same modules
+  order-told :
+      (number : ℕ) (on : Bool) (f : Frame) → orders i (Accepted f) ≡ (λ word. if eqb i number then on else word) →
+      (s t : State) → requestAt t ≡ requestAt s → Eight t → Told f s (orderTaken number on t)
+  order-told number on f says s t same n =
+      either (Told f s) (isIllTimed number on (t .watch .mode)) {x = answered IllTimed t} {y = done (requestSet number on t)} same
+      (rw says (ap (λ m. m .requested) (at-asked t n i low number on) ∙ ap (λ (word : Bool). if eqb i number then on else word) same))
 
   act-told : (f : Frame) → isTick (Accepted f) ≡ false → (s : State) → Eight s → Told f s (actOf f s)
   unfolding actOf
@@ -55,8 +66,7 @@ module _ (i : ℕ) (low : i < 8) where
   act-told (Antennas deployed) e s n = refl
   act-told (Order by serial number on) e s n =
       dated-told (classOf serial (lastOf by (s .serials))) (Order by serial number on) by serial (orderTaken number on)
-      (λ t n. either (Told (Order by serial number on) t) (isIllTimed number on (t .watch .mode)) {x = answered IllTimed (withSerials (movedTo by serial (t .serials)) t)} {y = done (requestSet number on (withSerials (movedTo by serial (t .serials)) t))} refl
-      (ap (λ m. m .requested) (at-asked (withSerials (movedTo by serial (t .serials)) t) n i low number on))) s n
+      (λ t n. order-told number on (Order by serial number on) refl t (withSerials (movedTo by serial (t .serials)) t) refl n) s n
   act-told (Thresholds serial ascend descend) e s n =
       dated-told (classOf serial (lastOf Ground (s .serials))) (Thresholds serial ascend descend) Ground serial (thresholdsTaken ascend descend) (λ t n. refl) s n
 
@@ -73,7 +83,9 @@ module _ (i : ℕ) (low : i < 8) where
   no-crossing false m word = rw (apart (modeNumber m) 1 2 (omega arith))
 
   -- a tick: what a crossing says
-  control-said : (mission : Bool) → isMission i ≡ mission → (s : State) → Eight s → Controls s → requestAt (controlled s) ≡ crossing mission (s .watch .mode) (controlled s .watch .mode) (requestAt s)
+  control-said :
+      (mission : Bool) → isMission i ≡ mission → (s : State) → Eight s → Controls s →
+      requestAt (controlled s) ≡ crossing mission (s .watch .mode) (controlled s .watch .mode) (requestAt s)
   control-said mission e s n (level count h w) = rw w (sym (no-crossing mission (s .watch .mode) (requestAt s)))
   control-said true e s n (upward m w) = rw (w, m) (ap (λ m. m .requested) (at-crossed (withControl 0 s) n i low Safe coreFour true) ∙ rw (core-or-mission i low, e))
   control-said false e s n (upward m w) = rw (w, m) (ap (λ m. m .requested) (at-crossed (withControl 0 s) n i low Safe coreFour true) ∙ rw (core-or-mission i low, e))

@@ -38,7 +38,9 @@ lastAfter-append last (m ∷ ms) ns = lastAfter-append (moved (classOf m last) m
 
 module _ (origin : Origin) where
   -- one frame
-  turn-last : (f : Frame) (s : State) (a : Acted) → Turn origin f s a → lastOf origin (a .state .serials) ≡ lastAfter (lastOf origin (s .serials)) (bears origin (Accepted f))
+  turn-last :
+      (f : Frame) (s : State) (a : Acted) → Turn origin f s a →
+      lastOf origin (a .state .serials) ≡ lastAfter (lastOf origin (s .serials)) (bears origin (Accepted f))
   turn-last f s a (none b e) = rw b e
   turn-last f s a (own serial b d) = rw b (dated-last origin (classOf serial (lastOf origin (s .serials))) serial s a d)
 
@@ -47,7 +49,9 @@ module _ (origin : Origin) where
   dated-verdict Stale serial s a d = rw (d .0)
   dated-verdict Fresh serial s a d = ⊎-elim (λ (e : answerNumber (a .answer) ≡ 0). rw e) (λ (e : answerNumber (a .answer) ≡ 10). rw e) (zero-or-ten (answerNumber (a .answer)) (d .taken))
 
-  turn-verdict : (serial : ℕ) (f : Frame) (s : State) (a : Acted) → Turn origin f s a → bears origin (Accepted f) ≡ serial ∷ [] → verdict (answerNumber (a .answer)) ≡ classOf serial (lastOf origin (s .serials))
+  turn-verdict :
+      (serial : ℕ) (f : Frame) (s : State) (a : Acted) → Turn origin f s a → bears origin (Accepted f) ≡ serial ∷ [] →
+      verdict (answerNumber (a .answer)) ≡ classOf serial (lastOf origin (s .serials))
   turn-verdict serial f s a (none b e) h = cc
   turn-verdict serial f s a (own n b d) h =
       let e : n ≡ serial = cc in
@@ -58,12 +62,16 @@ module _ (origin : Origin) where
   read-last (Refused answer) s room = refl
   read-last (Accepted f) s room = turn-last f s (actOf f s) (turn origin f s (actOf f s) (act-dates f s))
 
-  pub read-verdict : (serial : ℕ) (r : Reading) (s : State) (room : List ℕ) → bears origin r ≡ serial ∷ [] → verdict (answerNumber (stepRead r s room .answer)) ≡ classOf serial (lastOf origin (s .serials))
+  pub read-verdict :
+      (serial : ℕ) (r : Reading) (s : State) (room : List ℕ) → bears origin r ≡ serial ∷ [] →
+      verdict (answerNumber (stepRead r s room .answer)) ≡ classOf serial (lastOf origin (s .serials))
   read-verdict serial (Refused answer) s room h = cc
   read-verdict serial (Accepted f) s room h = turn-verdict serial f s (actOf f s) (turn origin f s (actOf f s) (act-dates f s)) h
 
   -- many calls
-  after-last : (cs : List Call) → Roomy cs → (s : State) → T (inRange s) → lastOf origin (after s cs .serials) ≡ lastAfter (lastOf origin (s .serials)) (serialsOf origin cs)
+  after-last :
+      (cs : List Call) → Roomy cs → (s : State) → T (inRange s) →
+      lastOf origin (after s cs .serials) ≡ lastAfter (lastOf origin (s .serials)) (serialsOf origin cs)
   after-last [] r s v = refl
   after-last (c ∷ cs) r s v =
       after-last cs (r .1) (called s c .state) (called-in-range s c v)

@@ -52,7 +52,9 @@ pub data Controls (s : State) : Type 0 where
   downward : s .watch .mode ≡ Safe → controlled s ≡ crossedTo Recovery missionFour false (withControl 0 s) → Controls s
 
 module _ (s : State) where
-  at-thirty : (m : Mode) → s .watch .mode ≡ m → (up down : Bool) → ltb (s .battery .ascend) (s .battery .tension) ≡ up → ltb (s .battery .tension) (s .battery .descend) ≡ down →
+  at-thirty :
+      (m : Mode) → s .watch .mode ≡ m → (up down : Bool) → ltb (s .battery .ascend) (s .battery .tension) ≡ up →
+      ltb (s .battery .tension) (s .battery .descend) ≡ down →
       eqb (s .watch .control + 1) judgeTicks ≡ true → Controls s
   unfolding controlled
   at-thirty (DeployWait phase) e up down u d t = level 0 (λ h. lit< tt) (rw (t, e))

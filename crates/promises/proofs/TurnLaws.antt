@@ -20,12 +20,18 @@ pub data Turn (origin : Origin) (f : Frame) (s : State) (a : Acted) : Type 0 whe
   none : bears origin (Accepted f) ≡ [] → lastOf origin (a .state .serials) ≡ lastOf origin (s .serials) → Turn origin f s a
   own : (serial : ℕ) → bears origin (Accepted f) ≡ serial ∷ [] → Dated (classOf serial (lastOf origin (s .serials))) origin serial s a → Turn origin f s a
 
-other-last : (class : Class) (origin by : Origin) (serial : ℕ) (s : State) (a : Acted) → lastOf origin (movedTo by serial (s .serials)) ≡ lastOf origin (s .serials) → Dated class by serial s a → lastOf origin (a .state .serials) ≡ lastOf origin (s .serials)
+other-last :
+    (class : Class) (origin by : Origin) (serial : ℕ) (s : State) (a : Acted) →
+    lastOf origin (movedTo by serial (s .serials)) ≡ lastOf origin (s .serials) → Dated class by serial s a →
+    lastOf origin (a .state .serials) ≡ lastOf origin (s .serials)
 other-last Repeat origin by serial s a e d = ap (λ t. lastOf origin (t .serials)) (d .1)
 other-last Stale origin by serial s a e d = ap (λ t. lastOf origin (t .serials)) (d .1)
 other-last Fresh origin by serial s a e d = ap (lastOf origin) (d .serials) ∙ e
 
-by-origin : (origin by : Origin) (serial : ℕ) (f : Frame) (s : State) (a : Acted) → bears origin (Accepted f) ≡ (if sameOrigin origin by then serial ∷ [] else []) → Dated (classOf serial (lastOf by (s .serials))) by serial s a → Turn origin f s a
+by-origin :
+    (origin by : Origin) (serial : ℕ) (f : Frame) (s : State) (a : Acted) →
+    bears origin (Accepted f) ≡ (if sameOrigin origin by then serial ∷ [] else []) → Dated (classOf serial (lastOf by (s .serials))) by serial s a →
+    Turn origin f s a
 by-origin Ground Ground serial f s a b d = own serial b d
 by-origin Payload Payload serial f s a b d = own serial b d
 by-origin Ground Payload serial f s a b d = none b (other-last (classOf serial (s .serials .payload)) Ground Payload serial s a refl d)
@@ -45,7 +51,9 @@ last-moved : (origin : Origin) (serial : ℕ) (s : State) → lastOf origin (mov
 last-moved Ground serial s = refl
 last-moved Payload serial s = refl
 
-pub dated-last : (origin : Origin) (class : Class) (serial : ℕ) (s : State) (a : Acted) → Dated class origin serial s a → lastOf origin (a .state .serials) ≡ moved class serial (lastOf origin (s .serials))
+pub dated-last :
+    (origin : Origin) (class : Class) (serial : ℕ) (s : State) (a : Acted) → Dated class origin serial s a →
+    lastOf origin (a .state .serials) ≡ moved class serial (lastOf origin (s .serials))
 dated-last origin Repeat serial s a d = ap (λ t. lastOf origin (t .serials)) (d .1)
 dated-last origin Stale serial s a d = ap (λ t. lastOf origin (t .serials)) (d .1)
 dated-last origin Fresh serial s a d = ap (lastOf origin) (d .serials) ∙ last-moved origin serial s

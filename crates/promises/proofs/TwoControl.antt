@@ -69,7 +69,9 @@ module _ (i : ℕ) (mission : isMission i ≡ true) where
 
   module _ (a b : State) where
     -- control
-    crossed-sim : (m n : Mode) (x y : Crossing) → a .watch .mode ≡ m → b .watch .mode ≡ n → Cross m n x y → Shared a b → Flight i a b → Sim i (crossed x (withControl 0 a)) (crossed y (withControl 0 b))
+    crossed-sim :
+        (m n : Mode) (x y : Crossing) → a .watch .mode ≡ m → b .watch .mode ≡ n → Cross m n x y → Shared a b → Flight i a b →
+        Sim i (crossed x (withControl 0 a)) (crossed y (withControl 0 b))
     crossed-sim m n x y e f (both-level o) s h = record { shared = s; flight = record { modes = h .modes; counts = refl; eight = h .eight; eight′ = h .eight′; asked = h .asked } }
     crossed-sim m n x y e f both-up s h =
         record {
@@ -142,6 +144,11 @@ module _ (i : ℕ) (mission : isMission i ≡ true) where
     unfolding controlled
     controlled-sim h =
         let battery : Charged (a .battery) (b .battery) = h .shared .battery in
-        alike (Sim i) _ _ (ap (λ (n : ℕ). eqb (n + 1) judgeTicks) (h .flight .counts))
-        (crossed-sim (a .watch .mode) (b .watch .mode) _ _ refl refl (crosses (h .flight .modes) (a .battery) (b .battery) (battery .tension) (battery .ascend) (battery .descend) (battery .apart)) (h .shared) (h .flight))
-        (record { shared = h .shared; flight = record { modes = h .flight .modes; counts = ap (λ (n : ℕ). n + 1) (h .flight .counts); eight = h .flight .eight; eight′ = h .flight .eight′; asked = h .flight .asked } })
+        let flight : Flight i a b = h .flight in
+        alike (Sim i) _ _ (ap (λ (n : ℕ). eqb (n + 1) judgeTicks) (flight .counts))
+        (crossed-sim (a .watch .mode) (b .watch .mode) _ _ refl refl
+        (crosses (flight .modes) (a .battery) (b .battery) (battery .tension) (battery .ascend) (battery .descend) (battery .apart)) (h .shared) flight)
+        (record {
+          shared = h .shared;
+          flight = record { modes = flight .modes; counts = ap (λ (n : ℕ). n + 1) (flight .counts); eight = flight .eight; eight′ = flight .eight′; asked = flight .asked };
+        })

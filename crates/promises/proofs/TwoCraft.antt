@@ -37,18 +37,24 @@ module _ (i : ℕ) (mission : isMission i ≡ true) where
   reading-sim (Refused answer) sound room room′ a b h = h
   reading-sim (Accepted f) sound room room′ a b h = act-sim i mission f sound a b h
 
-  reading-lit : (r : Reading) → Sound r → shorted i r ≡ false → (room room′ : List ℕ) (a b : State) → Sim i a b → Bright a b → Bright (stepRead r a room .state) (stepRead r b room′ .state)
+  reading-lit :
+      (r : Reading) → Sound r → shorted i r ≡ false → (room room′ : List ℕ) (a b : State) → Sim i a b → Bright a b →
+      Bright (stepRead r a room .state) (stepRead r b room′ .state)
   reading-lit (Refused answer) sound none room room′ a b h l = l
   reading-lit (Accepted f) sound none room room′ a b h l = act-lit i mission f sound none a b h l
 
   -- two inputs, as good on the second
-  good-sim : {x y : List ℕ} → AsGood x y → (room room′ : List ℕ) (a b : State) → Sim i a b → Sim i (stepRead (readFrame x) a room .state) (stepRead (readFrame y) b room′ .state)
+  good-sim :
+      {x y : List ℕ} → AsGood x y → (room room′ : List ℕ) (a b : State) → Sim i a b →
+      Sim i (stepRead (readFrame x) a room .state) (stepRead (readFrame y) b room′ .state)
   unfolding actOf
   good-sim (same {bytes = x}) room room′ a b h = reading-sim (readFrame x) (read-sound x) room room′ a b h
   good-sim (higher high low high′ low′ r r′ more) room room′ a b h =
       rw (battery-read high low r, battery-read high′ low′ r′) (tension-sim i mission (word high low) (word high′ low′) more a b h)
 
-  good-lit : {x y : List ℕ} → AsGood x y → shorted i (readFrame x) ≡ false → (room room′ : List ℕ) (a b : State) → Sim i a b → Bright a b → Bright (stepRead (readFrame x) a room .state) (stepRead (readFrame y) b room′ .state)
+  good-lit :
+      {x y : List ℕ} → AsGood x y → shorted i (readFrame x) ≡ false → (room room′ : List ℕ) (a b : State) → Sim i a b → Bright a b →
+      Bright (stepRead (readFrame x) a room .state) (stepRead (readFrame y) b room′ .state)
   unfolding actOf
   good-lit (same {bytes = x}) none room room′ a b h l = reading-lit (readFrame x) (read-sound x) none room room′ a b h l
   good-lit (higher high low high′ low′ r r′ more) none room room′ a b h l = rw (battery-read high low r, battery-read high′ low′ r′) l
@@ -67,7 +73,9 @@ module _ (i : ℕ) (mission : isMission i ≡ true) where
   after-sim (next {c = c} {d = d} good p) r r′ a b v v′ h =
       after-sim p (r .1) (r′ .1) (called a c .state) (called b d .state) (called-in-range a c v) (called-in-range b d v′) (called-sim c d (r .0) (r′ .0) good a b v v′ h)
 
-  after-lit : {cs ds : List Call} → Paired cs ds → Roomy cs → Roomy ds → NeverShorted i cs → (a b : State) → T (inRange a) → T (inRange b) → Sim i a b → Bright a b → Bright (after a cs) (after b ds)
+  after-lit :
+      {cs ds : List Call} → Paired cs ds → Roomy cs → Roomy ds → NeverShorted i cs → (a b : State) → T (inRange a) → T (inRange b) → Sim i a b →
+      Bright a b → Bright (after a cs) (after b ds)
   after-lit start r r′ never a b v v′ h l = l
   after-lit (next {c = c} {d = d} good p) r r′ never a b v v′ h l =
       after-lit p (r .1) (r′ .1) (never .1) (called a c .state) (called b d .state) (called-in-range a c v) (called-in-range b d v′)

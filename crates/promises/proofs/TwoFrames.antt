@@ -58,7 +58,9 @@ grows-order false on r r′ g x = g x
 
 module _ (i : ℕ) (mission : isMission i ≡ true) where
   -- an order that is done on both
-  requested-sim : (number : ℕ) (on : Bool) (a b : State) → isIllTimed number on (a .watch .mode) ≡ false → Sim i a b → Sim i (requestSet number on a) (requestSet number on b)
+  requested-sim :
+      (number : ℕ) (on : Bool) (a b : State) → isIllTimed number on (a .watch .mode) ≡ false → Sim i a b →
+      Sim i (requestSet number on a) (requestSet number on b)
   unfolding requestSet isIllTimed
   requested-sim number on a b e h =
       record {
@@ -113,7 +115,9 @@ module _ (i : ℕ) (mission : isMission i ≡ true) where
         };
       }
 
-  thresholds-sim : (ascend descend : ℕ) → descend ≤ ascend → (a b : State) → Sim i a b → Sim i (thresholdsTaken ascend descend a .state) (thresholdsTaken ascend descend b .state)
+  thresholds-sim :
+      (ascend descend : ℕ) → descend ≤ ascend → (a b : State) → Sim i a b →
+      Sim i (thresholdsTaken ascend descend a .state) (thresholdsTaken ascend descend b .state)
   thresholds-sim ascend descend r a b h =
       record {
         flight = h .flight;

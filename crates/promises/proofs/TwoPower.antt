@@ -8,6 +8,7 @@ use Rattle.choice.specs.Choice.{bit}
 use Rattle.modules.specs.Power.{switched, isOn, isFailed}
 use Rattle.modules.proofs.PowerLaws.{on-switched, sound-switched}
 use Rattle.modules.specs.declared.power.Power.{Power}
+use Rattle.modules.specs.declared.power.Module.{Module}
 use Rattle.supervisor.specs.Order.{inSafe}
 use Rattle.supervisor.specs.Tick.{ticked, tickedIn, controlled, moduleStage, beaconStage}
 use Rattle.supervisor.specs.Act.{actOf}
@@ -50,9 +51,12 @@ module _ (i : ℕ) (mission : isMission i ≡ true) where
   staged-lit : (shorts : ℕ) → bit i shorts ≡ false → (a b : State) → Sim i a b → Bright a b → Bright (moduleStage shorts a) (moduleStage shorts b)
   staged-lit shorts none a b h l =
       let low : i < 8 = mission-low i mission in
-      rw (at-stage a (h .flight .eight) i low shorts, at-stage b (h .flight .eight′) i low shorts, none, mission-allowed i low mission (a .watch .mode), mission-allowed i low mission (b .watch .mode))
-      (lit-switched (moduleAt i a .requested && inSafe (a .watch .mode)) (moduleAt i b .requested && inSafe (b .watch .mode)) (moduleAt i a .power) (moduleAt i b .power)
-      (wanted (moduleAt i a .requested) (moduleAt i b .requested) (inSafe (a .watch .mode)) (inSafe (b .watch .mode)) (h .flight .asked .grows) (safe-at-most (h .flight .modes))) l)
+      let m : Module = moduleAt i a in
+      let n : Module = moduleAt i b in
+      rw (at-stage a (h .flight .eight) i low shorts, at-stage b (h .flight .eight′) i low shorts, none)
+      (rw (mission-allowed i low mission (a .watch .mode), mission-allowed i low mission (b .watch .mode))
+      (lit-switched (m .requested && inSafe (a .watch .mode)) (n .requested && inSafe (b .watch .mode)) (m .power) (n .power)
+      (wanted (m .requested) (n .requested) (inSafe (a .watch .mode)) (inSafe (b .watch .mode)) (h .flight .asked .grows) (safe-at-most (h .flight .modes))) l))
 
   stages-lit :
       (shorts : ℕ) → bit i shorts ≡ false → (a b : State) → Sim i a b → Bright a b →
@@ -62,7 +66,9 @@ module _ (i : ℕ) (mission : isMission i ≡ true) where
       staged-lit shorts none (controlled a) (controlled b) (controlled-sim i mission a b h)
       (rw (controlled-power a (h .flight .eight) i (mission-low i mission), controlled-power b (h .flight .eight′) i (mission-low i mission)) l)
 
-  in-modes : (m n : Mode) → AtMost m n → (shorts : ℕ) → bit i shorts ≡ false → (a b : State) → Sim i a b → Bright a b → Bright (tickedIn m shorts a .state) (tickedIn n shorts b .state)
+  in-modes :
+      (m n : Mode) → AtMost m n → (shorts : ℕ) → bit i shorts ≡ false → (a b : State) → Sim i a b → Bright a b →
+      Bright (tickedIn m shorts a .state) (tickedIn n shorts b .state)
   in-modes m n (equal {m = DeployWait phase}) shorts none a b h l = l
   in-modes m n (equal {m = Recovery}) shorts none a b h l = stages-lit shorts none a b h l
   in-modes m n (equal {m = Safe}) shorts none a b h l = stages-lit shorts none a b h l

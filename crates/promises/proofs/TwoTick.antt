@@ -33,7 +33,9 @@ module _ (i : ℕ) (mission : isMission i ≡ true) where
         }
 
     -- a second of DEPLOY_WAIT, the same on both
-    waited-sim : (phase : Phase) → a .watch .mode ≡ DeployWait phase → Sim i a b → Sim i (withMode (phaseTicked (a .antennas) phase) a) (withMode (phaseTicked (b .antennas) phase) b)
+    waited-sim :
+        (phase : Phase) → a .watch .mode ≡ DeployWait phase → Sim i a b →
+        Sim i (withMode (phaseTicked (a .antennas) phase) a) (withMode (phaseTicked (b .antennas) phase) b)
     waited-sim phase e h =
         let none : T (moduleAt i a .requested) → ⊥ = λ t. rw e at (h .flight .asked .quiet t) in
         record {
@@ -47,7 +49,9 @@ module _ (i : ℕ) (mission : isMission i ≡ true) where
           };
         }
 
-  stages-sim : (shorts : ℕ) (a b : State) → Sim i a b → Sim i (beaconStage (moduleStage shorts (controlled a)) .state) (beaconStage (moduleStage shorts (controlled b)) .state)
+  stages-sim :
+      (shorts : ℕ) (a b : State) → Sim i a b →
+      Sim i (beaconStage (moduleStage shorts (controlled a)) .state) (beaconStage (moduleStage shorts (controlled b)) .state)
   unfolding beaconStage
   stages-sim shorts a b h = staged-sim (controlled a) (controlled b) shorts (controlled-sim i mission a b h)
 

@@ -47,5 +47,9 @@ pub record Refusals : Type 0 where
   pub eightAndNine : (s : State) (c : Call) → T (within 8 9 (answered s c)) → Reported s c
   pub ten : (s : State) (c : Call) → answered s c ≡ 10 → SerialUsed s c
   -- keying, and reading back, whose contract is `Read`
-  pub keying : (text room : List ℕ) → T (within 11 14 (keyReply (keyOf text room .answer) .number)) → Unwritten (keyReply (keyOf text room .answer)) room (keyOf text room .room)
-  pub reading : (units room : List ℕ) (left : Outcome Heard) → Read units room left → T (within 14 15 (readReply (left .answer) .number)) → Unwritten (readReply (left .answer)) room (left .room)
+  pub keying :
+      (text room : List ℕ) → T (within 11 14 (keyReply (keyOf text room .answer) .number)) →
+      Unwritten (keyReply (keyOf text room .answer)) room (keyOf text room .room)
+  pub reading :
+      (units room : List ℕ) (left : Outcome Heard) → Read units room left → T (within 14 15 (readReply (left .answer) .number)) →
+      Unwritten (readReply (left .answer)) room (left .room)
