@@ -1,0 +1,153 @@
+-- Dawn, proved: an origin's last serial is the first frame's, moved on modulo 65,536 by the strides since.
+-- Assumes nothing.
+use Prim.Native.Nat.{ℕ, _+_, _%_, _≤_, _<_}
+use native.Mathlib.Omega.{arith}
+use mathlib.Core.Path.{_≡_, refl, sym, ap, _∙_}
+use mathlib.Core.Bool.{Bool, true, false}
+use mathlib.Core.List.{List, [], _∷_}
+use lib.Dec.{T, eqb, ltb}
+use borrow.Author.Tests.{eqb-true, eqb-false, ne-eqb, ltb-true}
+use Rattle.choice.specs.Choice.{if_then_else_, within}
+use Rattle.choice.proofs.ChoiceLaws.{is-true, within-low, within-high}
+use Rattle.frames.specs.Answer.{answerNumber}
+use Rattle.supervisor.specs.Range.{inRange}
+use Rattle.frames.specs.Serial.{serialCount, staleFrom, distance, classOf, lastOf}
+use Rattle.frames.specs.Frame.{readFrame}
+use Rattle.supervisor.specs.Act.{actOf}
+use Rattle.supervisor.specs.Tick.{ticked}
+use Rattle.frames.specs.declared.serial.Origin.{Origin}
+use Rattle.frames.specs.declared.serial.Class.{Class}
+use Rattle.frames.specs.declared.serial.Class.the-variants.{Repeat, Fresh, Stale}
+use Rattle.frames.specs.declared.frame.Frame.{Frame}
+use Rattle.frames.specs.declared.frame.Frame.the-variants.{Tick}
+use Rattle.frames.specs.declared.frame.Reading.the-variants.{Accepted}
+use Rattle.supervisor.specs.declared.act.Acted.{Acted}
+use Rattle.supervisor.specs.declared.state.State.{State}
+use Rattle.promises.specs.History.{Call, called, answered, isTaken, after, bears, moduleAt}
+use Rattle.promises.specs.Serials.{verdict}
+use Rattle.promises.specs.Dawn.{Dawn, Late, NotTaken, stride, movedOn, memory}
+use Rattle.promises.proofs.DateLaws.{Dated, act-dates, ticked-dates}
+use Rattle.promises.proofs.TurnLaws.{Turn, none, own, turn, dated-last}
+use Rattle.promises.proofs.Calls.{Works, Comes, stopped, second, other, comes, called-read}
+use Rattle.promises.proofs.InRange.{called-in-range, after-in-range}
+use Rattle.promises.proofs.Serials.{read-verdict}
+use Rattle.promises.proofs.Refusals.{refusals}
+
+-- Distances
+
+-- a fresh serial lies 1 to 32,767 ahead of the last
+ahead :
+    (d : ℕ) (zero near : Bool) → eqb d 0 ≡ zero → ltb d staleFrom ≡ near → (if zero then Repeat else if near then Fresh else Stale) ≡ Fresh →
+    (0 < d) × (d < staleFrom)
+ahead d true near e f h = let z : _≡_ {A = ℕ} 0 1 = cc in absurd (omega arith)
+ahead d false false e f h = let z : _≡_ {A = ℕ} 0 1 = cc in absurd (omega arith)
+ahead d false true e f h = (omega (arith, eqb-false d 0 e), ltb-true d staleFrom f)
+
+fresh-ahead : (serial last : ℕ) → classOf serial last ≡ Fresh → (0 < distance serial last) × (distance serial last < staleFrom)
+unfolding classOf
+fresh-ahead serial last e = ahead (distance serial last) (eqb (distance serial last) 0) (ltb (distance serial last) staleFrom) refl refl e
+
+-- and is the last one moved on by its distance
+moved-on : (serial last : ℕ) → 0 < distance serial last → serial % serialCount ≡ (last + distance serial last) % serialCount
+moved-on serial last h = omega arith
+
+-- what lies at most 32,768 behind is not fresh
+not-fresh :
+    (serial last old k d : ℕ) → last % serialCount ≡ (serial + d) % serialCount → (old + k) % serialCount ≡ serial % serialCount → k + d ≤ memory →
+    (0 < distance old last) × (distance old last < staleFrom) → ⊥
+not-fresh serial last old k d e f h r = omega arith
+
+-- One call
+
+no-stride : (serials : List ℕ) (last : ℕ) → stride false serials last ≡ 0
+no-stride [] last = refl
+no-stride (serial ∷ serials) last = refl
+
+not-taken : (n : ℕ) → T (within 1 7 n) → isTaken n ≡ false
+not-taken n h =
+    let low : 1 ≤ n = within-low 1 7 n h in
+    let high : n ≤ 7 = within-high 1 7 n h in
+    rw (ne-eqb n 0 (omega arith), ne-eqb n 10 (omega arith))
+
+module _ (origin : Origin) where
+  -- where an origin's last serial stands after a call, modulo 65,536
+  abbrev Strides : State → Call → Type 0
+  Strides s c =
+      lastOf origin (called s c .state .serials) % serialCount
+      ≡ (lastOf origin (s .serials) + stride (isTaken (answered s c)) (bears origin (readFrame (c .input))) (lastOf origin (s .serials))) % serialCount
+
+  own-strides : (class : Class) (serial : ℕ) (s : State) (a : Acted) → classOf serial (lastOf origin (s .serials)) ≡ class → Dated class origin serial s a →
+      lastOf origin (a .state .serials) % serialCount ≡ (lastOf origin (s .serials) + stride (isTaken (answerNumber (a .answer))) (serial ∷ []) (lastOf origin (s .serials))) % serialCount
+  own-strides Repeat serial s a e d = rw (d .0) (omega (arith, dated-last origin Repeat serial s a d))
+  own-strides Stale serial s a e d = rw (d .0) (omega (arith, dated-last origin Stale serial s a d))
+  own-strides Fresh serial s a e d =
+      rw (is-true (isTaken (answerNumber (a .answer))) (d .taken))
+      (omega (arith, dated-last origin Fresh serial s a d, moved-on serial (lastOf origin (s .serials)) (fresh-ahead serial (lastOf origin (s .serials)) e .0)))
+
+  turn-strides : (f : Frame) (s : State) (c : Call) (a : Acted) → Works s c f a → Turn origin f s a → Strides s c
+  turn-strides f s c a w (none b e) = rw (w .read, b, w .left, e) (omega arith)
+  turn-strides f s c a w (own serial b d) = rw (w .read, b, w .left) (own-strides (classOf serial (lastOf origin (s .serials))) serial s a refl d)
+
+  strides : (s : State) (c : Call) → Comes s c → Strides s c
+  strides s c (stopped answer w) = rw (w .left, not-taken (answerNumber answer) (w .number), no-stride (bears origin (readFrame (c .input))) (lastOf origin (s .serials))) (omega arith)
+  strides s c (second shorts w) = turn-strides (Tick shorts) s c (ticked shorts s) w (turn origin (Tick shorts) s (ticked shorts s) (ticked-dates shorts s))
+  strides s c (other frame e w) = turn-strides frame s c (actOf frame s) w (turn origin frame s (actOf frame s) (act-dates frame s))
+
+  -- after many calls
+  after-strides : (cs : List Call) (s : State) → lastOf origin (after s cs .serials) % serialCount ≡ (lastOf origin (s .serials) + movedOn origin s cs) % serialCount
+  after-strides [] s = omega arith
+  after-strides (c ∷ cs) s = omega (arith, after-strides cs (called s c .state), strides s c (comes s c))
+
+  -- a frame that was taken left its serial
+  left-by :
+      (class : Class) (serial : ℕ) (s : State) (a : Acted) → T (isTaken (answerNumber (a .answer))) → Dated class origin serial s a →
+      lastOf origin (a .state .serials) ≡ serial
+  left-by Repeat serial s a t d = absurd (rw (d .0) at t)
+  left-by Stale serial s a t d = absurd (rw (d .0) at t)
+  left-by Fresh serial s a t d = dated-last origin Fresh serial s a d
+
+  turn-left :
+      (f : Frame) (s : State) (c : Call) (a : Acted) (serial : ℕ) → bears origin (readFrame (c .input)) ≡ serial ∷ [] → T (isTaken (answered s c)) →
+      Works s c f a → Turn origin f s a → lastOf origin (called s c .state .serials) ≡ serial
+  turn-left f s c a serial b t w (none z e) = let read : bears origin (Accepted f) ≡ serial ∷ [] = rw (w .read) at b in cc
+  turn-left f s c a serial b t w (own n z d) =
+      let read : bears origin (Accepted f) ≡ serial ∷ [] = rw (w .read) at b in
+      let e : n ≡ serial = cc in
+      rw (w .left) (left-by (classOf n (lastOf origin (s .serials))) n s a (rw (w .left) at t) d ∙ e)
+
+  taken-left :
+      (s : State) (c : Call) (serial : ℕ) → bears origin (readFrame (c .input)) ≡ serial ∷ [] → T (isTaken (answered s c)) → Comes s c →
+      T (inRange s) × (lastOf origin (called s c .state .serials) ≡ serial)
+  taken-left s c serial b t (stopped answer w) = absurd (rw (not-taken (answerNumber answer) (w .number)) at (rw (w .left) at t))
+  taken-left s c serial b t (second shorts w) = (w .valid, turn-left (Tick shorts) s c (ticked shorts s) serial b t w (turn origin (Tick shorts) s (ticked shorts s) (ticked-dates shorts s)))
+  taken-left s c serial b t (other frame e w) = (w .valid, turn-left frame s c (actOf frame s) serial b t w (turn origin frame s (actOf frame s) (act-dates frame s)))
+
+-- the verdict is not "neither": 8 or 9
+eight-or-nine : (n : ℕ) (r q : Bool) → eqb n 8 ≡ r → eqb n 9 ≡ q → ((if r then Repeat else if q then Stale else Fresh) ≡ Fresh → ⊥) → T (within 8 9 n)
+eight-or-nine n true q e f h = rw (eqb-true n 8 e) tt
+eight-or-nine n false true e f h = rw (eqb-true n 9 f) tt
+eight-or-nine n false false e f h = absurd (h refl)
+
+late-not-taken :
+    (origin : Origin) (s : State) (first : Call) (since : List Call) (late : Call) → Late origin s first since late →
+    NotTaken (after (called s first .state) since) late
+late-not-taken origin s first since late l =
+    let (valid, last) = taken-left origin s first (l .serial) (l .bearsSerial) (l .taken) (comes s first) in
+    let t : State = after (called s first .state) since in
+    let v : T (inRange t) = after-in-range since (called s first .state) (called-in-range s first valid) in
+    let e : verdict (answered t late) ≡ classOf (l .old) (lastOf origin (t .serials)) =
+    rw (called-read t late v (l .room)) (read-verdict origin (l .old) (readFrame (late .input)) t (late .room) (l .bearsOld)) in
+    let m : lastOf origin (t .serials) % serialCount ≡ (l .serial + movedOn origin (called s first .state) since) % serialCount =
+    rw last at (after-strides origin since (called s first .state)) in
+    let old : T (within 8 9 (answered t late)) =
+    eight-or-nine (answered t late) (eqb (answered t late) 8) (eqb (answered t late) 9) refl refl
+    (λ f. not-fresh (l .serial) (lastOf origin (t .serials)) (l .old) (l .k) (movedOn origin (called s first .state) since) m (l .behind) (l .soon)
+    (fresh-ahead (l .old) (lastOf origin (t .serials)) (sym e ∙ f))) in
+    record { answer = old; state = refusals .eightAndNine t late old .state }
+
+pub dawn : Dawn
+dawn =
+    record {
+      old = late-not-taken;
+      off = λ origin number s first since late l off on. ap (moduleAt number) (late-not-taken origin s first since late l .state);
+    }

@@ -1,0 +1,67 @@
+-- Never silent, proved: while no beacon falls due the beacon count grows with the done ticks, and it stays below 300.
+-- Assumes nothing.
+use Prim.Native.Nat.{_+_, _%_, _<_}
+use native.Mathlib.Omega.{arith}
+use mathlib.Core.Path.{_≡_, refl, sym, _∙_}
+use mathlib.Core.Bool.{Bool, true, false, _||_, true≢false}
+use mathlib.Core.List.{List, [], _∷_}
+use lib.Dec.{T}
+use Rattle.choice.proofs.ChoiceLaws.{is-true, holds}
+use Rattle.supervisor.specs.Range.{inRange}
+use Rattle.supervisor.specs.declared.state.State.{State}
+use Rattle.supervisor.proofs.TickLaws.{beacon-low}
+use Rattle.promises.specs.History.{Call, called, after, doneTick, doneTicks, inDeployWait}
+use Rattle.promises.specs.NeverSilent.{NeverSilent, beaconDue, someDue, SafeTicks, fiveMinutes}
+use Rattle.promises.proofs.Calls.{Comes, stopped, second, other, comes}
+use Rattle.promises.proofs.TickLaws.{in-flight}
+use Rattle.promises.proofs.InRange.{after-in-range}
+use Rattle.promises.proofs.Deployment.{stays-over}
+use Rattle.promises.proofs.BeaconLaws.{call-count, call-sixty}
+
+neither : (a b : Bool) → a || b ≡ false → (a ≡ false) × (b ≡ false)
+neither true b e = absurd (true≢false e)
+neither false b e = (refl, e)
+
+-- the beacon count after a silent history
+silent-count : (cs : List Call) (s : State) → inDeployWait s ≡ false → someDue s cs ≡ false → after s cs .watch .beacon ≡ s .watch .beacon + doneTicks s cs
+silent-count [] s out h = omega arith
+silent-count (c ∷ cs) s out h =
+    let (here, later) = neither (beaconDue s c) (someDue (called s c .state) cs) h in
+    omega (arith, silent-count cs (called s c .state) (stays-over s (c ∷ []) out) later, call-count s c here out (comes s c))
+
+silent-sixty : (cs : List Call) (s : State) → SafeTicks s cs → someDue s cs ≡ false → after s cs .watch .beacon % 60 ≡ s .watch .beacon % 60 + doneTicks s cs
+silent-sixty [] s safe h = omega arith
+silent-sixty (c ∷ cs) s safe h =
+    let (here, later) = neither (beaconDue s c) (someDue (called s c .state) cs) h in
+    omega (arith, silent-sixty cs (called s c .state) (safe .1) later, call-sixty s c here (safe .0) (comes s c))
+
+-- a state out of range sees no done tick
+stuck : (s : State) (c : Call) → inRange s ≡ false → Comes s c → (doneTick s c ≡ false) × (called s c .state ≡ s)
+stuck s c e (stopped answer w) = (w .tick, rw (w .left))
+stuck s c e (second shorts w) = absurd (true≢false (sym (is-true (inRange s) (w .valid)) ∙ e))
+stuck s c e (other frame t w) = absurd (true≢false (sym (is-true (inRange s) (w .valid)) ∙ e))
+
+no-ticks : (cs : List Call) (s : State) → inRange s ≡ false → doneTicks s cs ≡ 0
+no-ticks [] s e = refl
+no-ticks (c ∷ cs) s e =
+    let (none, same) = stuck s c e (comes s c) in
+    rw none (rw same (omega (arith, no-ticks cs s e)))
+
+below-five-minutes : (cs : List Call) (s : State) (valid : Bool) → inRange s ≡ valid → inDeployWait s ≡ false → someDue s cs ≡ false → doneTicks s cs < fiveMinutes
+below-five-minutes cs s false e out h = omega (arith, no-ticks cs s e)
+below-five-minutes cs s true e out h =
+    let t : State = after s cs in
+    let valid : inRange t ≡ true = is-true (inRange t) (after-in-range cs s (holds (inRange s) e)) in
+    omega (arith, silent-count cs s out h, beacon-low t valid (in-flight (t .watch .mode) (stays-over s cs out)))
+
+-- what is not silent has a beacon due
+not-silent : (due : Bool) → (due ≡ false → ⊥) → T due
+not-silent true h = tt
+not-silent false h = absurd (h refl)
+
+pub never-silent : NeverSilent
+never-silent =
+    record {
+      always = λ s cs out many. not-silent (someDue s cs) (λ h. omega (arith, below-five-minutes cs s (inRange s) refl out h));
+      inSafe = λ s cs safe many. not-silent (someDue s cs) (λ h. omega (arith, silent-sixty cs s safe h));
+    }

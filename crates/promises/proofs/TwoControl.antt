@@ -1,0 +1,154 @@
+-- What two craft keep between them, for one mission module, and that the control stage keeps it.
+-- Assumes nothing.
+use Prim.Native.Nat.{ℕ, _+_, _≤_, _<_}
+use mathlib.Core.Path.{_≡_, refl, ap, _∙_}
+use mathlib.Core.Bool.{true, false}
+use lib.Dec.{T, eqb}
+use Rattle.choice.specs.Choice.{bit}
+use Rattle.choice.proofs.ChoiceLaws.{alike}
+use Rattle.modules.specs.declared.power.Module.{Module}
+use Rattle.supervisor.specs.State.{coreFour, missionFour, withControl}
+use Rattle.supervisor.specs.Range.{judgeTicks}
+use Rattle.supervisor.specs.Order.{inSafe}
+use Rattle.supervisor.specs.Tick.{controlled, crossed}
+use Rattle.supervisor.specs.declared.state.Mode.{Mode}
+use Rattle.supervisor.specs.declared.state.Mode.the-variants.{Recovery, Safe}
+use Rattle.supervisor.specs.declared.state.Battery.{Battery}
+use Rattle.supervisor.specs.declared.state.State.{State}
+use Rattle.supervisor.specs.declared.tick.Crossing.{Crossing}
+use Rattle.supervisor.specs.declared.tick.Crossing.the-variants.{Upward, Downward}
+use Rattle.promises.specs.History.{moduleAt, isMission}
+use Rattle.promises.proofs.ModuleLaws.{Eight, crossed-eight, at-crossed, mission-low, core-or-mission}
+use Rattle.promises.proofs.TwoModes.{AtMost, equal, below, Cross, both-level, both-up, second-up, both-down, first-down, first-up, second-down, crosses}
+
+-- the same thresholds; the second's tension may be higher
+abbrev pub Charged : Battery → Battery → Type 0
+Charged a b = record { tension : a .tension ≤ b .tension; ascend : a .ascend ≡ b .ascend; descend : a .descend ≡ b .descend; apart : a .descend ≤ a .ascend }
+
+-- the same antennas and serials
+abbrev pub Shared : State → State → Type 0
+Shared a b = record { antennas : a .antennas ≡ b .antennas; battery : Charged (a .battery) (b .battery); serials : a .serials ≡ b .serials }
+
+-- a mission module is requested on the first craft only in SAFE, and then on the second
+abbrev pub Asked : Mode → Module → Module → Type 0
+Asked mode m n = record { quiet : T (m .requested) → T (inSafe mode); grows : T (m .requested) → T (n .requested) }
+
+-- the modes in order, the control counts the same, and module i requested on the second if on the first
+abbrev pub Flight : ℕ → State → State → Type 0
+Flight i a b =
+    record {
+      modes : AtMost (a .watch .mode) (b .watch .mode);
+      counts : a .watch .control ≡ b .watch .control;
+      eight : Eight a;
+      eight′ : Eight b;
+      asked : Asked (a .watch .mode) (moduleAt i a) (moduleAt i b);
+    }
+
+abbrev pub Sim : ℕ → State → State → Type 0
+Sim i a b = record { shared : Shared a b; flight : Flight i a b }
+
+module _ (i : ℕ) (mission : isMission i ≡ true) where
+  low : i < 8
+  low = mission-low i mission
+
+  not-core : bit i coreFour ≡ false
+  not-core = rw mission at (core-or-mission i low)
+
+  -- a mission module's request after a crossing: upward leaves it, downward drops it
+  up-asked : (s : State) → Eight s → moduleAt i (crossed Upward (withControl 0 s)) .requested ≡ moduleAt i s .requested
+  up-asked s e = ap (λ m. m .requested) (at-crossed (withControl 0 s) e i low Safe coreFour true) ∙ rw not-core
+
+  down-asked : (s : State) → Eight s → moduleAt i (crossed Downward (withControl 0 s)) .requested ≡ false
+  down-asked s e = ap (λ m. m .requested) (at-crossed (withControl 0 s) e i low Recovery missionFour false) ∙ rw mission
+
+  up-eight : (s : State) → Eight s → Eight (crossed Upward (withControl 0 s))
+  up-eight s e = crossed-eight (withControl 0 s) e Safe coreFour true
+
+  down-eight : (s : State) → Eight s → Eight (crossed Downward (withControl 0 s))
+  down-eight s e = crossed-eight (withControl 0 s) e Recovery missionFour false
+
+  module _ (a b : State) where
+    -- control
+    crossed-sim :
+        (m n : Mode) (x y : Crossing) → a .watch .mode ≡ m → b .watch .mode ≡ n → Cross m n x y → Shared a b → Flight i a b →
+        Sim i (crossed x (withControl 0 a)) (crossed y (withControl 0 b))
+    crossed-sim m n x y e f (both-level o) s h = record { shared = s; flight = record { modes = h .modes; counts = refl; eight = h .eight; eight′ = h .eight′; asked = h .asked } }
+    crossed-sim m n x y e f both-up s h =
+        record {
+          shared = s;
+          flight = record {
+            modes = equal;
+            counts = refl;
+            eight = up-eight a (h .eight);
+            eight′ = up-eight b (h .eight′);
+            asked = record { quiet = λ t. tt; grows = λ t. rw (up-asked b (h .eight′)) (h .asked .grows (rw (up-asked a (h .eight)) at t)) };
+          };
+        }
+    crossed-sim m n x y e f second-up s h =
+        record {
+          shared = s;
+          flight = record {
+            modes = rw e below;
+            counts = refl;
+            eight = h .eight;
+            eight′ = up-eight b (h .eight′);
+            asked = record { quiet = h .asked .quiet; grows = λ t. rw (up-asked b (h .eight′)) (h .asked .grows t) };
+          };
+        }
+    crossed-sim m n x y e f both-down s h =
+        record {
+          shared = s;
+          flight = record {
+            modes = equal;
+            counts = refl;
+            eight = down-eight a (h .eight);
+            eight′ = down-eight b (h .eight′);
+            asked = record { quiet = λ t. absurd (rw (down-asked a (h .eight)) at t); grows = λ t. absurd (rw (down-asked a (h .eight)) at t) };
+          };
+        }
+    crossed-sim m n x y e f first-down s h =
+        record {
+          shared = s;
+          flight = record {
+            modes = rw f below;
+            counts = refl;
+            eight = down-eight a (h .eight);
+            eight′ = h .eight′;
+            asked = record { quiet = λ t. absurd (rw (down-asked a (h .eight)) at t); grows = λ t. absurd (rw (down-asked a (h .eight)) at t) };
+          };
+        }
+    crossed-sim m n x y e f first-up s h =
+        record {
+          shared = s;
+          flight = record {
+            modes = rw f equal;
+            counts = refl;
+            eight = up-eight a (h .eight);
+            eight′ = h .eight′;
+            asked = record { quiet = λ t. tt; grows = λ t. h .asked .grows (rw (up-asked a (h .eight)) at t) };
+          };
+        }
+    crossed-sim m n x y e f second-down s h =
+        record {
+          shared = s;
+          flight = record {
+            modes = rw e equal;
+            counts = refl;
+            eight = h .eight;
+            eight′ = down-eight b (h .eight′);
+            asked = record { quiet = h .asked .quiet; grows = λ t. absurd (rw e at (h .asked .quiet t)) };
+          };
+        }
+
+    pub controlled-sim : Sim i a b → Sim i (controlled a) (controlled b)
+    unfolding controlled
+    controlled-sim h =
+        let battery : Charged (a .battery) (b .battery) = h .shared .battery in
+        let flight : Flight i a b = h .flight in
+        alike (Sim i) _ _ (ap (λ (n : ℕ). eqb (n + 1) judgeTicks) (flight .counts))
+        (crossed-sim (a .watch .mode) (b .watch .mode) _ _ refl refl
+        (crosses (flight .modes) (a .battery) (b .battery) (battery .tension) (battery .ascend) (battery .descend) (battery .apart)) (h .shared) flight)
+        (record {
+          shared = h .shared;
+          flight = record { modes = flight .modes; counts = ap (λ (n : ℕ). n + 1) (flight .counts); eight = flight .eight; eight′ = flight .eight′; asked = flight .asked };
+        })

@@ -1,0 +1,19 @@
+-- Deployment ends: however the antennas fare and whatever else is sent, the board leaves DEPLOY_WAIT, once and for all.
+-- Assumes nothing.
+use Prim.Native.Nat.{ℕ, _≤_}
+use mathlib.Core.Path.{_≡_}
+use mathlib.Core.Bool.{false}
+use mathlib.Core.List.{List}
+use Rattle.supervisor.specs.Fresh.{freshState}
+use Rattle.supervisor.specs.declared.state.State.{State}
+use Rattle.promises.specs.History.{Call, after, doneTicks, inDeployWait}
+
+-- a day of waiting and fifteen minutes of settling, in seconds
+abbrev pub longestDeployment : ℕ
+longestDeployment = 87300
+
+pub record Deployment : Type 0 where
+  -- after so many done ticks from the fresh start the board is out of DEPLOY_WAIT
+  pub ends : (cs : List Call) → longestDeployment ≤ doneTicks freshState cs → inDeployWait (after freshState cs) ≡ false
+  -- once out of it, no call brings it back
+  pub over : (s : State) (cs : List Call) → inDeployWait s ≡ false → inDeployWait (after s cs) ≡ false
