@@ -3,3 +3,4 @@ pub mod EachLaws
 pub mod Tables
 pub mod Stores
 pub mod BitLaws
+pub mod UniqueLaws

@@ -12,8 +12,8 @@ use lib.ListN.{length, take, drop, replicate, length-drop}
 use lib.Seq.{length-take-le, take-all}
 use Rattle.choice.specs.Choice.{if_then_else_}
 use Rattle.choice.proofs.ChoiceLaws.{either, decided}
-use Rattle.supervisor.specs.Answer.{answerNumber}
-use Rattle.supervisor.specs.Frame.{totalOf, byteAt}
+use Rattle.frames.specs.Answer.{answerNumber}
+use Rattle.frames.specs.Frame.{totalOf, byteAt}
 use Rattle.supervisor.specs.Report.{reportBytes}
 use Rattle.supervisor.specs.Step.{Left, stepOf}
 use Rattle.log.specs.declared.cut.Front.{Front}

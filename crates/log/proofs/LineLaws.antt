@@ -8,7 +8,7 @@ use native.Mathlib.Omega.{arith}
 use borrow.Author.Tests.{le-leb, lt-leb}
 use lib.ListN.{length, length-append}
 use Rattle.choice.proofs.Stores.{sets-front}
-use Rattle.supervisor.specs.Frame.{byteAt, wordAt}
+use Rattle.frames.specs.Frame.{byteAt, wordAt}
 use Rattle.log.specs.Text.{decimal, hex, spaced, Put}
 use Rattle.log.specs.Line.{lineOf, refusedLine, written, longest, placed}
 use Rattle.log.proofs.TextLaws.{length-decimal, length-hex, length-spaced}

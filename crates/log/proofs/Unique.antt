@@ -4,8 +4,8 @@ use Prim.Native.Nat.{ℕ}
 use mathlib.Core.Path.{_≡_, sym, _∙_}
 use mathlib.Core.Bool.{Bool}
 use mathlib.Core.List.{List}
-use Rattle.supervisor.specs.Answer.{answerNumber}
-use Rattle.supervisor.specs.declared.answer.Answer.{Answer}
+use Rattle.frames.specs.Answer.{answerNumber}
+use Rattle.frames.specs.declared.answer.Answer.{Answer}
 use Rattle.log.specs.declared.cut.Front.{Front}
 use Rattle.log.specs.declared.entry.Log.{Log}
 use Rattle.log.specs.Cut.{cutOf}

@@ -6,11 +6,11 @@ use mathlib.Core.List.{List}
 use lib.Dec.{eqb, leb}
 use lib.ListN.{length, take, replicate}
 use Rattle.choice.specs.Choice.{if_then_else_}
-use Rattle.supervisor.specs.Answer.{answerNumber}
+use Rattle.frames.specs.Answer.{answerNumber}
 use Rattle.supervisor.specs.Fresh.{freshState}
 use Rattle.supervisor.specs.Report.{reportBytes}
 use Rattle.supervisor.specs.Step.{Left, stepOf}
-use Rattle.supervisor.specs.declared.answer.Answer.{Answer}
+use Rattle.frames.specs.declared.answer.Answer.{Answer}
 use Rattle.supervisor.specs.declared.state.State.{State}
 use Rattle.log.specs.Cut.{cutOf}
 use Rattle.log.specs.Line.{Written, longest, placed, lineOf, refusedLine}

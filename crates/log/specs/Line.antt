@@ -5,7 +5,7 @@ use mathlib.Core.List.{List, [], _∷_, _++_}
 use lib.Dec.{leb}
 use lib.ListN.{length, drop}
 use Rattle.choice.specs.Choice.{if_then_else_}
-use Rattle.supervisor.specs.Frame.{byteAt, wordAt}
+use Rattle.frames.specs.Frame.{byteAt, wordAt}
 use Rattle.log.specs.Text.{decimal, hex, spaced}
 
 -- each word after a space

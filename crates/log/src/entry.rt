@@ -6,7 +6,7 @@ use crate::cut::cut;
 use crate::line::LONGEST;
 use crate::line::line;
 use crate::line::refused;
-use supervisor::answer::Answer;
+use frames::answer::Answer;
 use supervisor::state::State;
 use supervisor::step::step;
 

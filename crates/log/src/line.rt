@@ -2,7 +2,7 @@
 ghost use mathlib.Core.Path.{_≡_};
 ghost use Prim.Native.Nat.{_+_, _≤_};
 ghost use lib.ListN.{length};
-ghost use Rattle.supervisor.specs.Answer.{answerNumber};
+ghost use Rattle.frames.specs.Answer.{answerNumber};
 ghost use Rattle.log.specs.Line.{words, headWords, answerWords, maskWords, written, placed, lineOf, refusedLine};
 ghost use Rattle.log.specs.Text.{Put};
 use crate::text::put_byte;
@@ -10,7 +10,7 @@ use crate::text::put_bytes;
 use crate::text::put_decimal;
 use crate::text::put_hex;
 use crate::text::put_word;
-use supervisor::answer::Answer;
+use frames::answer::Answer;
 
 // A room in which every line has its place: six numbers of at most 20 digits, four bytes as two hex digits, nine spaces, a newline.
 pub const LONGEST: usize = 138;

@@ -1,2 +1,3 @@
 pub mod PowerLaws
 pub mod MasksLaws
+pub mod Unique

@@ -1,12 +1,12 @@
 -- Laws of one module's second, for theorems about flights: a module that is not short, and the ranges.
 -- Assumes nothing.
-use Prim.Native.Nat.{ℕ, _-_, _≤_}
+use Prim.Native.Nat.{_-_}
 use native.Mathlib.Omega.{arith}
 use mathlib.Core.Path.{_≡_, refl}
 use mathlib.Core.Bool.{Bool, true, false, true≢false}
 use lib.Dec.{T, eqb, leb→le, le→leb, ltb}
 use borrow.Author.Tests.{eqb-false}
-use Rattle.choice.proofs.ChoiceLaws.{decided, either, within-low, within-high, within-of}
+use Rattle.choice.proofs.ChoiceLaws.{decided, either, within-high, within-of}
 use Rattle.modules.specs.Power.{switched, attempted, powerInRange, fullTries, retrySeconds, isOn, isFailed}
 use Rattle.modules.specs.declared.power.Power.{Power}
 use Rattle.modules.specs.declared.power.Power.the-variants.{On, Off, Failed}

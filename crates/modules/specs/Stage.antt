@@ -1,7 +1,7 @@
 -- All eight modules by their numbers: the module stage, requests set by a mask, the ranges of check 1.
 -- Assumes nothing.
 use Prim.Native.Nat.{ℕ}
-use mathlib.Core.Bool.{Bool, true, false, _&&_}
+use mathlib.Core.Bool.{Bool, true, _&&_}
 use mathlib.Core.List.{List, [], _∷_}
 use Rattle.choice.specs.Choice.{if_then_else_, bit}
 use Rattle.choice.specs.Each.{each}

@@ -1,3 +1,4 @@
-pub mod FrameLaws
 pub mod OrderLaws
 pub mod TickLaws
+pub mod Unique
+pub mod ShutOut

@@ -4,9 +4,9 @@ use Rattle.supervisor.specs.State.{withTension, withAntennas}
 use Rattle.supervisor.specs.Acted.{done}
 use Rattle.supervisor.specs.Tick.{ticked}
 use Rattle.supervisor.specs.Order.{orderTaken, thresholdsTaken, dated}
-use Rattle.supervisor.specs.declared.serial.Origin.the-variants.{Ground}
-use Rattle.supervisor.specs.declared.frame.Frame.{Frame}
-use Rattle.supervisor.specs.declared.frame.Frame.the-variants.{Tick, Battery, Antennas, Order, Thresholds}
+use Rattle.frames.specs.declared.serial.Origin.the-variants.{Ground}
+use Rattle.frames.specs.declared.frame.Frame.{Frame}
+use Rattle.frames.specs.declared.frame.Frame.the-variants.{Tick, Battery, Antennas, Order, Thresholds}
 use Rattle.supervisor.specs.declared.state.State.{State}
 use Rattle.supervisor.specs.declared.act.Acted.{Acted}
 

@@ -1,7 +1,7 @@
 -- What a frame that passed checks 1 to 7 gives: the next state, the answer, the beacon due.
 -- Assumes nothing.
-use Rattle.supervisor.specs.declared.answer.Answer.{Answer}
-use Rattle.supervisor.specs.declared.answer.Answer.the-variants.{Done}
+use Rattle.frames.specs.declared.answer.Answer.{Answer}
+use Rattle.frames.specs.declared.answer.Answer.the-variants.{Done}
 use Rattle.supervisor.specs.declared.tick.Due.{Due}
 use Rattle.supervisor.specs.declared.tick.Due.the-variants.{Nothing}
 use Rattle.supervisor.specs.declared.state.State.{State}

@@ -1,9 +1,6 @@
-pub mod Answer
 pub mod State
 pub mod Fresh
 pub mod Range
-pub mod Serial
-pub mod Frame
 pub mod Acted
 pub mod Tick
 pub mod Order

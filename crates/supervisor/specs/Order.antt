@@ -2,18 +2,17 @@
 -- Assumes nothing.
 use Prim.Native.Nat.{ℕ}
 use mathlib.Core.Bool.{Bool, true, false, not, _&&_}
-use mathlib.Core.List.{List}
 use lib.Dec.{eqb}
 use Rattle.choice.specs.Choice.{if_then_else_, bit}
 use Rattle.choice.specs.Each.{each}
 use Rattle.modules.specs.declared.power.Module.{Module}
 use Rattle.supervisor.specs.State.{missionFour, withModules, withSerials, withThresholds}
-use Rattle.supervisor.specs.Serial.{classOf, lastOf, movedTo}
+use Rattle.frames.specs.Serial.{classOf, lastOf, movedTo}
 use Rattle.supervisor.specs.Acted.{answered, done}
-use Rattle.supervisor.specs.declared.answer.Answer.the-variants.{SerialRepeated, SerialStale, IllTimed}
-use Rattle.supervisor.specs.declared.serial.Origin.{Origin}
-use Rattle.supervisor.specs.declared.serial.Class.{Class}
-use Rattle.supervisor.specs.declared.serial.Class.the-variants.{Repeat, Fresh, Stale}
+use Rattle.frames.specs.declared.answer.Answer.the-variants.{SerialRepeated, SerialStale, IllTimed}
+use Rattle.frames.specs.declared.serial.Origin.{Origin}
+use Rattle.frames.specs.declared.serial.Class.{Class}
+use Rattle.frames.specs.declared.serial.Class.the-variants.{Repeat, Fresh, Stale}
 use Rattle.supervisor.specs.declared.state.Mode.{Mode}
 use Rattle.supervisor.specs.declared.state.Mode.the-variants.{DeployWait, Recovery, Safe}
 use Rattle.supervisor.specs.declared.state.State.{State}

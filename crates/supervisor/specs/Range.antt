@@ -1,9 +1,10 @@
--- The ranges of check 1, and of the fields of frames.
+-- The ranges of check 1.
 -- Assumes nothing.
 use Prim.Native.Nat.{ℕ}
 use mathlib.Core.Bool.{Bool, _&&_, _||_}
-use lib.Dec.{leb, ltb, eqb}
+use lib.Dec.{ltb, eqb}
 use Rattle.choice.specs.Choice.{within}
+use Rattle.frames.specs.Frame.{isReading, areThresholds}
 use Rattle.modules.specs.Stage.{modulesInRange}
 use Rattle.supervisor.specs.declared.state.Phase.{Phase}
 use Rattle.supervisor.specs.declared.state.Phase.the-variants.{Waiting, Settling}
@@ -27,14 +28,6 @@ judgeTicks = 30
 -- the ticks from one basic beacon to the next
 abbrev pub basicTicks : ℕ
 basicTicks = 300
-
--- millivolts, 5,000 to 9,000
-abbrev pub isReading : ℕ → Bool
-isReading millivolts = within 5000 9000 millivolts
-
--- thresholds lie in 5,000 to 9,000 with descend at most ascend
-abbrev pub areThresholds : (ascend descend : ℕ) → Bool
-areThresholds ascend descend = isReading ascend && isReading descend && leb descend ascend
 
 -- tension 0 (no reading yet) is the only value outside 5,000 to 9,000
 abbrev pub batteryInRange : Battery → Bool

@@ -4,15 +4,15 @@ use Prim.Native.Nat.{ℕ, _/_, _%_}
 use mathlib.Core.List.{List, [], _∷_}
 use Rattle.modules.specs.Masks.{masksOf}
 use Rattle.modules.specs.declared.masks.Masks.{Masks}
-use Rattle.supervisor.specs.Answer.{answerNumber}
+use Rattle.frames.specs.Answer.{answerNumber}
 use Rattle.supervisor.specs.State.{modeNumber}
-use Rattle.supervisor.specs.Frame.{tickKind, batteryKind, antennasKind, orderKind, thresholdsKind}
-use Rattle.supervisor.specs.declared.serial.Origin.{Origin}
-use Rattle.supervisor.specs.declared.serial.Origin.the-variants.{Ground, Payload}
+use Rattle.frames.specs.Frame.{tickKind, batteryKind, antennasKind, orderKind, thresholdsKind}
+use Rattle.frames.specs.declared.serial.Origin.{Origin}
+use Rattle.frames.specs.declared.serial.Origin.the-variants.{Ground, Payload}
 use Rattle.supervisor.specs.declared.tick.Due.{Due}
 use Rattle.supervisor.specs.declared.tick.Due.the-variants.{Nothing, Basic, Complete}
-use Rattle.supervisor.specs.declared.frame.Frame.{Frame}
-use Rattle.supervisor.specs.declared.frame.Frame.the-variants.{Tick, Battery, Antennas, Order, Thresholds}
+use Rattle.frames.specs.declared.frame.Frame.{Frame}
+use Rattle.frames.specs.declared.frame.Frame.the-variants.{Tick, Battery, Antennas, Order, Thresholds}
 use Rattle.supervisor.specs.declared.act.Acted.{Acted}
 use Rattle.supervisor.specs.declared.report.Head.{Head}
 

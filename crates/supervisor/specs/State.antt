@@ -4,12 +4,11 @@ use Prim.Native.Nat.{ℕ}
 use mathlib.Core.Bool.{Bool}
 use mathlib.Core.List.{List}
 use Rattle.modules.specs.declared.power.Module.{Module}
-use Rattle.supervisor.specs.declared.state.Phase.{Phase}
 use Rattle.supervisor.specs.declared.state.Mode.{Mode}
 use Rattle.supervisor.specs.declared.state.Mode.the-variants.{DeployWait, Recovery, Safe}
 use Rattle.supervisor.specs.declared.state.Watch.{Watch}
 use Rattle.supervisor.specs.declared.state.Battery.{Battery}
-use Rattle.supervisor.specs.declared.state.Serials.{Serials}
+use Rattle.frames.specs.declared.serial.Serials.{Serials}
 use Rattle.supervisor.specs.declared.state.State.{State}
 
 -- Mode: 0 DEPLOY_WAIT, 1 RECOVERY, 2 SAFE; the higher number is the better mode

@@ -6,14 +6,14 @@ use lib.Dec.{leb}
 use lib.ListN.{length, drop}
 use Rattle.choice.specs.Choice.{if_then_else_}
 use Rattle.supervisor.specs.Range.{inRange}
-use Rattle.supervisor.specs.Frame.{readFrame}
+use Rattle.frames.specs.Frame.{readFrame}
 use Rattle.supervisor.specs.Act.{actOf}
 use Rattle.supervisor.specs.Report.{reportBytes, reportOf}
-use Rattle.supervisor.specs.declared.answer.Answer.{Answer}
-use Rattle.supervisor.specs.declared.answer.Answer.the-variants.{StateOutside, NoRoom}
-use Rattle.supervisor.specs.declared.frame.Frame.{Frame}
-use Rattle.supervisor.specs.declared.frame.Reading.{Reading}
-use Rattle.supervisor.specs.declared.frame.Reading.the-variants.{Refused, Accepted}
+use Rattle.frames.specs.declared.answer.Answer.{Answer}
+use Rattle.frames.specs.declared.answer.Answer.the-variants.{StateOutside, NoRoom}
+use Rattle.frames.specs.declared.frame.Frame.{Frame}
+use Rattle.frames.specs.declared.frame.Reading.{Reading}
+use Rattle.frames.specs.declared.frame.Reading.the-variants.{Refused, Accepted}
 use Rattle.supervisor.specs.declared.state.State.{State}
 use Rattle.supervisor.specs.declared.act.Acted.{Acted}
 use Rattle.supervisor.specs.declared.step.Stepped.{Stepped}

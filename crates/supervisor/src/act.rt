@@ -4,10 +4,10 @@ ghost use mathlib.Core.Bool.{true};
 ghost use Rattle.supervisor.specs.Range.{inRange};
 ghost use Rattle.supervisor.specs.Acted.{answered};
 ghost use Rattle.supervisor.specs.Act.{actOf};
-use crate::answer::Answer;
-use crate::frame::Frame;
 use crate::state::State;
 use crate::tick::Due;
+use frames::answer::Answer;
+use frames::frame::Frame;
 
 // The next state, the answer (0, 8, 9 or 10), and the beacon due.
 pub struct Acted {

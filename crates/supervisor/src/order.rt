@@ -1,16 +1,16 @@
 // What the frames other than ticks do. None of them switches a module or changes the mode.
 ghost use mathlib.Core.Path.{_≡_};
 ghost use Rattle.supervisor.specs.State.{withTension, withAntennas};
-ghost use Rattle.supervisor.specs.declared.serial.Origin.the-variants.{Ground};
+ghost use Rattle.frames.specs.declared.serial.Origin.the-variants.{Ground};
 ghost use Rattle.supervisor.specs.Order.{inSafe, isIllTimed, requestSet, orderTaken, thresholdsTaken, dated};
 use crate::act::Acted;
 use crate::act::answered;
-use crate::answer::Answer;
-use crate::serial::Class;
-use crate::serial::Origin;
 use crate::state::Mode;
 use crate::state::State;
 use crate::tick::MISSION;
+use frames::answer::Answer;
+use frames::serial::Class;
+use frames::serial::Origin;
 use modules::power::Module;
 
 impl Mode {

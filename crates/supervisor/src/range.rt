@@ -1,25 +1,13 @@
 // The ranges of check 1.
 ghost use mathlib.Core.Path.{_≡_};
-ghost use Rattle.supervisor.specs.Range.{isReading, areThresholds, batteryInRange, phaseInRange, watchInRange, inRange};
+ghost use Rattle.supervisor.specs.Range.{batteryInRange, phaseInRange, watchInRange, inRange};
 use crate::state::Battery;
 use crate::state::Mode;
 use crate::state::Phase;
 use crate::state::State;
 use crate::state::Watch;
-
-// Whether a number of millivolts is a battery's.
-pub(crate) fn is_reading(millivolts: u16) -> bool
-    ensures { λ r. ⌜ r ≡ isReading millivolts ⌝ }
-{
-    (5000 <= millivolts) & (millivolts <= 9000)
-}
-
-// Whether two numbers of millivolts are a pair of thresholds.
-pub(crate) fn are_thresholds(ascend: u16, descend: u16) -> bool
-    ensures { λ r. ⌜ r ≡ areThresholds ascend descend ⌝ }
-{
-    is_reading(ascend) & is_reading(descend) & (descend <= ascend)
-}
+use frames::frame::are_thresholds;
+use frames::frame::is_reading;
 
 impl Battery {
     fn in_range(self) -> bool

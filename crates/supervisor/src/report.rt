@@ -5,9 +5,9 @@ ghost use Prim.Native.Nat.{_≤_};
 ghost use lib.ListN.{length, drop};
 ghost use Rattle.supervisor.specs.Report.{originNumber, dueNumber, headOf, reportOf, reportBytes};
 use crate::act::Acted;
-use crate::frame::Frame;
-use crate::serial::Origin;
 use crate::tick::Due;
+use frames::frame::Frame;
+use frames::serial::Origin;
 
 // The kind answered, its origin and its serial.
 pub struct Head {

@@ -2,6 +2,7 @@
 ghost use mathlib.Core.Path.{_≡_};
 ghost use Rattle.supervisor.specs.State.{modeNumber};
 ghost use Rattle.supervisor.specs.Fresh.{freshState, offRequested};
+use frames::serial::Serials;
 use modules::power::Module;
 use modules::power::Power;
 
@@ -32,12 +33,6 @@ pub struct Battery {
     pub tension: u16,
     pub ascend: u16,
     pub descend: u16,
-}
-
-// Each origin's last serial.
-pub struct Serials {
-    pub ground: u16,
-    pub payload: u16,
 }
 
 pub struct State {

@@ -2,11 +2,11 @@
 ghost use mathlib.Core.Path.{_≡_};
 ghost use Rattle.supervisor.specs.Step.{left, stepOf};
 use crate::act::act;
-use crate::answer::Answer;
-use crate::frame::Reading;
-use crate::frame::read;
 use crate::report::write;
 use crate::state::State;
+use frames::answer::Answer;
+use frames::frame::Reading;
+use frames::frame::read;
 
 // The answer, and the next state.
 pub struct Stepped {

@@ -5,12 +5,12 @@ ghost use Prim.Native.Nat.{_<_};
 ghost use Rattle.supervisor.specs.Range.{phaseInRange, inRange, judgeTicks, basicTicks};
 ghost use Rattle.supervisor.specs.Tick.{phaseTicked, crossingOf, crossedTo, controlled, allowedIn, moduleStage, dueAt, countAfter, beaconStage, ticked};
 use crate::act::Acted;
-use crate::answer::Answer;
 use crate::state::Battery;
 use crate::state::Mode;
 use crate::state::Phase;
 use crate::state::State;
 use crate::state::Watch;
+use frames::answer::Answer;
 
 pub(crate) const CORE: u8 = 0x27;
 
@@ -64,20 +64,16 @@ impl Mode {
     {
         match self {
             Mode::DeployWait(_) => Crossing::Level,
-            Mode::Recovery => {
-                if battery.ascend < battery.tension {
-                    Crossing::Upward
-                } else {
-                    Crossing::Level
-                }
-            }
-            Mode::Safe => {
-                if battery.tension < battery.descend {
-                    Crossing::Downward
-                } else {
-                    Crossing::Level
-                }
-            }
+            Mode::Recovery => if battery.ascend < battery.tension {
+                Crossing::Upward
+            } else {
+                Crossing::Level
+            },
+            Mode::Safe => if battery.tension < battery.descend {
+                Crossing::Downward
+            } else {
+                Crossing::Level
+            },
         }
     }
 
@@ -98,20 +94,16 @@ impl Mode {
     {
         match self {
             Mode::DeployWait(_) => Due::Nothing,
-            Mode::Recovery => {
-                if count == 300 {
-                    Due::Basic
-                } else {
-                    Due::Nothing
-                }
-            }
-            Mode::Safe => {
-                if count % 60 == 0 {
-                    Due::Complete
-                } else {
-                    Due::Nothing
-                }
-            }
+            Mode::Recovery => if count == 300 {
+                Due::Basic
+            } else {
+                Due::Nothing
+            },
+            Mode::Safe => if count % 60 == 0 {
+                Due::Complete
+            } else {
+                Due::Nothing
+            },
         }
     }
 }
@@ -217,7 +209,11 @@ impl State {
                     due: Due::Nothing,
                 }
             }
-            _ => self.control().module_stage(shorts).beacon_stage(),
+            _ => {
+                let judged = self.control();
+                let switched = judged.module_stage(shorts);
+                switched.beacon_stage()
+            }
         }
     }
 }

@@ -1,14 +1,13 @@
 -- `masks_of` meets its contract: from module i up, the masks are gathered.
 -- Assumes nothing.
 use Prim.Native.Nat.{_≤_}
-use mathlib.Core.Path.{_≡_, refl, sym, _∙_}
+use mathlib.Core.Path.{_≡_, refl, sym}
 use native.Mathlib.Omega.{arith}
-use lib.ListN.{length, drop}
+use lib.ListN.{length, drop, length-drop}
+use borrow.Author.Needs.{needs}
 use Rattle.choice.proofs.EachLaws.{gathered-turn, gathered-none, length-mapped}
-use lib.ListN.{length-drop}
 use Rattle.modules.specs.Masks.{maskOf, masksOf, withModule}
 use Rattle.modules.proofs.MasksLaws.{masksOf-small}
-use borrow.Author.Needs.{needs}
 use Rattle.modules.proofs.masks.masks_of.Statement.{statement}
 use Rattle.modules.proofs.masks.masks_of.Tie as tie
 

@@ -1,3 +1,5 @@
+-- `push` meets its contract.
+-- Assumes nothing.
 use borrow.Author.Needs.{needs}
 use Rattle.modules.proofs.masks.push.Statement.{statement}
 use Rattle.modules.proofs.masks.push.Tie as tie

@@ -1,5 +1,7 @@
-use Rattle.supervisor.specs.Act.{actOf}
+-- `act` meets its contract.
+-- Assumes nothing.
 use borrow.Author.Needs.{needs}
+use Rattle.supervisor.specs.Act.{actOf}
 use Rattle.supervisor.proofs.act.act.Statement.{statement}
 use Rattle.supervisor.proofs.act.act.Tie as tie
 

@@ -1,3 +1,5 @@
+-- `head_of` meets its contract.
+-- Assumes nothing.
 use borrow.Author.Needs.{needs}
 use Rattle.supervisor.proofs.report.head_of.Statement.{statement}
 use Rattle.supervisor.proofs.report.head_of.Tie as tie

@@ -1,9 +1,11 @@
+-- `write` meets its contract.
+-- Assumes nothing.
 use native.Mathlib.Omega.{arith}
 use lib.ListN.{length-set}
 use lib.Seq.{sets-eq}
 use denote.Ref.{now}
-use Rattle.supervisor.specs.Report.{reportOf}
 use borrow.Author.Needs.{needs}
+use Rattle.supervisor.specs.Report.{reportOf}
 use Rattle.supervisor.proofs.report.write.Statement.{statement}
 use Rattle.supervisor.proofs.report.write.Tie as tie
 

@@ -1,5 +1,7 @@
-use Rattle.supervisor.specs.Fresh.{freshState}
+-- `fresh` meets its contract.
+-- Assumes nothing.
 use borrow.Author.Needs.{needs}
+use Rattle.supervisor.specs.Fresh.{freshState}
 use Rattle.supervisor.proofs.state.fresh.Statement.{statement}
 use Rattle.supervisor.proofs.state.fresh.Tie as tie
 

@@ -1,6 +1,8 @@
+-- `step` meets its contract.
+-- Assumes nothing.
 use borrow.Author.Tests.{le-leb, lt-leb, not-false, not-true}
-use Rattle.supervisor.specs.Step.{stepOf}
 use borrow.Author.Needs.{needs}
+use Rattle.supervisor.specs.Step.{stepOf}
 use Rattle.supervisor.proofs.step.step.Statement.{statement}
 use Rattle.supervisor.proofs.step.step.Tie as tie
 

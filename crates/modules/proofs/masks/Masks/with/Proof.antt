@@ -1,5 +1,7 @@
-use Rattle.modules.specs.Masks.{withModule}
+-- `Masks::with` meets its contract.
+-- Assumes nothing.
 use borrow.Author.Needs.{needs}
+use Rattle.modules.specs.Masks.{withModule}
 use Rattle.modules.proofs.masks.Masks.with.Statement.{statement}
 use Rattle.modules.proofs.masks.Masks.with.Tie as tie
 

@@ -1,3 +1,5 @@
+-- `Mode::crossing` meets its contract.
+-- Assumes nothing.
 use borrow.Author.Tests.{lt-ltb, le-ltb}
 use borrow.Author.Needs.{needs}
 use Rattle.supervisor.proofs.state.Mode.crossing.Statement.{statement}

@@ -1,3 +1,5 @@
+-- `Mode::due` meets its contract.
+-- Assumes nothing.
 use borrow.Author.Tests.{eq-eqb, ne-eqb}
 use borrow.Author.Needs.{needs}
 use Rattle.supervisor.proofs.state.Mode.due.Statement.{statement}

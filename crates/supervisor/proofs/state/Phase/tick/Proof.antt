@@ -1,10 +1,11 @@
-use Rattle.choice.specs.Choice.{within}
-use Rattle.supervisor.specs.Range.{waitSeconds, settleSeconds}
+-- `Phase::tick` meets its contract.
+-- Assumes nothing.
 use native.Mathlib.Omega.{arith}
 use borrow.Author.Tests.{ltb-true, eq-eqb, ne-eqb}
-use Rattle.choice.proofs.ChoiceLaws.{holds, within-low}
-use Rattle.supervisor.specs.Range.{settleSeconds}
 use borrow.Author.Needs.{needs}
+use Rattle.choice.specs.Choice.{within}
+use Rattle.supervisor.specs.Range.{waitSeconds, settleSeconds}
+use Rattle.choice.proofs.ChoiceLaws.{holds, within-low}
 use Rattle.supervisor.proofs.state.Phase.tick.Statement.{statement}
 use Rattle.supervisor.proofs.state.Phase.tick.Tie as tie
 

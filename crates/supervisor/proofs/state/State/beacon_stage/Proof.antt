@@ -1,5 +1,7 @@
-use Rattle.supervisor.specs.Tick.{beaconStage}
+-- `State::beacon_stage` meets its contract.
+-- Assumes nothing.
 use borrow.Author.Needs.{needs}
+use Rattle.supervisor.specs.Tick.{beaconStage}
 use Rattle.supervisor.proofs.state.State.beacon_stage.Statement.{statement}
 use Rattle.supervisor.proofs.state.State.beacon_stage.Tie as tie
 

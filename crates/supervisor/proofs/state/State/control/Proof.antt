@@ -1,6 +1,8 @@
+-- `State::control` meets its contract.
+-- Assumes nothing.
 use borrow.Author.Tests.{eq-eqb, ne-eqb}
-use Rattle.supervisor.specs.Tick.{controlled}
 use borrow.Author.Needs.{needs}
+use Rattle.supervisor.specs.Tick.{controlled}
 use Rattle.supervisor.proofs.state.State.control.Statement.{statement}
 use Rattle.supervisor.proofs.state.State.control.Tie as tie
 

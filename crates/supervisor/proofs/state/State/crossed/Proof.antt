@@ -1,3 +1,5 @@
+-- `State::crossed` meets its contract.
+-- Assumes nothing.
 use borrow.Author.Needs.{needs}
 use Rattle.supervisor.proofs.state.State.crossed.Statement.{statement}
 use Rattle.supervisor.proofs.state.State.crossed.Tie as tie

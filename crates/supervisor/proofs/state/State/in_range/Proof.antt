@@ -1,5 +1,7 @@
-use Rattle.supervisor.specs.Range.{inRange}
+-- `State::in_range` meets its contract.
+-- Assumes nothing.
 use borrow.Author.Needs.{needs}
+use Rattle.supervisor.specs.Range.{inRange}
 use Rattle.supervisor.proofs.state.State.in_range.Statement.{statement}
 use Rattle.supervisor.proofs.state.State.in_range.Tie as tie
 

@@ -1,5 +1,7 @@
-use Rattle.supervisor.specs.Tick.{moduleStage}
+-- `State::module_stage` meets its contract.
+-- Assumes nothing.
 use borrow.Author.Needs.{needs}
+use Rattle.supervisor.specs.Tick.{moduleStage}
 use Rattle.supervisor.proofs.state.State.module_stage.Statement.{statement}
 use Rattle.supervisor.proofs.state.State.module_stage.Tie as tie
 

@@ -1,3 +1,5 @@
+-- `State::order` meets its contract.
+-- Assumes nothing.
 use borrow.Author.Needs.{needs}
 use Rattle.supervisor.proofs.state.State.order.Statement.{statement}
 use Rattle.supervisor.proofs.state.State.order.Tie as tie

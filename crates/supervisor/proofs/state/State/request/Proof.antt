@@ -1,9 +1,11 @@
+-- `State::request` meets its contract.
+-- Assumes nothing.
 use mathlib.Core.Path.{_≡_}
 use native.Mathlib.Omega.{arith}
 use lib.ListN.{length}
+use borrow.Author.Needs.{needs}
 use Rattle.choice.proofs.EachLaws.{length-mapped}
 use Rattle.supervisor.proofs.OrderLaws.{request-stored, request-past}
-use borrow.Author.Needs.{needs}
 use Rattle.supervisor.proofs.state.State.request.Statement.{statement}
 use Rattle.supervisor.proofs.state.State.request.Tie as tie
 

@@ -1,3 +1,5 @@
+-- `State::thresholds` meets its contract.
+-- Assumes nothing.
 use borrow.Author.Needs.{needs}
 use Rattle.supervisor.proofs.state.State.thresholds.Statement.{statement}
 use Rattle.supervisor.proofs.state.State.thresholds.Tie as tie

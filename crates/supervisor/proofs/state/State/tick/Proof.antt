@@ -1,17 +1,18 @@
-use Prim.Native.Nat.{ℕ}
+-- `State::tick` meets its contract.
+-- Assumes nothing.
 use mathlib.Core.List.{[], _∷_}
 use mathlib.Core.Logic.{⊎-elim}
 use native.Mathlib.Omega.{arith}
 use lib.Dec.{T}
 use types.Run.{OneOf}
 use denote.Enum.Declared
+use borrow.Author.Needs.{needs}
 use Rattle.choice.proofs.ChoiceLaws.{is-true}
 use Rattle.supervisor.proofs.TickLaws.{inFlight, inRange-watch, inRange-phase, control-low, beacon-low, stages-beacon, ticked-flight}
 use Rattle.supervisor.specs.Tick.{ticked}
 use Rattle.supervisor.specs.declared.state.Mode.{Mode}
 use Rattle.supervisor.specs.declared.state.Mode.the-variants.{DeployWait, Recovery, Safe}
 use Rattle.supervisor.proofs.state.Mode as mode-tags
-use borrow.Author.Needs.{needs}
 use Rattle.supervisor.proofs.state.State.tick.Statement.{statement}
 use Rattle.supervisor.proofs.state.State.tick.Tie as tie
 

@@ -1,3 +1,5 @@
+-- `Watch::in_range` meets its contract.
+-- Assumes nothing.
 use borrow.Author.Needs.{needs}
 use Rattle.supervisor.proofs.state.Watch.in_range.Statement.{statement}
 use Rattle.supervisor.proofs.state.Watch.in_range.Tie as tie

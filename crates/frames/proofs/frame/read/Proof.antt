@@ -1,0 +1,92 @@
+-- `read` meets its contract.
+-- Assumes nothing.
+use Prim.Native.Nat.{ℕ}
+use mathlib.Core.Path.{_≡_, sym, ap, _∙_}
+use native.Mathlib.Omega.{arith}
+use lib.ListN.{length}
+use borrow.Author.Tests.{eq-eqb, ne-eqb}
+use borrow.Author.Needs.{needs}
+use Rattle.frames.proofs.FrameLaws.{last-total, read-fields}
+use Rattle.frames.specs.Frame.{byteAt, fieldsOf, totalOf, readFrame}
+use Rattle.frames.proofs.frame.read.Statement.{statement}
+use Rattle.frames.proofs.frame.read.Tie as tie
+
+returns : tie.Need-returns
+unfolding readFrame
+returns c = simp (eq-eqb _ _ (c .if1 .taken))
+
+shared-slice-read-kind : tie.Need-shared-slice-read-kind
+shared-slice-read-kind c = search needs
+
+total-requires : tie.Need-total-requires
+total-requires c κs = search needs
+
+returns-2 : tie.Need-returns-2
+unfolding readFrame
+returns-2 c = simp (ne-eqb _ _ (c .before .before .before .if1 .left), eq-eqb _ _ (rw (c .before .total .ensures) at (c .if2 .taken)))
+
+returns-3 : tie.Need-returns-3
+unfolding readFrame
+returns-3 c = simp (ne-eqb _ _ (c .before .before .before .before .if1 .left), ne-eqb _ _ (rw (c .before .before .total .ensures) at (c .before .if2 .left)), ne-eqb _ _ (rw (c .before .before .total .ensures) at (c .if3 .taken)))
+
+-- what is known once checks 3 to 5 have passed
+told : (c : tie.Else3) → length (c .before .before .before .before .before .before .args .bytes .now) ≡ totalOf (byteAt 0 (c .before .before .before .before .before .before .args .bytes .now))
+told c = rw (c .before .before .total .ensures) at (c .if3 .left)
+
+by-kind : (c : tie.Else3) → readFrame (c .before .before .before .before .before .before .args .bytes .now) ≡ fieldsOf (byteAt 0 (c .before .before .before .before .before .before .args .bytes .now)) (c .before .before .before .before .before .before .args .bytes .now)
+by-kind c = read-fields (c .before .before .before .before .before .before .args .bytes .now) (c .before .before .before .before .if1 .left) (rw (c .before .before .total .ensures) at (c .before .if2 .left)) (told c)
+
+shared-slice-read-t13 : tie.Need-shared-slice-read-t13
+unfolding totalOf
+shared-slice-read-t13 c = omega (arith, told (c .before .before) ∙ ap totalOf (c .before .match .keys1))
+
+battery-requires : tie.Need-battery-requires
+unfolding totalOf
+battery-requires c κs = told (c .before) ∙ ap totalOf (c .match .keys2)
+
+antennas-requires : tie.Need-antennas-requires
+unfolding totalOf
+antennas-requires c κs = told (c .before) ∙ ap totalOf (c .match .keys3)
+
+order-requires : tie.Need-order-requires
+unfolding totalOf
+order-requires c κs = told (c .before) ∙ ap totalOf (c .match .keys4)
+
+thresholds-requires : tie.Need-thresholds-requires
+unfolding totalOf
+thresholds-requires c κs = told (c .before) ∙ last-total _ (c .match .rest .0 .0 .0 .1) (c .match .rest .0 .0 .1) (c .match .rest .0 .1) (c .match .rest .1) (rw (c .before .before .before .total .ensures) at (c .before .before .if2 .left))
+
+returns-4 : tie.Need-returns-4
+returns-4 c = sym (by-kind (c .before .before) ∙ ap (λ (k : ℕ). fieldsOf k (c .before .before .before .before .before .before .before .before .args .bytes .now)) (c .before .match .keys1))
+
+returns-5 : tie.Need-returns-5
+returns-5 c = c .battery .ensures ∙ sym (by-kind (c .before .before) ∙ ap (λ (k : ℕ). fieldsOf k (c .before .before .before .before .before .before .before .before .args .bytes .now)) (c .before .match .keys2))
+
+returns-6 : tie.Need-returns-6
+returns-6 c = c .antennas .ensures ∙ sym (by-kind (c .before .before) ∙ ap (λ (k : ℕ). fieldsOf k (c .before .before .before .before .before .before .before .before .args .bytes .now)) (c .before .match .keys3))
+
+returns-7 : tie.Need-returns-7
+returns-7 c = c .order .ensures ∙ sym (by-kind (c .before .before) ∙ ap (λ (k : ℕ). fieldsOf k (c .before .before .before .before .before .before .before .before .args .bytes .now)) (c .before .match .keys4))
+
+returns-8 : tie.Need-returns-8
+returns-8 c = c .thresholds .ensures ∙ sym (by-kind (c .before .before) ∙ simp (ne-eqb _ _ (c .before .match .rest .0 .0 .0 .1), ne-eqb _ _ (c .before .match .rest .0 .0 .1), ne-eqb _ _ (c .before .match .rest .0 .1), ne-eqb _ _ (c .before .match .rest .1)))
+
+pub read-spec : {M : Type 1} → statement M
+read-spec =
+    tie.close
+    (tie.spec
+    returns
+    shared-slice-read-kind
+    total-requires
+    returns-2
+    returns-3
+    shared-slice-read-t13
+    battery-requires
+    antennas-requires
+    order-requires
+    thresholds-requires
+    returns-4
+    returns-5
+    returns-6
+    returns-7
+    returns-8)

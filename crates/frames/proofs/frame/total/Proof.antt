@@ -1,0 +1,33 @@
+-- `total` meets its contract.
+-- Assumes nothing.
+use borrow.Author.Tests.{ne-eqb}
+use Rattle.frames.specs.Frame.{totalOf}
+use Rattle.frames.proofs.frame.total.Statement.{statement}
+use Rattle.frames.proofs.frame.total.Tie as tie
+
+returns : tie.Need-returns
+unfolding totalOf
+returns c = simp (c .match .keys1)
+
+returns-2 : tie.Need-returns-2
+unfolding totalOf
+returns-2 c = simp (c .match .keys2)
+
+returns-3 : tie.Need-returns-3
+unfolding totalOf
+returns-3 c = simp (c .match .keys3)
+
+returns-4 : tie.Need-returns-4
+unfolding totalOf
+returns-4 c = simp (c .match .keys4)
+
+returns-5 : tie.Need-returns-5
+unfolding totalOf
+returns-5 c = simp (c .match .keys5)
+
+returns-6 : tie.Need-returns-6
+unfolding totalOf
+returns-6 c = simp (ne-eqb _ _ (c .match .rest .0 .0 .0 .0 .1), ne-eqb _ _ (c .match .rest .0 .0 .0 .1), ne-eqb _ _ (c .match .rest .0 .0 .1), ne-eqb _ _ (c .match .rest .0 .1), ne-eqb _ _ (c .match .rest .1))
+
+pub total-spec : {M : Type 1} → statement M
+total-spec = tie.close (tie.spec returns returns-2 returns-3 returns-4 returns-5 returns-6)

@@ -1,0 +1,64 @@
+// Serials: an origin's last one, and the class of the next by its distance.
+ghost use mathlib.Core.Path.{_≡_};
+ghost use Rattle.frames.specs.Serial.{classOf, lastOf, movedTo};
+// Who sent a frame.
+pub enum Origin {
+    // 1: ground, through MCS
+    Ground,
+    // 2: the payload
+    Payload,
+}
+
+// Each origin's last serial.
+pub struct Serials {
+    pub ground: u16,
+    pub payload: u16,
+}
+
+// A serial beside its origin's last.
+pub enum Class {
+    Repeat,
+    Fresh,
+    Stale,
+}
+
+// The class of a serial, by its distance from the last.
+fn classify(serial: u16, last: u16) -> Class
+    ensures { λ r. ⌜ r ≡ classOf serial last ⌝ }
+{
+    let distance = std::num::wrapping_sub_u16(serial, last);
+    if distance == 0 {
+        Class::Repeat
+    } else if distance < 32768 {
+        Class::Fresh
+    } else {
+        Class::Stale
+    }
+}
+
+impl Serials {
+    // The class of a serial from an origin.
+    pub fn class(self, origin: Origin, serial: u16) -> Class
+        ensures { λ r. ⌜ r ≡ classOf serial (lastOf origin self) ⌝ }
+    {
+        match origin {
+            Origin::Ground => classify(serial, self.ground),
+            Origin::Payload => classify(serial, self.payload),
+        }
+    }
+
+    // The serials once a fresh one has become the last of its origin.
+    pub fn moved(mut self, origin: Origin, serial: u16) -> Serials
+        ensures { λ r. ⌜ r ≡ movedTo origin serial self ⌝ }
+    {
+        match origin {
+            Origin::Ground => {
+                self.ground = serial;
+            }
+            Origin::Payload => {
+                self.payload = serial;
+            }
+        }
+        self
+    }
+}

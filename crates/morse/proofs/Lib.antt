@@ -1,0 +1,10 @@
+pub mod Everywhere
+pub mod SignsLaws
+pub mod TextsLaws
+pub mod UnitsLaws
+pub mod KeyingLaws
+pub mod GuessingLaws
+pub mod GuessIsRight
+pub mod ReadingLaws
+pub mod ReadBack
+pub mod Unique

@@ -1,0 +1,66 @@
+-- The outcome of each public call is unique: no second outcome satisfies its contract.
+-- Assumes nothing.
+use mathlib.Core.Path.{_≡_, refl, sym, _∙_, subst}
+use mathlib.Core.Bool.{Bool, true, false, _&&_}
+use mathlib.Core.Logic.{_⊎_, inl, inr, ⊎-elim}
+use mathlib.Core.List.{List, [], _∷_}
+use Prim.Native.Nat.{ℕ}
+use lib.Dec.{T, eqb, eqb→eq, eqb-refl}
+use Rattle.choice.proofs.ChoiceLaws.{and-left, and-right, and-both}
+use Rattle.morse.specs.declared.keying.Keyed.{Keyed}
+use Rattle.morse.specs.declared.reading.Heard.{Heard}
+use Rattle.morse.specs.declared.texts.Fault.{Fault}
+use Rattle.morse.specs.Answers.{Outcome}
+use Rattle.morse.specs.Texts.{faultOf, faultNumber}
+use Rattle.morse.specs.Units.{unitsOf}
+use Rattle.morse.specs.Keying.{keyOf}
+use Rattle.morse.specs.Guessing.{heard}
+use Rattle.morse.specs.Reading.{Keys, Read}
+use Rattle.morse.proofs.TextsLaws.{is-fair}
+use Rattle.morse.proofs.ReadingLaws.{heard-text}
+
+pub one-fault : (text : List ℕ) (f g : Fault) → f ≡ faultOf text → g ≡ faultOf text → f ≡ g
+one-fault text f g p q = p ∙ sym q
+
+pub one-keying : (text room : List ℕ) (a b : Outcome Keyed) → a ≡ keyOf text room → b ≡ keyOf text room → a ≡ b
+one-keying text room a b p q = p ∙ sym q
+
+-- whether two lists of bytes are the same
+abbrev alike : List ℕ → List ℕ → Bool
+alike [] [] = true
+alike [] (y ∷ ys) = false
+alike (x ∷ xs) [] = false
+alike (x ∷ xs) (y ∷ ys) = eqb x y && alike xs ys
+
+alike-eq : (xs ys : List ℕ) → T (alike xs ys) → xs ≡ ys
+alike-eq [] [] t = refl
+alike-eq [] (y ∷ ys) t = absurd t
+alike-eq (x ∷ xs) [] t = absurd t
+alike-eq (x ∷ xs) (y ∷ ys) t =
+    let e = eqb→eq x y (and-left (eqb x y) (alike xs ys) t) in
+    let r = alike-eq xs ys (and-right (eqb x y) (alike xs ys) t) in
+    cc
+
+alike-refl : (xs : List ℕ) → T (alike xs xs)
+alike-refl [] = tt
+alike-refl (x ∷ xs) = and-both (eqb x x) (alike xs xs) (eqb-refl x) (alike-refl xs)
+
+-- units are the keying of a text, or they are not
+keys-or-not : (text units : List ℕ) → Keys text units ⊎ (Keys text units → ⊥)
+keys-or-not text units = by-tests (eqb (faultNumber (faultOf text)) 0) refl (alike (unitsOf text) units) refl
+  where
+    by-tests : (a : Bool) → eqb (faultNumber (faultOf text)) 0 ≡ a → (b : Bool) → alike (unitsOf text) units ≡ b → Keys text units ⊎ (Keys text units → ⊥)
+    by-tests true p true q = inl (record { passes = is-fair (faultOf text) p; same = alike-eq (unitsOf text) units (subst T (sym q) tt) })
+    by-tests true p false q = inr (λ k. subst T q (subst (λ (v : List ℕ). T (alike (unitsOf text) v)) (k .same) (alike-refl (unitsOf text))))
+    by-tests false p b q = inr (λ k. subst T (rw (k .passes) at p) tt)
+
+pub one-reading : (units room : List ℕ) (a b : Outcome Heard) → Read units room a → Read units room b → a ≡ b
+one-reading units room a b p q = ⊎-elim by-text by-none (keys-or-not (heard units) units)
+  where
+    by-text : Keys (heard units) units → a ≡ b
+    by-text k = p .told (heard units) k ∙ sym (q .told (heard units) k)
+
+    by-none : (Keys (heard units) units → ⊥) → a ≡ b
+    by-none never =
+        let none : (t : List ℕ) → Keys t units → ⊥ = λ t k. never (rw (heard-text t units k) k) in
+        p .refused none ∙ sym (q .refused none)

@@ -1,0 +1,73 @@
+-- Laws of the units: one store, one mark and one byte off what is left, and how many units a text has at most.
+-- Assumes nothing.
+use mathlib.Core.Path.{_≡_, refl, ap, _∙_}
+use mathlib.Core.List.{List, [], _∷_, _++_}
+use Prim.Native.Nat.{ℕ, zero, suc, _+_, _-_, _*_, _/_, _%_, _<_, _≤_, zero-le}
+use native.Mathlib.Nat.{not-suc-le-zero}
+use native.Mathlib.Numerals.{add-one, sub-one}
+use native.Mathlib.Omega.{arith}
+use lib.ListN.{length, getD, set, replicate, drop, length-append, length-replicate}
+use lib.Seq.{sets, drop-cons}
+use lib.Dec.{T, leb, leb→le}
+use Rattle.choice.proofs.ChoiceLaws.{either}
+use Rattle.choice.proofs.Stores.{sets-append}
+use Rattle.morse.specs.Signs.{Mark, signs, signOf}
+use Rattle.morse.specs.SignTable.{markOf, unpack}
+use Rattle.morse.specs.Texts.{isSpace}
+use Rattle.morse.specs.Units.{span, signUnits, gapAfter, unitsAfter, unitsOf}
+use Rattle.morse.proofs.Everywhere.{everywhere}
+
+-- one store off a run that ends at a place
+pub run-step : (end v i : ℕ) (room : List ℕ) → i < end → sets room i (replicate (end - i) v) ≡ sets (set room i v) (i + 1) (replicate (end - (i + 1)) v)
+run-step end v i room h = let e : end - i ≡ suc (end - (i + 1)) = omega arith in rw (e, add-one)
+
+-- a mark's span, by its bit
+span-bit : (b : ℕ) → b < 2 → span (markOf b) ≡ 1 + 2 * b
+span-bit zero h = refl
+span-bit (suc zero) h = refl
+span-bit (suc (suc b)) h = absurd (omega arith)
+
+-- one mark off a sign
+module _ (n bits gap : ℕ) (h : 0 < n) where
+  mark-step : signUnits gap (unpack n bits) ≡ replicate gap 0 ++ (replicate (1 + 2 * (bits % 2)) 1 ++ signUnits 1 (unpack (n - 1) (bits / 2)))
+  mark-step = by-count n h
+    where
+      by-count : (m : ℕ) → 0 < m → signUnits gap (unpack m bits) ≡ replicate gap 0 ++ (replicate (1 + 2 * (bits % 2)) 1 ++ signUnits 1 (unpack (m - 1) (bits / 2)))
+      by-count zero p = absurd (not-suc-le-zero p)
+      by-count (suc m) p = let e : span (markOf (bits % 2)) ≡ 1 + 2 * (bits % 2) = span-bit (bits % 2) (omega arith) in rw (e, sub-one)
+
+  pub length-sign : length (signUnits gap (unpack n bits)) ≡ gap + (1 + 2 * (bits % 2) + length (signUnits 1 (unpack (n - 1) (bits / 2))))
+  length-sign = rw mark-step (simp (length-append, length-replicate))
+
+  pub sets-sign : (room : List ℕ) (i : ℕ) → sets room i (signUnits gap (unpack n bits)) ≡ sets (sets (sets room i (replicate gap 0)) (i + gap) (replicate (1 + 2 * (bits % 2)) 1)) (i + gap + (1 + 2 * (bits % 2))) (signUnits 1 (unpack (n - 1) (bits / 2)))
+  sets-sign room i = rw mark-step (simp (sets-append, length-replicate))
+
+-- one byte off the rest of a text
+module _ (t : List ℕ) (i gap : ℕ) (h : i < length t) where
+  byte-step : unitsAfter gap (drop i t) ≡ signUnits gap (signOf (getD t i 0)) ++ unitsAfter (gapAfter (getD t i 0)) (drop (i + 1) t)
+  byte-step = rw (add-one, drop-cons t i 0)
+
+  pub length-text : length (unitsAfter gap (drop i t)) ≡ length (signUnits gap (signOf (getD t i 0))) + length (unitsAfter (gapAfter (getD t i 0)) (drop (i + 1) t))
+  length-text = ap length byte-step ∙ simp length-append
+
+  pub sets-text : (room : List ℕ) (k : ℕ) → sets room k (unitsAfter gap (drop i t)) ≡ sets (sets room k (signUnits gap (signOf (getD t i 0)))) (k + length (signUnits gap (signOf (getD t i 0)))) (unitsAfter (gapAfter (getD t i 0)) (drop (i + 1) t))
+  sets-text room k = ap (sets room k) byte-step ∙ simp sets-append
+
+-- a byte's units with the gap after them: at most 22, by a test over the table of signs
+most : (c : ℕ) → length (signUnits 0 (signOf c)) + gapAfter c ≤ 22
+unfolding signs signOf
+most c = leb→le _ _ (everywhere [] (λ k ms. leb (length (signUnits 0 ms) + gapAfter k) 22) signs tt (λ k. either (λ (g : ℕ). T (leb (0 + g) 22)) (isSpace k) tt tt) c)
+
+after-gap : (gap : ℕ) (ms : List Mark) → length (signUnits gap ms) ≤ gap + length (signUnits 0 ms)
+after-gap gap [] = zero-le
+after-gap gap (m ∷ ms) = simp (length-append, length-replicate) (omega arith)
+
+pub units-after-most : (t : List ℕ) (gap : ℕ) → length (unitsAfter gap t) ≤ gap + 22 * length t
+units-after-most [] gap = zero-le
+units-after-most (c ∷ t) gap =
+    simp (length-append (signUnits gap (signOf c))) (omega (arith, after-gap gap (signOf c), most c, units-after-most t (gapAfter c)))
+
+-- a text of n bytes has at most 22 n units
+pub units-most : (t : List ℕ) → length (unitsOf t) ≤ 22 * length t
+unfolding unitsOf
+units-most t = omega (arith, units-after-most t 0)

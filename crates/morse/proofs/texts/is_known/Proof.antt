@@ -1,0 +1,18 @@
+-- `morse::texts::is_known` meets its contract: a byte has a sign where the sign has marks.
+use mathlib.Core.Path.{_∙_, ap}
+use mathlib.Core.Bool.{_||_}
+use Rattle.morse.specs.Signs.{signed}
+use Rattle.morse.specs.Texts.{isSpace}
+use Rattle.morse.proofs.TextsLaws.{signed-len}
+use borrow.Author.Needs.{needs}
+use Rattle.morse.proofs.texts.is_known.Statement.{statement}
+use Rattle.morse.proofs.texts.is_known.Tie as tie
+
+sign-of-requires : tie.Need-sign-of-requires
+sign-of-requires c κs = search needs
+
+returns : tie.Need-returns
+returns c = ap (λ b. isSpace (c .before .before .args .c) || b) (signed-len (c .before .sign-of .result) ∙ ap signed (c .before .sign-of .ensures))
+
+pub is-known-spec : {M : Type 1} → statement M
+is-known-spec = tie.close (tie.spec sign-of-requires returns)

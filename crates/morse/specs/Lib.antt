@@ -1,0 +1,8 @@
+pub mod Answers
+pub mod Signs
+pub mod SignTable
+pub mod Texts
+pub mod Units
+pub mod Keying
+pub mod Guessing
+pub mod Reading

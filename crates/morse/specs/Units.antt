@@ -1,0 +1,48 @@
+-- The units of a text: 1 for key down, 0 for up. Dot 1, dash 3, gap inside a sign 1, between signs 3, between words 7.
+-- Assumes nothing.
+use Prim.Native.Nat.{ℕ}
+use mathlib.Core.List.{List, [], _∷_, _++_}
+use lib.ListN.{replicate}
+use Rattle.choice.specs.Choice.{if_then_else_}
+use Rattle.morse.specs.Signs.{Mark, dot, dash, signOf}
+use Rattle.morse.specs.Texts.{isSpace}
+
+-- n units of key up, and of key down
+abbrev pub up : ℕ → List ℕ
+up n = replicate n 0
+
+abbrev pub down : ℕ → List ℕ
+down n = replicate n 1
+
+-- how long a mark is down
+abbrev pub span : Mark → ℕ
+span dot = 1
+span dash = 3
+
+-- the gaps
+abbrev pub insideSign : ℕ
+insideSign = 1
+
+abbrev pub betweenSigns : ℕ
+betweenSigns = 3
+
+abbrev pub betweenWords : ℕ
+betweenWords = 7
+
+-- the units of one sign, its first mark after a gap
+abbrev pub signUnits : (gap : ℕ) → List Mark → List ℕ
+signUnits gap [] = []
+signUnits gap (m ∷ ms) = up gap ++ (down (span m) ++ signUnits insideSign ms)
+
+-- the gap before the next sign, after a byte
+abbrev pub gapAfter : ℕ → ℕ
+gapAfter c = if isSpace c then betweenWords else betweenSigns
+
+-- the units of a text, its first sign after a gap; a space has no sign
+abbrev pub unitsAfter : (gap : ℕ) → List ℕ → List ℕ
+unitsAfter gap [] = []
+unitsAfter gap (c ∷ t) = signUnits gap (signOf c) ++ unitsAfter (gapAfter c) t
+
+-- no gap before the first sign, and nothing after the last
+unfoldable pub unitsOf : List ℕ → List ℕ
+unitsOf t = unitsAfter 0 t

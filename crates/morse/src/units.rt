@@ -1,0 +1,89 @@
+// A text's units, stored one byte each as far as a room goes.
+// Nothing here asks whether the text may be keyed or the room is long enough: `keying` and `reading` do.
+ghost use mathlib.Core.Path.{_≡_};
+ghost use Prim.Native.Nat.{_+_, _^_, _≤_, _<_};
+ghost use lib.ListN.{length, set, replicate};
+ghost use lib.Seq.{sets};
+ghost use Rattle.morse.specs.SignTable.{marksOf};
+ghost use Rattle.morse.specs.Texts.{longest};
+ghost use Rattle.morse.specs.Units.{gapAfter, signUnits, unitsOf};
+use crate::signs::Sign;
+use crate::signs::sign_of;
+
+// The gaps, in units up.
+const INSIDE_SIGN: usize = 1;
+
+pub const BETWEEN_SIGNS: usize = 3;
+
+pub const BETWEEN_WORDS: usize = 7;
+
+// Stores v at a place of the room, and nothing where the room has no such place.
+pub fn put(room: &mut [u8], at: usize, v: u8)
+    ensures { λ _. ⌜ now (room .exit) ≡ set (now (room .entry)) at v ⌝ }
+{
+    if room.len() <= at {
+        return;
+    }
+    room[at] = v;
+}
+
+// Stores n times v from a place on, and gives the place after them.
+fn put_run(room: &mut [u8], at: usize, n: usize, v: u8) -> usize
+    requires { ⌜ at + n < 2 ^ 63 ⌝ }
+    ensures { λ r. ⌜ (r ≡ at + n) × (now (room .exit) ≡ sets (now (room .entry)) at (replicate n v)) ⌝ }
+{
+    let end = at + n;
+    let mut i = at;
+    while i < end {
+        put(room, i, v);
+        i += 1;
+    }
+    end
+}
+
+// Stores the marks of a sign, the first after a gap, and gives the place after them.
+fn put_sign(room: &mut [u8], at: usize, gap: usize, sign: Sign) -> usize
+    requires { ⌜ at + length (signUnits gap (marksOf sign)) < 2 ^ 63 ⌝ }
+    ensures { λ r. ⌜ (r ≡ at + length (signUnits gap (marksOf sign))) × (now (room .exit) ≡ sets (now (room .entry)) at (signUnits gap (marksOf sign))) ⌝ }
+{
+    let mut i = at;
+    let mut up = gap;
+    let mut marks = sign.marks;
+    let mut left = sign.len;
+    while 0 < left {
+        let down = put_run(room, i, up, 0);
+        i = put_run(room, down, 1 + 2 * ((marks % 2) as usize), 1);
+        up = INSIDE_SIGN;
+        marks = marks / 2;
+        left -= 1;
+    }
+    i
+}
+
+// The units up before the next sign, after a byte.
+fn gap_after(c: u8) -> usize
+    ensures { λ r. ⌜ r ≡ gapAfter c ⌝ }
+{
+    if c == b' ' {
+        BETWEEN_WORDS
+    } else {
+        BETWEEN_SIGNS
+    }
+}
+
+// Stores a text's units from the front of the room, as far as it goes, and gives how many the text has.
+pub fn put_text(text: &[u8], room: &mut [u8]) -> usize
+    requires { ⌜ length (now text) ≤ longest ⌝ }
+    ensures { λ r. ⌜ (r ≡ length (unitsOf (now (text .entry)))) × (now (room .exit) ≡ sets (now (room .entry)) 0 (unitsOf (now (text .entry)))) ⌝ }
+{
+    let mut at = 0;
+    let mut gap = 0;
+    let mut i = 0;
+    while i < text.len() {
+        let c = text[i];
+        at = put_sign(room, at, gap, sign_of(c));
+        gap = gap_after(c);
+        i += 1;
+    }
+    at
+}

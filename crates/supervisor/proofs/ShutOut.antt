@@ -1,0 +1,86 @@
+-- Wrong supervisors that the page names and `step`'s contract shuts out, where no edit of one operand makes them.
+-- Each is defined, and arguments are named at which it breaks the contract. Assumes nothing.
+use Prim.Native.Nat.{ℕ}
+use native.Mathlib.Omega.{arith}
+use mathlib.Core.Path.{_≡_, refl, sym, ap, _∙_}
+use mathlib.Core.Bool.{Bool, false}
+use mathlib.Core.List.{List, [], _∷_, _++_}
+use lib.ListN.{getD, drop, replicate}
+use Rattle.choice.specs.Choice.{if_then_else_}
+use Rattle.modules.specs.Stage.{modulesInRange}
+use Rattle.modules.specs.Masks.{maskOf, masksOf}
+use Rattle.frames.specs.Frame.{totalOf, antennasFields, readFrame}
+use Rattle.supervisor.specs.Fresh.{freshState}
+use Rattle.supervisor.specs.State.{withMode}
+use Rattle.supervisor.specs.Range.{inRange}
+use Rattle.supervisor.specs.Tick.{ticked}
+use Rattle.supervisor.specs.Act.{actOf}
+use Rattle.supervisor.specs.Report.{reportBytes, reportOf}
+use Rattle.supervisor.specs.Step.{Left, stepOf}
+use Rattle.supervisor.specs.declared.state.Phase.the-variants.{Waiting, Settling}
+use Rattle.supervisor.specs.declared.state.Mode.{Mode}
+use Rattle.supervisor.specs.declared.state.Mode.the-variants.{DeployWait, Recovery, Safe}
+use Rattle.supervisor.specs.declared.state.State.{State}
+
+-- a supervisor, as a contract sees it
+abbrev Supervisor : Type 0
+Supervisor = State → (input room : List ℕ) → Left
+
+-- it does not meet the contract of `step`
+abbrev pub ShutOut : Supervisor → Type 0
+ShutOut wrong = ((s : State) (input room : List ℕ) → wrong s input room ≡ stepOf s input room) → ⊥
+
+-- it works every frame, and writes the same report for each
+abbrev pub constantReport : List ℕ → Supervisor
+constantReport report s input room =
+    record { answer = stepOf s input room .answer; state = stepOf s input room .state; room = report ++ drop reportBytes room }
+
+-- it works the frames of states that pass a test, such as the fresh one, and then only reports
+abbrev pub onlyReports : (worksIn : State → Bool) → Supervisor
+onlyReports worksIn s input room =
+    if worksIn s then stepOf s input room
+    else record { answer = stepOf s input room .answer; state = s; room = stepOf s input room .room }
+
+room : List ℕ
+room = replicate 11 0
+
+kindOf : Left → ℕ
+kindOf left = getD (left .room) 1 0
+
+tickKind-told : kindOf (stepOf freshState (1 ∷ 0 ∷ []) room) ≡ 1
+unfolding room kindOf stepOf freshState inRange modulesInRange readFrame totalOf actOf ticked reportOf masksOf maskOf
+tickKind-told = refl
+
+antennasKind-told : kindOf (stepOf freshState (3 ∷ 1 ∷ []) room) ≡ 3
+unfolding room kindOf stepOf freshState inRange modulesInRange readFrame totalOf antennasFields actOf reportOf masksOf maskOf
+antennasKind-told = refl
+
+-- a tick and an antennas frame have reports of different kinds
+pub constant-report : (report : List ℕ) → ShutOut (constantReport report)
+unfolding kindOf
+constant-report report meets =
+    let one : _≡_ {A = ℕ} 1 3 =
+    sym (ap kindOf (meets freshState (1 ∷ 0 ∷ []) room) ∙ tickKind-told) ∙ ap kindOf (meets freshState (3 ∷ 1 ∷ []) room) ∙ antennasKind-told in
+    omega arith
+
+-- a second into the wait
+abbrev pub waiting : State
+waiting = withMode (DeployWait (Waiting 1)) freshState
+
+waitedOf : Mode → ℕ
+waitedOf (DeployWait (Waiting waited)) = waited
+waitedOf (DeployWait (Settling seconds)) = 0
+waitedOf Recovery = 0
+waitedOf Safe = 0
+
+two-waited : waitedOf (stepOf waiting (1 ∷ 0 ∷ []) room .state .watch .mode) ≡ 2
+unfolding room waitedOf stepOf freshState inRange modulesInRange readFrame totalOf actOf ticked
+two-waited = refl
+
+-- the second tick moves the state too
+pub only-reports : (worksIn : State → Bool) → worksIn waiting ≡ false → ShutOut (onlyReports worksIn)
+unfolding waitedOf
+only-reports worksIn idle meets =
+    let same : waiting ≡ stepOf waiting (1 ∷ 0 ∷ []) room .state = ap (λ (l : Left). l .state) (rw idle at (meets waiting (1 ∷ 0 ∷ []) room)) in
+    let one : _≡_ {A = ℕ} 1 2 = ap (λ (s : State). waitedOf (s .watch .mode)) same ∙ two-waited in
+    omega arith

@@ -1,0 +1,99 @@
+/* Makes N calls with the inputs of one stream, over and over, and prints the
+ * nanoseconds that they took and a sum by which the sides are compared. Built
+ * twice: over the library, and with -DPEER over the C version in peer/.
+ *
+ * A stream: what is called ('s' step, 'k' key, 'r' read), an image, the number
+ * of inputs (2 bytes, big-endian), and for each its length (2) and its bytes. */
+#define _POSIX_C_SOURCE 199309L
+#include <stdio.h>
+#include <stdlib.h>
+#include <string.h>
+#include <time.h>
+#ifdef PEER
+#include "peer/ems.h"
+#include "peer/morse.h"
+#define IMAGE_BYTES 53
+#define KEY peer_key
+#define READ peer_read
+#else
+#include "../../include/ems.h"
+#define IMAGE_BYTES EMS_IMAGE_BYTES
+#define KEY ems_key
+#define READ ems_read
+#endif
+
+/* After so many calls the image is put back, so that a stream stays in its mode. */
+#define ROUND 10000
+
+static uint8_t file[1 << 16], room[2048];
+static struct { const uint8_t *bytes; size_t length; } inputs[4096];
+
+static unsigned two(const uint8_t *at) { return (unsigned)(at[0] << 8 | at[1]); }
+
+#ifdef PEER
+static struct ems state;
+
+/* The C version has no image: its state is set up from one. */
+static void put_back(const uint8_t *image)
+{
+    state = (struct ems){
+        .mode = image[1], .phase = image[2], .antennas = image[10], .control = image[7],
+        .beacon = (uint16_t)two(image + 8), .tension = (uint16_t)two(image + 11),
+        .ascend = (uint16_t)two(image + 13), .descend = (uint16_t)two(image + 15),
+        .last = { (uint16_t)two(image + 17), (uint16_t)two(image + 19) },
+        .count = two(image + 3) << 16 | two(image + 5),
+    };
+    for (int i = 0; i < 8; i++) {
+        const uint8_t *at = image + 21 + 4 * i;
+        state.m[i] = (struct module){ at[0], at[3], (uint16_t)two(at + 1) };
+    }
+}
+
+static uint8_t step(const uint8_t *frame, size_t length)
+{
+    return peer_step(&state, frame, length, room, 11);
+}
+#else
+static uint8_t state[EMS_IMAGE_BYTES];
+
+static void put_back(const uint8_t *image) { memcpy(state, image, sizeof state); }
+
+static uint8_t step(const uint8_t *frame, size_t length)
+{
+    return ems_step(state, sizeof state, frame, length, room, 11);
+}
+#endif
+
+int main(int argc, char **argv)
+{
+    FILE *in = argc == 3 ? fopen(argv[1], "rb") : NULL;
+    if (!in || fread(file, 1, sizeof file, in) < IMAGE_BYTES + 3) return 1;
+    long n = atol(argv[2]);
+    const uint8_t *image = file + 1, *at = image + IMAGE_BYTES;
+    unsigned count = two(at), next = 0;
+    at += 2;
+    for (unsigned i = 0; i < count; i++) {
+        inputs[i].length = two(at);
+        inputs[i].bytes = at + 2;
+        at += 2 + inputs[i].length;
+    }
+    unsigned long sum = 0;
+    size_t written = 11;
+    struct timespec begin, end;
+    clock_gettime(CLOCK_MONOTONIC, &begin);
+    for (long i = 0, left = 0; i < n; i++, left--) {
+        if (left == 0) { put_back(image); left = ROUND; next = 0; }
+        const uint8_t *bytes = inputs[next].bytes;
+        size_t length = inputs[next].length;
+        if (++next == count) next = 0;
+        switch (file[0]) {
+        case 's': sum += step(bytes, length); break;
+        case 'k': sum += KEY(bytes, length, room, sizeof room, &written); break;
+        default: sum += READ(bytes, length, room, sizeof room, &written);
+        }
+    }
+    clock_gettime(CLOCK_MONOTONIC, &end);
+    for (size_t i = 0; i < written; i++) sum = sum * 31 + room[i];
+    printf("%lld %lu\n", (end.tv_sec - begin.tv_sec) * 1000000000LL + end.tv_nsec - begin.tv_nsec, sum);
+    return 0;
+}

@@ -1,0 +1,92 @@
+#include "morse.h"
+
+/* A sign's marks from the highest bit below the leading 1: 0 dot, 1 dash. Letters, then figures. */
+static const uint8_t letters[26] = {
+    0x05, 0x18, 0x1A, 0x0C, 0x02, 0x12, 0x0E, 0x10, 0x04, 0x17, 0x0D, 0x14, 0x07,
+    0x06, 0x0F, 0x16, 0x1D, 0x0A, 0x08, 0x03, 0x09, 0x11, 0x0B, 0x19, 0x1B, 0x1C,
+};
+static const uint8_t figures[10] = { 0x3F, 0x2F, 0x27, 0x23, 0x21, 0x20, 0x30, 0x38, 0x3C, 0x3E };
+
+/* A sign's marks, by what they stand for; 0 for a byte that has none. */
+static uint8_t sign(uint8_t c)
+{
+    if (c >= 'A' && c <= 'Z') return letters[c - 'A'];
+    if (c >= '0' && c <= '9') return figures[c - '0'];
+    return 0;
+}
+
+/* What marks stand for, letters and figures together; 0 for none. */
+static const uint8_t heard[64] = {
+    [0x05] = 'A', [0x18] = 'B', [0x1A] = 'C', [0x0C] = 'D', [0x02] = 'E', [0x12] = 'F', [0x0E] = 'G',
+    [0x10] = 'H', [0x04] = 'I', [0x17] = 'J', [0x0D] = 'K', [0x14] = 'L', [0x07] = 'M', [0x06] = 'N',
+    [0x0F] = 'O', [0x16] = 'P', [0x1D] = 'Q', [0x0A] = 'R', [0x08] = 'S', [0x03] = 'T', [0x09] = 'U',
+    [0x11] = 'V', [0x0B] = 'W', [0x19] = 'X', [0x1B] = 'Y', [0x1C] = 'Z',
+    [0x3F] = '0', [0x2F] = '1', [0x27] = '2', [0x23] = '3', [0x21] = '4',
+    [0x20] = '5', [0x30] = '6', [0x38] = '7', [0x3C] = '8', [0x3E] = '9',
+};
+
+static size_t put(uint8_t *units, size_t at, uint8_t unit, int times)
+{
+    if (units) for (int i = 0; i < times; i++) units[at + i] = unit;
+    return at + times;
+}
+
+/* Writes the units, or counts them if `units` is null. */
+static size_t keyed(const uint8_t *text, size_t n, uint8_t *units)
+{
+    size_t at = 0;
+    for (size_t i = 0; i < n; i++) {
+        if (text[i] == ' ') { at = put(units, at, 0, 4); continue; }
+        uint8_t s = sign(text[i]);
+        int bit = 7;
+        while (!(s >> bit)) bit--;
+        while (bit--) {
+            at = put(units, at, 1, s >> bit & 1 ? 3 : 1);
+            if (bit) at = put(units, at, 0, 1);
+        }
+        if (i + 1 < n) at = put(units, at, 0, 3);
+    }
+    return at;
+}
+
+uint8_t peer_key(const uint8_t *text, size_t n, uint8_t *units, size_t room, size_t *count)
+{
+    *count = 0;
+    if (n > 64) return 11;
+    for (size_t i = 0; i < n; i++) if (text[i] != ' ' && !sign(text[i])) return 12;
+    for (size_t i = 0; i < n; i++)
+        if (text[i] == ' ' && (i == 0 || i + 1 == n || text[i + 1] == ' ')) return 13;
+    if (keyed(text, n, 0) > room) return 14;
+    *count = keyed(text, n, units);
+    return 0;
+}
+
+uint8_t peer_read(const uint8_t *units, size_t n, uint8_t *text, size_t room, size_t *count)
+{
+    uint8_t said[64];
+    size_t at = 0, i = 0;
+    *count = 0;
+    while (i < n) {
+        uint8_t marks = 1;
+        size_t gap;
+        do { /* one sign, and the gap after it */
+            size_t down = i;
+            while (i < n && units[i] == 1) i++;
+            down = i - down;
+            if ((down != 1 && down != 3) || marks > 0x1F) return 15;
+            marks = (uint8_t)(marks << 1 | (down == 3));
+            gap = i;
+            while (i < n && units[i] == 0) i++;
+            gap = i - gap;
+        } while (gap == 1 && i < n);
+        if (at == 64 || !heard[marks]) return 15;
+        said[at++] = heard[marks];
+        if (i == n) { if (gap) return 15; break; }
+        if (gap == 7) { if (at == 64) return 15; said[at++] = ' '; }
+        else if (gap != 3) return 15;
+    }
+    if (at > room) return 14;
+    for (i = 0; i < at; i++) text[i] = said[i];
+    *count = at;
+    return 0;
+}

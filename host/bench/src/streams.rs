@@ -1,0 +1,133 @@
+//! What is measured: an image to start from, and inputs that go round.
+
+use model::state::{Mode, Module, Power};
+use model::{image, State};
+
+/// A row of the table.
+pub struct Stream {
+    /// What it says there.
+    pub name: &'static str,
+    /// What is called: `s` step, `k` key, `r` read.
+    pub call: u8,
+    /// The image to start from.
+    pub image: [u8; image::BYTES],
+    /// The inputs, one a call, over and over.
+    pub inputs: Vec<Vec<u8>>,
+}
+
+impl Stream {
+    /// The stream as the drivers read it (`drive.c`).
+    pub fn file(&self) -> Vec<u8> {
+        let two = |number: usize| (number as u16).to_be_bytes();
+        let mut file = vec![self.call];
+        file.extend(self.image);
+        file.extend(two(self.inputs.len()));
+        for input in &self.inputs {
+            file.extend(two(input.len()));
+            file.extend(input);
+        }
+        file
+    }
+}
+
+/// 64 characters in words as long as a beacon's.
+const TEXT: &[u8] = b"EMS S 8123 FF 00 THE QUICK BROWN FOX JUMPS OVER 1234567890 DOGS5";
+
+/// A board in a mode, charged so that it stays there, every module that may be
+/// on is.
+fn board(mode: Mode) -> [u8; image::BYTES] {
+    let mut state = State::fresh();
+    state.mode = mode;
+    state.tension = if mode == Mode::Safe { 8_000 } else { 7_200 };
+    for module in &mut state.modules {
+        let requested = module.requested || mode == Mode::Safe;
+        let power = match requested && !mode.deploying() {
+            true => Power::On,
+            false => Power::Off(5),
+        };
+        *module = Module { power, requested };
+    }
+    image::save(&state)
+}
+
+/// All rows.
+pub fn streams() -> Vec<Stream> {
+    let step = |name, mode, inputs| {
+        let image = board(mode);
+        let call = b's';
+        Stream {
+            name,
+            call,
+            image,
+            inputs,
+        }
+    };
+    let quiet = || vec![vec![0x01, 0x00]];
+    // Every module is shorted in every other second.
+    let shorts = || vec![vec![0x01, 0xFF], vec![0x01, 0x00]];
+    let text = |name, call, input| Stream {
+        name,
+        call,
+        image: board(Mode::Safe),
+        inputs: vec![input],
+    };
+    // 1,024 serials, 64 apart: each is fresh, also where they go round.
+    let order = |i: u16| {
+        let [high, low] = (64 * i).to_be_bytes();
+        vec![0x04, 0x01, high, low, 0x04, i.to_be_bytes()[1] & 1]
+    };
+    let units = model::morse::key(TEXT).unwrap_or_default();
+    vec![
+        step("tick in DEPLOY_WAIT", Mode::Waiting(0), quiet()),
+        step("tick in DEPLOY_WAIT, shorts", Mode::Waiting(0), shorts()),
+        step("tick in RECOVERY", Mode::Recovery, quiet()),
+        step("tick in RECOVERY, shorts", Mode::Recovery, shorts()),
+        step("tick in SAFE", Mode::Safe, quiet()),
+        step("tick in SAFE, shorts", Mode::Safe, shorts()),
+        step(
+            "order, done",
+            Mode::Safe,
+            (1..=1_024).map(|i| order(i % 1_024)).collect(),
+        ),
+        step(
+            "battery, refused (6)",
+            Mode::Safe,
+            vec![vec![0x02, 0x13, 0x87]],
+        ),
+        text("keying 64 characters", b'k', TEXT.to_vec()),
+        text("reading 64 characters", b'r', units),
+    ]
+}
+
+/// The model's drive: as `drive.c`, in Rust.
+pub fn drive(stream: &Stream, calls: u64) -> (u128, u64) {
+    let mut image = stream.image;
+    let mut room = [0; 2_048];
+    let mut written = 11;
+    let mut sum: u64 = 0;
+    let mut inputs = stream.inputs.iter().cycle();
+    let begin = std::time::Instant::now();
+    for call in 0..calls {
+        if call % 10_000 == 0 {
+            image = stream.image;
+            inputs = stream.inputs.iter().cycle();
+        }
+        let input = inputs.next().map_or(&[][..], Vec::as_slice);
+        let answer = match stream.call {
+            b's' => model::calls::step(&mut image, input, &mut room[..11]),
+            b'k' => counted(model::calls::key(input, &mut room), &mut written),
+            _ => counted(model::calls::read(input, &mut room), &mut written),
+        };
+        sum = sum.wrapping_add(answer.into());
+    }
+    let nanoseconds = begin.elapsed().as_nanos();
+    for byte in &room[..written] {
+        sum = sum.wrapping_mul(31).wrapping_add((*byte).into());
+    }
+    (nanoseconds, sum)
+}
+
+fn counted((answer, count): (u8, usize), written: &mut usize) -> u8 {
+    *written = count;
+    answer
+}

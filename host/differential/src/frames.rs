@@ -1,0 +1,146 @@
+//! Frames from a seed: by the rules and at their edges, damaged, and noise.
+
+use crate::rng::Rng;
+use crate::shrink::Shot;
+use model::table::{Field, Kind, KINDS};
+
+/// How the frames of a stream are made.
+#[derive(Clone, Copy, PartialEq, Eq)]
+pub enum Maker {
+    /// By the table, ticks mostly, fields in range mostly.
+    Structured,
+    /// The same with bytes changed, dropped, added, or frames run together.
+    Mutated,
+    /// A kind and a length that are right, and any body.
+    ByKind,
+    /// Any bytes.
+    Noise,
+}
+
+/// What a stream keeps from one frame to the next, so that it gets somewhere.
+pub struct Stream {
+    maker: Maker,
+    serials: [u16; 2],
+    shorts: u8,
+}
+
+impl Stream {
+    /// A new stream.
+    pub fn new(maker: Maker) -> Stream {
+        let (serials, shorts) = ([0, 0], 0);
+        Stream {
+            maker,
+            serials,
+            shorts,
+        }
+    }
+
+    /// The next frame, with its reply room.
+    pub fn next(&mut self, rng: &mut Rng) -> Shot {
+        let frame = match self.maker {
+            Maker::Structured => self.structured(rng),
+            Maker::Mutated => self.mutated(rng),
+            Maker::ByKind => {
+                let kind = &KINDS[rng.below(KINDS.len())];
+                let mut frame = rng.bytes(kind.total);
+                frame[0] = kind.byte;
+                frame
+            }
+            Maker::Noise => {
+                let length = rng.below(13);
+                rng.bytes(length)
+            }
+        };
+        let room = match rng.below(20) {
+            0 => rng.below(13),
+            1 => rng.below(60),
+            _ => 11,
+        };
+        (frame, room as u8)
+    }
+
+    fn structured(&mut self, rng: &mut Rng) -> Vec<u8> {
+        let kind = match rng.below(8) {
+            0 => &KINDS[rng.below(KINDS.len())],
+            1 => &KINDS[3],
+            _ => &KINDS[0],
+        };
+        self.of_kind(rng, kind)
+    }
+
+    /// A frame by the table.
+    pub fn of_kind(&mut self, rng: &mut Rng, kind: &Kind) -> Vec<u8> {
+        let mut frame = vec![kind.byte];
+        for field in kind.fields {
+            let value = match field.name {
+                "shorts" => self.shorts(rng),
+                "serial" => self.serial(rng, frame[1]),
+                _ => value(rng, field),
+            };
+            frame.extend(&value.to_be_bytes()[2 - field.bytes..]);
+        }
+        frame
+    }
+
+    /// Shorts that stay for a while, so that tries run out.
+    fn shorts(&mut self, rng: &mut Rng) -> u16 {
+        match rng.below(40) {
+            0 => self.shorts = rng.byte(),
+            1 => self.shorts = rng.byte() & rng.byte() & rng.byte(),
+            2..=4 => self.shorts = 0,
+            _ => {}
+        }
+        let glitch = if rng.once_in(30) { rng.byte() } else { 0 };
+        u16::from(self.shorts ^ glitch)
+    }
+
+    /// A serial that is mostly the next of its origin.
+    fn serial(&mut self, rng: &mut Rng, origin: u8) -> u16 {
+        let last = &mut self.serials[usize::from(origin == 2)];
+        let distance = match rng.below(12) {
+            0 => 0,
+            1 => rng.between(32_766, 32_769),
+            2 => rng.word(),
+            3 => rng.between(2, 9),
+            4 => 0_u16.wrapping_sub(rng.between(1, 9)),
+            _ => 1,
+        };
+        let serial = last.wrapping_add(distance);
+        if distance < 32_768 {
+            *last = serial;
+        }
+        serial
+    }
+
+    fn mutated(&mut self, rng: &mut Rng) -> Vec<u8> {
+        let mut frame = self.structured(rng);
+        for _ in 0..rng.below(3) {
+            let place = rng.below(frame.len() + 1);
+            match rng.below(6) {
+                0 => frame.truncate(place),
+                1 => frame.insert(place, rng.byte()),
+                2 => frame.extend(self.structured(rng)),
+                3 if place < frame.len() => frame[place] ^= 1 << rng.below(8),
+                4 if place < frame.len() => {
+                    frame[place] = rng.pick(&[0, 1, 2, 3, 7, 8, 0x81, 0xFF])
+                }
+                _ if place < frame.len() => frame[place] = rng.byte(),
+                _ => {}
+            }
+        }
+        frame
+    }
+}
+
+/// A field's value: mostly in range, often at an end, sometimes outside.
+fn value(rng: &mut Rng, field: &Field) -> u16 {
+    let most = if field.bytes == 1 { 0xFF } else { u16::MAX };
+    match rng.below(16) {
+        0 => field.low,
+        1 => field.high,
+        2 => field.high.saturating_add(rng.between(0, 1)).min(most),
+        3 => field.low.saturating_sub(rng.between(0, 1)),
+        4 if rng.once_in(4) => rng.between(0, most),
+        _ => rng.between(field.low, field.high),
+    }
+}

@@ -1,0 +1,56 @@
+//! Images: the fresh one, and those in and out of range.
+
+use super::{beacons, fly, Verdict};
+use crate::compare;
+use crate::frames::{Maker, Stream};
+use crate::images;
+use crate::rng::Rng;
+use crate::sides::Calls;
+use model::table::KINDS;
+
+/// The fresh start into every length up to the longest.
+pub fn fresh_starts(sides: &[Calls; 2], rng: &mut Rng) -> Verdict {
+    for length in 0..=compare::LONGEST {
+        let before = rng.bytes(compare::LONGEST);
+        let [library, model] = sides.map(|calls| {
+            let mut after = before.clone();
+            let answer = (calls.fresh)(&mut after[..length]);
+            (answer, after)
+        });
+        if library != model {
+            return Err(format!("length {length}: {library:?}, model {model:?}"));
+        }
+    }
+    Ok(compare::LONGEST as u64 + 1)
+}
+
+/// Images that differ from a good one in one byte, by every value: a tick's
+/// step and a beacon.
+pub fn image_bytes(sides: &[Calls; 2], rng: &mut Rng) -> Verdict {
+    let mut made = 0;
+    for _ in 0..50 {
+        let good = images::good(rng);
+        for place in 0..good.len() {
+            for value in 0..=u8::MAX {
+                let mut bytes = good.clone();
+                bytes[place] = value;
+                made += fly(sides, &bytes, vec![(vec![0x01, value], 11)])?.0;
+            }
+            made += beacons(sides, rng, &good)?;
+        }
+    }
+    Ok(made)
+}
+
+/// Images in and out of range, of any length: a frame of any kind and beacons.
+pub fn damaged_images(sides: &[Calls; 2], rng: &mut Rng) -> Verdict {
+    let mut made = 0;
+    while made < 1_000_000 {
+        let bytes = images::damaged(rng);
+        let kind = &KINDS[rng.below(KINDS.len())];
+        let frame = Stream::new(Maker::Structured).of_kind(rng, kind);
+        made += fly(sides, &bytes, vec![(frame, 11)])?.0;
+        made += beacons(sides, rng, &bytes)?;
+    }
+    Ok(made)
+}

@@ -1,0 +1,68 @@
+//! The groups of cases, each with how many calls it makes on the library.
+
+mod flights;
+mod images;
+mod texts;
+
+use crate::compare;
+use crate::frames::Maker;
+use crate::rng::Rng;
+use crate::shrink::{flight, tell_counted, tell_flight, Shot};
+use crate::sides::{Calls, Counted};
+
+/// The calls that a group has made, or the telling of a difference.
+pub type Verdict = Result<u64, String>;
+
+/// A group: its name, and its cases from a seed.
+pub type Group = (&'static str, fn(&[Calls; 2], &mut Rng) -> Verdict);
+
+/// All groups.
+pub const GROUPS: [Group; 13] = [
+    ("fresh start, every length", images::fresh_starts),
+    ("flights by the table", |sides, rng| {
+        flights::of(sides, rng, Maker::Structured, 4_000_000)
+    }),
+    ("flights with damaged frames", |sides, rng| {
+        flights::of(sides, rng, Maker::Mutated, 2_000_000)
+    }),
+    ("flights of any body", |sides, rng| {
+        flights::of(sides, rng, Maker::ByKind, 1_000_000)
+    }),
+    ("flights of noise", |sides, rng| {
+        flights::of(sides, rng, Maker::Noise, 500_000)
+    }),
+    ("the longest wait", flights::longest_wait),
+    ("every room length", flights::rooms),
+    ("every serial", flights::serials),
+    ("every value of every image byte", images::image_bytes),
+    ("damaged images", images::damaged_images),
+    ("every text of up to 2 bytes", texts::short_texts),
+    ("texts of up to 70 bytes", texts::any_texts),
+    ("units damaged in one place", texts::damaged_units),
+];
+
+/// Flies; counts the steps, or tells.
+fn fly(sides: &[Calls; 2], start: &[u8], shots: Vec<Shot>) -> Result<(u64, Vec<u8>), String> {
+    match flight(sides, start, &shots) {
+        Ok(image) => Ok((shots.len() as u64, image)),
+        Err(_) => Err(tell_flight(sides, start, shots)),
+    }
+}
+
+/// Makes a counted call, or tells.
+fn call(
+    sides: &[Calls; 2],
+    call: fn(&Calls) -> Counted,
+    input: &[u8],
+    room: usize,
+) -> Result<compare::Written, String> {
+    compare::counted(sides, call, input, room)
+        .map_err(|_| tell_counted(sides, call, input.to_vec(), room))
+}
+
+/// Both beacons of an image, in rooms of a length around theirs.
+fn beacons(sides: &[Calls; 2], rng: &mut Rng, image: &[u8]) -> Verdict {
+    call(sides, |calls| calls.beacon_basic, image, rng.below(20))?;
+    call(sides, |calls| calls.beacon_complete, image, rng.below(20))?;
+    Ok(2)
+}

@@ -1,0 +1,17 @@
+//! What the differential tests are made of: cases from a seed, a comparison of
+//! the library with the model, and a failure made short.
+//!
+//! `tests/differential.rs` runs them; `tests/harness.rs` sees that a planted
+//! fault is found.
+
+#![forbid(unsafe_code)]
+#![deny(missing_docs)]
+
+pub mod compare;
+pub mod frames;
+pub mod groups;
+pub mod images;
+pub mod rng;
+pub mod shrink;
+pub mod sides;
+pub mod texts;

@@ -1,0 +1,100 @@
+//! A failure made short, and told.
+
+use crate::compare::{self, hex};
+use crate::sides::{Calls, Counted};
+use model::{image, State};
+use quickcheck::Arbitrary;
+use std::time::{Duration, Instant};
+
+/// A frame, and the length of the reply room it gets.
+pub type Shot = (Vec<u8>, u8);
+
+const NOT_TWICE: &str = "fails no more: the same call doesn't give the same result twice";
+
+/// As long as a smaller case fails too, takes it; for ten seconds at most.
+pub fn shrink<T: Arbitrary>(mut case: T, fails: impl Fn(&T) -> bool) -> T {
+    let end = Instant::now() + Duration::from_secs(10);
+    let in_time = |_: &T| Instant::now() < end;
+    while let Some(smaller) = case.shrink().take_while(in_time).find(|c| fails(c)) {
+        case = smaller;
+    }
+    case
+}
+
+/// Where the sides part: the frame's place, the image before it, the telling.
+pub struct Parting {
+    /// The frame's place among the flight's.
+    pub place: usize,
+    before: Vec<u8>,
+    told: String,
+}
+
+/// Steps both sides through the frames: the image after the last, or where the
+/// sides part.
+pub fn flight(sides: &[Calls; 2], start: &[u8], shots: &[Shot]) -> Result<Vec<u8>, Parting> {
+    let mut image = start.to_vec();
+    for (place, (frame, room)) in shots.iter().enumerate() {
+        let room = usize::from(*room).min(compare::LONGEST);
+        match compare::step(sides, &image, frame, room) {
+            Ok(after) => image.copy_from_slice(after.image()),
+            Err(outcomes) => {
+                let [library, model] = *outcomes;
+                let told = format!(
+                    "before:  {}\nframe:   {} (room {room})\nlibrary: {library}\nmodel:   {model}",
+                    hex(&image),
+                    hex(frame),
+                );
+                let before = image;
+                return Err(Parting {
+                    place,
+                    before,
+                    told,
+                });
+            }
+        }
+    }
+    Ok(image)
+}
+
+/// The failure of a flight, made short. A flight from the fresh start keeps its
+/// start, and tells how the fault is met; any other starts at the last image
+/// before the fault.
+pub fn tell_flight(sides: &[Calls; 2], start: &[u8], mut shots: Vec<Shot>) -> String {
+    let mut start = start.to_vec();
+    if let Err(parting) = flight(sides, &start, &shots) {
+        shots.truncate(parting.place + 1);
+        if start != image::save(&State::fresh()) {
+            shots.drain(..parting.place);
+            start = parting.before;
+        }
+    }
+    let fails = |shots: &Vec<Shot>| flight(sides, &start, shots).is_err();
+    let short = shrink(shots, fails);
+    let mut told = format!("a flight from {}\n", hex(&start));
+    for (frame, room) in &short {
+        told += &format!("  {} (room {room})\n", hex(frame));
+    }
+    match flight(sides, &start, &short) {
+        Err(parting) => told + &parting.told,
+        Ok(_) => told + NOT_TWICE,
+    }
+}
+
+/// The failure of a counted call, made short.
+pub fn tell_counted(
+    sides: &[Calls; 2],
+    call: fn(&Calls) -> Counted,
+    input: Vec<u8>,
+    room: usize,
+) -> String {
+    let fails = |input: &Vec<u8>| compare::counted(sides, call, input, room).is_err();
+    let short = shrink(input, fails);
+    match compare::counted(sides, call, &short, room) {
+        Err(outcomes) => {
+            let [library, model] = *outcomes;
+            let input = hex(&short);
+            format!("input:   {input} (room {room})\nlibrary: {library}\nmodel:   {model}")
+        }
+        Ok(_) => NOT_TWICE.into(),
+    }
+}

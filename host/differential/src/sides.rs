@@ -1,0 +1,41 @@
+//! The two sides that are compared.
+
+/// The calls of `include/ems.h` on one side.
+#[derive(Clone, Copy)]
+pub struct Calls {
+    /// `ems_fresh`
+    pub fresh: fn(&mut [u8]) -> u8,
+    /// `ems_step`
+    pub step: fn(&mut [u8], &[u8], &mut [u8]) -> u8,
+    /// `ems_beacon_basic`
+    pub beacon_basic: Counted,
+    /// `ems_beacon_complete`
+    pub beacon_complete: Counted,
+    /// `ems_key`
+    pub key: Counted,
+    /// `ems_read`
+    pub read: Counted,
+}
+
+/// A call that turns bytes into bytes and says how many.
+pub type Counted = fn(&[u8], &mut [u8]) -> (u8, usize);
+
+/// The compiled library.
+pub const LIBRARY: Calls = Calls {
+    fresh: ems::calls::fresh,
+    step: ems::calls::step,
+    beacon_basic: ems::calls::beacon_basic,
+    beacon_complete: ems::calls::beacon_complete,
+    key: ems::calls::key,
+    read: ems::calls::read,
+};
+
+/// The model.
+pub const MODEL: Calls = Calls {
+    fresh: model::calls::fresh,
+    step: model::calls::step,
+    beacon_basic: model::calls::beacon_basic,
+    beacon_complete: model::calls::beacon_complete,
+    key: model::calls::key,
+    read: model::calls::read,
+};

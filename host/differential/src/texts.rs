@@ -1,0 +1,52 @@
+//! Texts and units from a seed.
+
+use crate::rng::Rng;
+
+const SIGNS: &[u8] = b"ABCDEFGHIJKLMNOPQRSTUVWXYZ0123456789";
+
+/// A text that can be keyed, of up to 64 bytes.
+pub fn good(rng: &mut Rng) -> Vec<u8> {
+    let any_length = rng.below(65);
+    let length = rng.pick(&[0, 1, 2, 3, 10, 16, 63, 64, any_length]);
+    let mut text: Vec<u8> = Vec::new();
+    while text.len() < length {
+        let inner = text.last().is_some_and(|&b| b != b' ') && text.len() + 1 < length;
+        let space = inner && rng.once_in(5);
+        text.push(if space { b' ' } else { rng.pick(SIGNS) });
+    }
+    text
+}
+
+/// Any text of up to 70 bytes: good, with a few bytes wrong, too long, or noise.
+pub fn any(rng: &mut Rng) -> Vec<u8> {
+    let mut text = good(rng);
+    match rng.below(6) {
+        0 => {
+            let length = rng.below(71);
+            return rng.bytes(length);
+        }
+        1 => {
+            let length = 60 + rng.below(11);
+            text.resize(length, rng.pick(b"E0 e"));
+        }
+        2 | 3 if !text.is_empty() => {
+            let place = rng.below(text.len());
+            let any_byte = rng.byte();
+            text[place] = rng.pick(&[b' ', b'a', b'z', b'@', b'[', b'/', b':', any_byte]);
+        }
+        _ => {}
+    }
+    text
+}
+
+/// Damages units in one place.
+pub fn damage(rng: &mut Rng, units: &mut Vec<u8>) {
+    let place = rng.below(units.len() + 1);
+    match rng.below(5) {
+        0 if place < units.len() => units[place] ^= 1,
+        1 if place < units.len() => units[place] = rng.byte(),
+        2 if place < units.len() => drop(units.remove(place)),
+        3 => units.truncate(place),
+        _ => units.insert(place, rng.pick(&[0, 1, 1, 0, 2])),
+    }
+}

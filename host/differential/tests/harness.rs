@@ -1,0 +1,126 @@
+//! The differential tests' own test: faults planted in one side are found, and
+//! come out short.
+
+use differential::frames::{Maker, Stream};
+use differential::groups::GROUPS;
+use differential::rng::Rng;
+use differential::shrink::tell_flight;
+use differential::sides::{Calls, MODEL};
+use model::{image, State};
+
+/// What a group says of a faulty side.
+fn told(group: &str, faulty: Calls) -> String {
+    let (_, run) = GROUPS
+        .iter()
+        .find(|(name, _)| *name == group)
+        .expect("there is such a group");
+    run(&[faulty, MODEL], &mut Rng::new(1)).expect_err("the fault is found")
+}
+
+/// The frames of a told flight.
+fn frames(told: &str) -> usize {
+    told.lines().filter(|line| line.starts_with("  ")).count()
+}
+
+/// One of the page's "errors that look right": reply 10 leaves the serial.
+fn keeps_the_serial(image: &mut [u8], frame: &[u8], room: &mut [u8]) -> u8 {
+    let before = image.to_vec();
+    let answer = model::calls::step(image, frame, room);
+    if answer == 10 {
+        image.copy_from_slice(&before);
+    }
+    answer
+}
+
+#[test]
+fn a_wrong_next_state_is_found_and_one_frame_shows_it() {
+    let faulty = Calls {
+        step: keeps_the_serial,
+        ..MODEL
+    };
+    let told = told("every serial", faulty);
+    assert_eq!(frames(&told), 1, "{told}");
+}
+
+/// Clears the room past the report.
+fn clears_the_room(image: &mut [u8], frame: &[u8], room: &mut [u8]) -> u8 {
+    let answer = model::calls::step(image, frame, room);
+    if let Some(past) = room.get_mut(11..) {
+        past.fill(0);
+    }
+    answer
+}
+
+#[test]
+fn a_byte_written_past_the_report_is_found() {
+    let faulty = Calls {
+        step: clears_the_room,
+        ..MODEL
+    };
+    let told = told("every room length", faulty);
+    assert_eq!(frames(&told), 1, "{told}");
+}
+
+/// Takes the fall into RECOVERY for one at equality too.
+fn judges_at_equality(image: &mut [u8], frame: &[u8], room: &mut [u8]) -> u8 {
+    let crosses = image.len() == 53
+        && (image[1], image[7], frame) == (2, 29, &[0x01, 0])
+        && image[11..13] == image[15..17];
+    let answer = model::calls::step(image, frame, room);
+    if crosses && answer == 0 {
+        image[1] = 1;
+    }
+    answer
+}
+
+#[test]
+fn a_fault_at_one_equality_is_found() {
+    let faulty = Calls {
+        step: judges_at_equality,
+        ..MODEL
+    };
+    let told = told("flights by the table", faulty);
+    assert_eq!(frames(&told), 1, "{told}");
+}
+
+/// Stores a reading one millivolt off once the antennas are out.
+fn misreads_when_deployed(image: &mut [u8], frame: &[u8], room: &mut [u8]) -> u8 {
+    let answer = model::calls::step(image, frame, room);
+    if answer == 0 && image[10] == 1 && frame[0] == 0x02 {
+        image[12] ^= 1;
+    }
+    answer
+}
+
+#[test]
+fn a_long_flight_from_the_fresh_start_comes_out_as_two_frames() {
+    let faulty = Calls {
+        step: misreads_when_deployed,
+        ..MODEL
+    };
+    let mut rng = Rng::new(1);
+    let mut stream = Stream::new(Maker::Structured);
+    let shots = (0..2_000).map(|_| stream.next(&mut rng)).collect();
+    let start = image::save(&State::fresh());
+    let told = tell_flight(&[faulty, MODEL], &start, shots);
+    assert_eq!(frames(&told), 2, "{told}");
+}
+
+/// Reads units with a gap behind the last sign.
+fn takes_a_last_gap(units: &[u8], text: &mut [u8]) -> (u8, usize) {
+    let without = units.strip_suffix(&[0]).unwrap_or(units);
+    model::calls::read(without, text)
+}
+
+#[test]
+fn a_reader_that_takes_too_much_is_found() {
+    let faulty = Calls {
+        read: takes_a_last_gap,
+        ..MODEL
+    };
+    let told = told("units damaged in one place", faulty);
+    assert!(
+        told.starts_with("input:   00 ") || told.starts_with("input:   01 00 "),
+        "{told}"
+    );
+}

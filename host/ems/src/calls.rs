@@ -1,0 +1,116 @@
+//! The calls of `include/ems.h` over slices. All `unsafe` of the workspace is
+//! in this file, in one shape.
+//!
+//! Why it is sound: the library reads and writes within the lengths it is given
+//! and nowhere else (proved), keeps no pointer and no state between calls, and
+//! asks four things of its caller. A slice's pointer is non-null, also when the
+//! slice is empty. A slice's length is true. A `&mut` slice overlaps nothing
+//! else that is borrowed, and `count` is a local of the wrapper. And nobody
+//! else writes to what is borrowed while the call runs, which is what a borrow
+//! means. Any bytes are legal arguments, so nothing has to be checked first.
+
+mod c {
+    extern "C" {
+        pub fn ems_fresh(image: *mut u8, image_len: usize) -> u8;
+        pub fn ems_step(
+            image: *mut u8,
+            image_len: usize,
+            frame: *const u8,
+            frame_len: usize,
+            room: *mut u8,
+            room_len: usize,
+        ) -> u8;
+        pub fn ems_beacon_basic(
+            image: *const u8,
+            image_len: usize,
+            text: *mut u8,
+            text_len: usize,
+            count: *mut usize,
+        ) -> u8;
+        pub fn ems_beacon_complete(
+            image: *const u8,
+            image_len: usize,
+            text: *mut u8,
+            text_len: usize,
+            count: *mut usize,
+        ) -> u8;
+        pub fn ems_key(
+            text: *const u8,
+            text_len: usize,
+            units: *mut u8,
+            units_len: usize,
+            count: *mut usize,
+        ) -> u8;
+        pub fn ems_read(
+            units: *const u8,
+            units_len: usize,
+            text: *mut u8,
+            text_len: usize,
+            count: *mut usize,
+        ) -> u8;
+    }
+}
+
+/// Four of the calls turn bytes into bytes, and say how many.
+type Call = unsafe extern "C" fn(*const u8, usize, *mut u8, usize, *mut usize) -> u8;
+
+/// Makes such a call; gives its answer and its count.
+fn counted(call: Call, input: &[u8], room: &mut [u8]) -> (u8, usize) {
+    // `count` is always written; this value would show if it weren't.
+    let mut count = usize::MAX;
+    // SAFETY: pointers and lengths are those of two borrowed slices and a local
+    // (see the top of this file).
+    let answer = unsafe {
+        call(
+            input.as_ptr(),
+            input.len(),
+            room.as_mut_ptr(),
+            room.len(),
+            &mut count,
+        )
+    };
+    (answer, count)
+}
+
+/// Writes the image of the fresh start, if `image` has an image's length.
+pub fn fresh(image: &mut [u8]) -> u8 {
+    // SAFETY: pointer and length are those of one borrowed slice.
+    unsafe { c::ems_fresh(image.as_mut_ptr(), image.len()) }
+}
+
+/// Takes one frame: the image becomes the next state's, the report goes to the
+/// room.
+pub fn step(image: &mut [u8], frame: &[u8], room: &mut [u8]) -> u8 {
+    // SAFETY: pointers and lengths are those of three borrowed slices, the two
+    // that are written borrowed mutably.
+    unsafe {
+        c::ems_step(
+            image.as_mut_ptr(),
+            image.len(),
+            frame.as_ptr(),
+            frame.len(),
+            room.as_mut_ptr(),
+            room.len(),
+        )
+    }
+}
+
+/// Writes the basic beacon's text of the state; answer and length.
+pub fn beacon_basic(image: &[u8], text: &mut [u8]) -> (u8, usize) {
+    counted(c::ems_beacon_basic, image, text)
+}
+
+/// Writes the complete beacon's text of the state; answer and length.
+pub fn beacon_complete(image: &[u8], text: &mut [u8]) -> (u8, usize) {
+    counted(c::ems_beacon_complete, image, text)
+}
+
+/// Keys a text, one byte a unit; answer and number of units.
+pub fn key(text: &[u8], units: &mut [u8]) -> (u8, usize) {
+    counted(c::ems_key, text, units)
+}
+
+/// Reads units back to the text that they are the keying of; answer and length.
+pub fn read(units: &[u8], text: &mut [u8]) -> (u8, usize) {
+    counted(c::ems_read, units, text)
+}

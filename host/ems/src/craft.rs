@@ -1,0 +1,52 @@
+//! One board: the image of a state in range, and what can be asked of it.
+
+use crate::{answer, calls, IMAGE_BYTES};
+
+/// A board's state. It is always in range, so no call on it answers 1.
+#[derive(Clone, Debug, PartialEq, Eq)]
+pub struct Craft {
+    image: [u8; IMAGE_BYTES],
+}
+
+impl Craft {
+    /// The board as it is first switched on.
+    pub fn fresh() -> Craft {
+        let mut image = [0; IMAGE_BYTES];
+        // The only refusal is for another length.
+        calls::fresh(&mut image);
+        Craft { image }
+    }
+
+    /// The board that an image was saved from; none if no board saves so.
+    ///
+    /// The library is asked, by a beacon's call that has no room: it answers 1
+    /// for an image that isn't one, and 14 otherwise, and writes nothing.
+    pub fn from_image(image: &[u8]) -> Option<Craft> {
+        let image: &[u8; IMAGE_BYTES] = image.try_into().ok()?;
+        match calls::beacon_basic(image, &mut []) {
+            (answer::NO_ROOM, _) => Some(Craft { image: *image }),
+            _ => None,
+        }
+    }
+
+    /// The board's image, to be kept.
+    pub fn image(&self) -> &[u8; IMAGE_BYTES] {
+        &self.image
+    }
+
+    /// Takes one frame and gives the answer; see [`answer::has_report`] for
+    /// whether the first [`crate::REPORT_BYTES`] of the room are a report.
+    pub fn step(&mut self, frame: &[u8], room: &mut [u8]) -> u8 {
+        calls::step(&mut self.image, frame, room)
+    }
+
+    /// Writes the basic beacon's text; answer and length.
+    pub fn beacon_basic(&self, text: &mut [u8]) -> (u8, usize) {
+        calls::beacon_basic(&self.image, text)
+    }
+
+    /// Writes the complete beacon's text; answer and length.
+    pub fn beacon_complete(&self, text: &mut [u8]) -> (u8, usize) {
+        calls::beacon_complete(&self.image, text)
+    }
+}

@@ -1,0 +1,87 @@
+//! The header and the wrapper say the same, and programs in C and C++ build
+//! with the header and fly with the library.
+
+use ems::answer;
+use std::{path::Path, process::Command};
+
+const HEADER: &str = include_str!("../../../include/ems.h");
+
+/// A name's number in the header: `#define NAME n` or `NAME = n`.
+fn number(name: &str) -> Option<usize> {
+    HEADER.lines().find_map(|line| {
+        let mut words = line.split_whitespace();
+        match (words.next()?, words.next()?, words.next()?) {
+            ("#define", own, value) if own == name => value.parse().ok(),
+            (own, "=", value) if own == name => value.trim_end_matches(',').parse().ok(),
+            _ => None,
+        }
+    })
+}
+
+#[test]
+fn lengths_are_the_header_s() {
+    for (name, value) in [
+        ("EMS_IMAGE_BYTES", ems::IMAGE_BYTES),
+        ("EMS_REPORT_BYTES", ems::REPORT_BYTES),
+        ("EMS_BEACON_BASIC_BYTES", ems::BEACON_BASIC_BYTES),
+        ("EMS_BEACON_COMPLETE_BYTES", ems::BEACON_COMPLETE_BYTES),
+        ("EMS_TEXT_BYTES", ems::TEXT_BYTES),
+        ("EMS_UNITS_BYTES", ems::UNITS_BYTES),
+    ] {
+        assert_eq!(number(name), Some(value), "{name}");
+    }
+}
+
+#[test]
+fn answers_are_the_header_s() {
+    for (name, value) in [
+        ("EMS_DONE", answer::DONE),
+        ("EMS_BAD_STATE", answer::BAD_STATE),
+        ("EMS_SHORT_ROOM", answer::SHORT_ROOM),
+        ("EMS_NO_INPUT", answer::NO_INPUT),
+        ("EMS_UNKNOWN_KIND", answer::UNKNOWN_KIND),
+        ("EMS_BAD_LENGTH", answer::BAD_LENGTH),
+        ("EMS_BAD_FIELD", answer::BAD_FIELD),
+        ("EMS_NOT_PERMITTED", answer::NOT_PERMITTED),
+        ("EMS_REPEAT", answer::REPEAT),
+        ("EMS_STALE", answer::STALE),
+        ("EMS_NOT_NOW", answer::NOT_NOW),
+        ("EMS_TEXT_TOO_LONG", answer::TEXT_TOO_LONG),
+        ("EMS_NOT_KEYABLE", answer::NOT_KEYABLE),
+        ("EMS_BAD_SPACE", answer::BAD_SPACE),
+        ("EMS_NO_ROOM", answer::NO_ROOM),
+        ("EMS_NOT_A_KEYING", answer::NOT_A_KEYING),
+    ] {
+        assert_eq!(number(name), Some(value.into()), "{name}");
+    }
+}
+
+/// Builds `tests/flight.c` by a compiler, and gives what it prints.
+fn print_of(compiler: &str, language: &[&str]) -> String {
+    let package = Path::new(env!("CARGO_MANIFEST_DIR"));
+    let program = Path::new(env!("CARGO_TARGET_TMPDIR")).join(compiler);
+    let built = Command::new(compiler)
+        .args(language)
+        .args(["-pedantic", "-Wall", "-Wextra", "-Werror", "-I"])
+        .arg(package.join("../../include"))
+        .arg(package.join("tests/flight.c"))
+        .args(["-x", "none", "-L", env!("EMS_FLIGHT_DIR"), "-lflight", "-o"])
+        .arg(&program)
+        .status();
+    assert!(built.is_ok_and(|status| status.success()), "{compiler}");
+    let run = Command::new(program).output().expect("it runs");
+    assert!(run.status.success());
+    String::from_utf8_lossy(&run.stdout).into_owned()
+}
+
+const PRINT: &str = "0 81 03 00 00 00 00 00 27 00 00 00\nEMS D 0000, 125 units\n";
+
+#[test]
+fn a_c_program_flies() {
+    assert_eq!(print_of("cc", &["-std=c99", "-x", "c"]), PRINT);
+}
+
+#[test]
+fn a_cpp_program_flies() {
+    assert_eq!(print_of("c++", &["-std=c++11", "-x", "c++"]), PRINT);
+}

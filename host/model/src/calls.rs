@@ -1,0 +1,71 @@
+//! The calls of `include/ems.h`, with the same arguments and the same answers.
+
+use crate::{beacon, image, morse, state::State, step};
+
+/// Writes the fresh start's image.
+pub fn fresh(bytes: &mut [u8]) -> u8 {
+    if bytes.len() != image::BYTES {
+        return 1;
+    }
+    bytes.copy_from_slice(&image::save(&State::fresh()));
+    0
+}
+
+/// Takes one frame.
+pub fn step(bytes: &mut [u8], frame: &[u8], room: &mut [u8]) -> u8 {
+    let Some(mut state) = image::load(bytes) else {
+        return 1;
+    };
+    match step::step(&mut state, frame, room.len()) {
+        Err(refusal) => refusal,
+        Ok(report) => {
+            bytes.copy_from_slice(&image::save(&state));
+            write(&report.bytes(), room);
+            report.answer
+        }
+    }
+}
+
+/// The basic beacon's text.
+pub fn beacon_basic(bytes: &[u8], text: &mut [u8]) -> (u8, usize) {
+    beacon(bytes, text, beacon::basic)
+}
+
+/// The complete beacon's text.
+pub fn beacon_complete(bytes: &[u8], text: &mut [u8]) -> (u8, usize) {
+    beacon(bytes, text, beacon::complete)
+}
+
+fn beacon(bytes: &[u8], text: &mut [u8], say: fn(&State) -> String) -> (u8, usize) {
+    let said = image::load(bytes).ok_or(1);
+    give(said.map(|state| say(&state).into_bytes()), text)
+}
+
+/// Keys a text.
+pub fn key(text: &[u8], units: &mut [u8]) -> (u8, usize) {
+    give(morse::key(text), units)
+}
+
+/// Reads units back.
+pub fn read(units: &[u8], text: &mut [u8]) -> (u8, usize) {
+    give(morse::read(units), text)
+}
+
+/// Writes a result if there is room for it: answer and count.
+fn give(result: Result<Vec<u8>, u8>, room: &mut [u8]) -> (u8, usize) {
+    match result {
+        Err(refusal) => (refusal, 0),
+        Ok(bytes) if bytes.len() > room.len() => (14, 0),
+        Ok(bytes) => {
+            write(&bytes, room);
+            (0, bytes.len())
+        }
+    }
+}
+
+/// Writes to the front of a room that is long enough.
+fn write(bytes: &[u8], room: &mut [u8]) {
+    for (to, from) in room.iter_mut().zip(bytes) {
+        *to = *from;
+    }
+}

@@ -1,0 +1,118 @@
+//! Frames in: checks 3 to 7.
+
+use crate::table::{self, Kind, PAYLOAD};
+
+/// Who a frame comes from, and its serial.
+#[derive(Clone, Copy, Debug, PartialEq, Eq)]
+pub struct Sender {
+    /// 1 ground, 2 the payload.
+    pub origin: u8,
+    /// The frame's serial.
+    pub serial: u16,
+}
+
+/// What a frame asks for.
+#[derive(Clone, Copy, Debug, PartialEq, Eq)]
+pub enum Body {
+    /// A second has passed, with these shorts.
+    Tick(u8),
+    /// A reading of the tension.
+    Battery(u16),
+    /// The antennas' latest report.
+    Antennas(bool),
+    /// A module's request.
+    Order {
+        /// The module's number.
+        module: u8,
+        /// Whether it is wanted on.
+        on: bool,
+    },
+    /// Both thresholds.
+    Thresholds {
+        /// The upper one.
+        ascend: u16,
+        /// The lower one.
+        descend: u16,
+    },
+}
+
+/// A frame that has passed checks 3 to 7.
+#[derive(Clone, Copy, Debug, PartialEq, Eq)]
+pub struct Frame {
+    /// Its first byte.
+    pub kind: u8,
+    /// Its sender; none where no serial is carried.
+    pub sender: Option<Sender>,
+    /// What it asks for.
+    pub body: Body,
+}
+
+/// Reads a frame, or gives the first refusal that applies.
+pub fn read(input: &[u8]) -> Result<Frame, u8> {
+    let kind_byte = *input.first().ok_or(3)?;
+    let kind = table::kind(kind_byte).ok_or(4)?;
+    if input.len() != kind.total {
+        return Err(5);
+    }
+    let values = fields(kind, &input[1..]);
+    let in_range = |(field, value): (&table::Field, &u16)| (field.low..=field.high).contains(value);
+    if !kind.fields.iter().zip(&values).all(in_range) {
+        return Err(6);
+    }
+    let frame = build(kind, &values).ok_or(4)?;
+    if let Body::Thresholds { ascend, descend } = frame.body {
+        if descend > ascend {
+            return Err(6);
+        }
+    }
+    if frame.sender.is_some_and(|sender| sender.origin == 2) && !for_payload(frame.body) {
+        return Err(7);
+    }
+    Ok(frame)
+}
+
+/// The numbers of a body, one for each field.
+fn fields(kind: &Kind, mut body: &[u8]) -> Vec<u16> {
+    let mut values = Vec::new();
+    for field in kind.fields {
+        let (own, rest) = body.split_at(field.bytes);
+        values.push(own.iter().fold(0, |n, &byte| 256 * n + u16::from(byte)));
+        body = rest;
+    }
+    values
+}
+
+/// A frame of its fields' values; none where the table has a row that no rule
+/// speaks of yet.
+fn build(kind: &Kind, values: &[u16]) -> Option<Frame> {
+    let byte = |value: u16| value.to_be_bytes()[1];
+    let sender = |origin, serial| {
+        let origin = byte(origin);
+        Some(Sender { origin, serial })
+    };
+    let (sender, body) = match (kind.byte, values) {
+        (0x01, &[shorts]) => (None, Body::Tick(byte(shorts))),
+        (0x02, &[tension]) => (None, Body::Battery(tension)),
+        (0x03, &[deployed]) => (None, Body::Antennas(deployed == 1)),
+        (0x04, &[origin, serial, module, wanted]) => {
+            let module = byte(module);
+            let on = wanted == 1;
+            (sender(origin, serial), Body::Order { module, on })
+        }
+        (0x05, &[origin, serial, ascend, descend]) => {
+            let body = Body::Thresholds { ascend, descend };
+            (sender(origin, serial), body)
+        }
+        _ => return None,
+    };
+    Some(Frame {
+        kind: kind.byte,
+        sender,
+        body,
+    })
+}
+
+/// Whether the payload may ask for this.
+fn for_payload(body: Body) -> bool {
+    matches!(body, Body::Order { module, .. } if module == PAYLOAD)
+}

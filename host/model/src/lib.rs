@@ -1,0 +1,27 @@
+//! Document 01 a second time, in plain Rust.
+//!
+//! It is written from the page alone and shares nothing with the proved
+//! library, so that a slip in either shows as a difference. It goes for being
+//! obvious where it can be slow: it allocates, and it reads units back by
+//! keying its guess again.
+//!
+//! [`calls`] has the calls of `include/ems.h`, byte for byte; [`step_log`] the
+//! page's program.
+
+#![forbid(unsafe_code)]
+#![deny(missing_docs)]
+
+pub mod beacon;
+pub mod calls;
+pub mod frame;
+pub mod image;
+mod log;
+pub mod morse;
+pub mod report;
+pub mod state;
+pub mod step;
+pub mod table;
+mod tick;
+
+pub use log::{log_of, step_log};
+pub use state::State;

@@ -1,0 +1,158 @@
+//! The state, the fresh start, and check 1's ranges.
+//!
+//! Numbers are kept as wide as the image holds them, so that a state out of
+//! range can be told from the one it would be cut to.
+
+use crate::table::{HIGHEST, LOWEST, MODULES};
+
+/// A module's power.
+#[derive(Clone, Copy, Debug, PartialEq, Eq)]
+pub enum Power {
+    /// On.
+    On,
+    /// Off, with tries left.
+    Off(u16),
+    /// Failed, with seconds left.
+    Failed(u16),
+}
+
+/// A module, and whether it is requested.
+#[derive(Clone, Copy, Debug, PartialEq, Eq)]
+pub struct Module {
+    /// What it is.
+    pub power: Power,
+    /// What it should be.
+    pub requested: bool,
+}
+
+/// The mode; a deploy phase is had in DEPLOY_WAIT only.
+#[derive(Clone, Copy, Debug, PartialEq, Eq)]
+pub enum Mode {
+    /// DEPLOY_WAIT, so many seconds waited.
+    Waiting(u32),
+    /// DEPLOY_WAIT, so many seconds left to settle.
+    Settling(u32),
+    /// RECOVERY.
+    Recovery,
+    /// SAFE.
+    Safe,
+}
+
+impl Mode {
+    /// The mode's number.
+    pub fn number(self) -> u8 {
+        match self {
+            Mode::Waiting(_) | Mode::Settling(_) => 0,
+            Mode::Recovery => 1,
+            Mode::Safe => 2,
+        }
+    }
+
+    /// Whether it is DEPLOY_WAIT.
+    pub fn deploying(self) -> bool {
+        self.number() == 0
+    }
+}
+
+/// Tries of a module that has been switched off.
+pub const TRIES: u16 = 5;
+/// Seconds that a failed module is left alone.
+pub const FAILED_SECONDS: u16 = 600;
+/// Seconds of waiting after which the antennas are taken as deployed.
+pub const WAIT_SECONDS: u32 = 86_400;
+/// Seconds of settling.
+pub const SETTLE_SECONDS: u32 = 900;
+/// Ticks between two judgements of the mode.
+pub const CONTROL_TICKS: u8 = 30;
+/// Ticks between two basic beacons.
+pub const BASIC_TICKS: u16 = 300;
+/// Ticks between two complete beacons.
+pub const COMPLETE_TICKS: u16 = 60;
+
+/// The whole state.
+#[derive(Clone, Debug, PartialEq, Eq)]
+pub struct State {
+    /// The mode, with its phase.
+    pub mode: Mode,
+    /// The control count.
+    pub control: u8,
+    /// The beacon count.
+    pub beacon: u16,
+    /// Whether the antennas were last reported deployed.
+    pub antennas: bool,
+    /// The last tension, 0 before any.
+    pub tension: u16,
+    /// The tension above which RECOVERY ends.
+    pub ascend: u16,
+    /// The tension below which SAFE ends.
+    pub descend: u16,
+    /// Each origin's last serial: the ground's, the payload's.
+    pub last: [u16; 2],
+    /// The modules by number.
+    pub modules: [Module; 8],
+}
+
+impl State {
+    /// The fresh start.
+    pub fn fresh() -> State {
+        State {
+            mode: Mode::Waiting(0),
+            control: 0,
+            beacon: 0,
+            antennas: false,
+            tension: 0,
+            ascend: 7_400,
+            descend: 7_000,
+            last: [0, 0],
+            modules: std::array::from_fn(|i| Module {
+                power: Power::Off(TRIES),
+                requested: MODULES[i].core,
+            }),
+        }
+    }
+
+    /// Whether the state passes check 1.
+    pub fn in_range(&self) -> bool {
+        let phase = match self.mode {
+            Mode::Waiting(waited) => waited < WAIT_SECONDS,
+            Mode::Settling(left) => (1..=SETTLE_SECONDS).contains(&left),
+            Mode::Recovery | Mode::Safe => true,
+        };
+        let counts = self.control < CONTROL_TICKS && self.beacon < BASIC_TICKS;
+        let still = !self.mode.deploying() || (self.control == 0 && self.beacon == 0);
+        let volts = LOWEST..=HIGHEST;
+        let tension = self.tension == 0 || volts.contains(&self.tension);
+        let thresholds = volts.contains(&self.ascend)
+            && volts.contains(&self.descend)
+            && self.descend <= self.ascend;
+        let modules = self.modules.iter().all(|module| match module.power {
+            Power::On => true,
+            Power::Off(tries) => (1..=TRIES).contains(&tries),
+            Power::Failed(left) => left <= FAILED_SECONDS,
+        });
+        phase && counts && still && tension && thresholds && modules
+    }
+
+    /// The mask of the modules of which something holds.
+    fn mask(&self, holds: impl Fn(&Module) -> bool) -> u8 {
+        (0..8)
+            .filter(|&i| holds(&self.modules[i]))
+            .map(|i| 1 << i)
+            .sum()
+    }
+
+    /// The requested mask.
+    pub fn requested_mask(&self) -> u8 {
+        self.mask(|module| module.requested)
+    }
+
+    /// The on mask.
+    pub fn on_mask(&self) -> u8 {
+        self.mask(|module| module.power == Power::On)
+    }
+
+    /// The failed mask.
+    pub fn failed_mask(&self) -> u8 {
+        self.mask(|module| matches!(module.power, Power::Failed(_)))
+    }
+}

@@ -1,0 +1,65 @@
+//! One frame through the board: all checks, the rules, the report.
+
+use crate::frame::{self, Body, Frame, Sender};
+use crate::report::{self, Report};
+use crate::state::{Mode, State};
+use crate::table::MODULES;
+use crate::tick;
+
+/// Takes one frame, with so many bytes of reply room: the refusal, or the
+/// report. A refusal leaves the state as it is.
+pub fn step(state: &mut State, input: &[u8], room: usize) -> Result<Report, u8> {
+    if !state.in_range() {
+        return Err(1);
+    }
+    if room < report::BYTES {
+        return Err(2);
+    }
+    let frame = frame::read(input)?;
+    let (answer, due) = match late(state, frame.sender) {
+        Some(answer) => (answer, 0),
+        None => act(state, &frame),
+    };
+    Ok(Report::of(state, &frame, answer, due))
+}
+
+/// Replies 8 and 9, by the distance of a frame's serial.
+fn late(state: &State, sender: Option<Sender>) -> Option<u8> {
+    let Sender { origin, serial } = sender?;
+    let last = state.last[place(origin)];
+    let distance = (65_536 + u32::from(serial) - u32::from(last)) % 65_536;
+    match distance {
+        0 => Some(8),
+        1..=32_767 => None,
+        _ => Some(9),
+    }
+}
+
+/// Where an origin's last serial stands.
+fn place(origin: u8) -> usize {
+    usize::from(origin == 2)
+}
+
+/// Acts on a frame that is not late; the answer, and the beacon that is due.
+fn act(state: &mut State, frame: &Frame) -> (u8, u8) {
+    if let Some(Sender { origin, serial }) = frame.sender {
+        state.last[place(origin)] = serial;
+    }
+    match frame.body {
+        Body::Tick(shorts) => return (0, tick::tick(state, shorts)),
+        Body::Battery(tension) => state.tension = tension,
+        Body::Antennas(deployed) => state.antennas = deployed,
+        Body::Order { module, on } => {
+            let module = usize::from(module);
+            if on && !MODULES[module].core && state.mode != Mode::Safe {
+                return (10, 0);
+            }
+            state.modules[module].requested = on;
+        }
+        Body::Thresholds { ascend, descend } => {
+            state.ascend = ascend;
+            state.descend = descend;
+        }
+    }
+    (0, 0)
+}

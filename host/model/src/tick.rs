@@ -1,0 +1,85 @@
+//! One tick: the deploy phase, or control, modules and beacon in this order.
+
+use crate::state::{
+    Mode, Power, State, BASIC_TICKS, COMPLETE_TICKS, CONTROL_TICKS, FAILED_SECONDS, SETTLE_SECONDS,
+    TRIES, WAIT_SECONDS,
+};
+use crate::table::MODULES;
+
+/// Passes a second with these shorts; gives the beacon that is due.
+pub fn tick(state: &mut State, shorts: u8) -> u8 {
+    if state.mode.deploying() {
+        state.mode = deploy(state.mode, state.antennas);
+        return 0;
+    }
+    control(state);
+    for (i, module) in state.modules.iter_mut().enumerate() {
+        let allowed = MODULES[i].core || state.mode == Mode::Safe;
+        let wanted = module.requested && allowed;
+        module.power = second(module.power, wanted, shorts >> i & 1 == 1);
+    }
+    beacon(state)
+}
+
+/// A second of DEPLOY_WAIT.
+fn deploy(mode: Mode, antennas: bool) -> Mode {
+    match mode {
+        Mode::Waiting(waited) if antennas || waited + 1 == WAIT_SECONDS => {
+            Mode::Settling(SETTLE_SECONDS)
+        }
+        Mode::Waiting(waited) => Mode::Waiting(waited + 1),
+        Mode::Settling(1) => Mode::Recovery,
+        Mode::Settling(left) => Mode::Settling(left - 1),
+        Mode::Recovery | Mode::Safe => mode,
+    }
+}
+
+/// The control stage.
+fn control(state: &mut State) {
+    state.control += 1;
+    if state.control < CONTROL_TICKS {
+        return;
+    }
+    state.control = 0;
+    if state.mode == Mode::Recovery && state.tension > state.ascend {
+        state.mode = Mode::Safe;
+        request(state, true);
+    } else if state.mode == Mode::Safe && state.tension < state.descend {
+        state.mode = Mode::Recovery;
+        request(state, false);
+    }
+}
+
+/// A crossing's requests: the core four on, or the mission four off.
+fn request(state: &mut State, on: bool) {
+    for (module, row) in state.modules.iter_mut().zip(&MODULES) {
+        if row.core == on {
+            module.requested = on;
+        }
+    }
+}
+
+/// A module's power after a second of the module stage.
+fn second(power: Power, wanted: bool, short: bool) -> Power {
+    match power {
+        Power::On if short || !wanted => Power::Off(TRIES),
+        Power::On => Power::On,
+        Power::Failed(left) if left > 0 => Power::Failed(left - 1),
+        other if !wanted => other,
+        _ if !short => Power::On,
+        Power::Off(tries) if tries > 1 => Power::Off(tries - 1),
+        Power::Off(_) | Power::Failed(_) => Power::Failed(FAILED_SECONDS),
+    }
+}
+
+/// The beacon stage: 0 none, 1 basic, 2 complete.
+fn beacon(state: &mut State) -> u8 {
+    state.beacon += 1;
+    let due = match state.mode {
+        Mode::Safe if state.beacon.is_multiple_of(COMPLETE_TICKS) => 2,
+        Mode::Recovery if state.beacon == BASIC_TICKS => 1,
+        _ => return 0,
+    };
+    state.beacon = 0;
+    due
+}

@@ -1,0 +1,109 @@
+//! A real listener: beacons keyed by the library, as sound, written down again
+//! by two programs that nobody here wrote, Debian's `multimon-ng` and
+//! `morse2ascii`.
+
+use ems::{answer, Craft, REPORT_BYTES, UNITS_BYTES};
+use std::io::{self, Write};
+use std::{env, fs, path::Path, process::Command};
+
+const SPEEDS: [u32; 3] = [12, 18, 25];
+const TONE_HZ: u32 = 700;
+
+/// Writes down a WAV file that is keyed at a speed.
+type Listener = fn(&Path, u32) -> io::Result<Vec<u8>>;
+
+/// `multimon-ng` takes bare samples, to which the header's 22 are nothing, and
+/// is told about how long a dot is.
+fn multimon(file: &Path, wpm: u32) -> io::Result<Vec<u8>> {
+    let dot = (1_200 / wpm).to_string();
+    let mut command = Command::new("multimon-ng");
+    command.args(["-q", "-a", "MORSE_CW", "-t", "raw"]);
+    command.args(["-d", &dot, "-g", &dot]).arg(file);
+    Ok(command.output()?.stdout)
+}
+
+fn morse2ascii(file: &Path, _: u32) -> io::Result<Vec<u8>> {
+    Ok(Command::new("morse2ascii").arg(file).output()?.stdout)
+}
+
+/// What was written down, in capitals, words one space apart.
+fn words(written: &[u8]) -> String {
+    let text = String::from_utf8_lossy(written).to_uppercase();
+    let words: Vec<&str> = text
+        .split(|c: char| c.is_whitespace() || c == '\0')
+        .filter(|word| !word.is_empty())
+        .collect();
+    words.join(" ")
+}
+
+/// Frames, one after the other, each of which must be done.
+fn send(craft: &mut Craft, frame: &[u8], times: usize) {
+    for _ in 0..times {
+        let mut room = [0; REPORT_BYTES];
+        assert_eq!(craft.step(frame, &mut room), answer::DONE);
+    }
+}
+
+/// Both beacons of boards in every mode, with modules on and failed.
+fn beacons() -> Vec<Vec<u8>> {
+    let mut craft = Craft::fresh();
+    let mut texts = said(&craft);
+    send(&mut craft, &[0x03, 1], 1);
+    send(&mut craft, &[0x01, 0], 902);
+    send(&mut craft, &[0x02, 0x1B, 0x58], 1);
+    texts.extend(said(&craft));
+    send(&mut craft, &[0x02, 0x21, 0x34], 1);
+    send(&mut craft, &[0x01, 0x26], 60);
+    texts.extend(said(&craft));
+    assert_eq!(texts[3], b"EMS R 7000 27 00");
+    assert_eq!(texts[5], b"EMS S 8500 01 26");
+    texts
+}
+
+fn said(craft: &Craft) -> Vec<Vec<u8>> {
+    let (mut basic, mut complete) = (vec![0; 10], vec![0; 16]);
+    assert_eq!(craft.beacon_basic(&mut basic), (answer::DONE, 10));
+    assert_eq!(craft.beacon_complete(&mut complete), (answer::DONE, 16));
+    vec![basic, complete]
+}
+
+/// Has a listener write down every beacon at every speed.
+fn hear(name: &str, listener: Listener) {
+    let folder = Path::new(env!("CARGO_TARGET_TMPDIR"));
+    let file = folder.join(format!("{name}.wav"));
+    for text in beacons() {
+        let mut units = [0; UNITS_BYTES];
+        let (given, count) = ems::key(&text, &mut units);
+        assert_eq!(given, answer::DONE);
+        for wpm in SPEEDS {
+            let sound = sound::wav(&units[..count], wpm, TONE_HZ);
+            fs::write(&file, sound).expect("the sound can be written");
+            match listener(&file, wpm) {
+                Err(error) if error.kind() == io::ErrorKind::NotFound => return skip(name),
+                Err(error) => panic!("{name}: {error}"),
+                Ok(heard) => {
+                    let sent = String::from_utf8_lossy(&text);
+                    assert_eq!(words(&heard), sent, "{name} at {wpm} WPM");
+                }
+            }
+        }
+    }
+}
+
+/// A listener that isn't there: a failure in the gate, a message elsewhere.
+fn skip(name: &str) {
+    let why = format!("{name} isn't installed (Debian package {name}): nothing was heard");
+    assert!(env::var("CI").as_deref() != Ok("true"), "{why}");
+    // Straight to standard error: what `eprintln!` says is kept back in a test.
+    let _ = writeln!(io::stderr(), "skipped: {why}");
+}
+
+#[test]
+fn multimon_writes_down_every_beacon() {
+    hear("multimon-ng", multimon);
+}
+
+#[test]
+fn morse2ascii_writes_down_every_beacon() {
+    hear("morse2ascii", morse2ascii);
+}

@@ -1,0 +1,71 @@
+//! What stands under each command's help: what else to know, and examples.
+
+pub const MAIN: &str = "\
+Every answer is the proved library's: this tool knows names and layouts, and no rule.
+
+A flight is a pass script (*.pass, see docs/PASS-SCRIPTS.md) or a stream of frames
+as bytes (any other file, and `-` for standard input). It begins at the fresh start.
+
+Example:
+  ems log --explain examples/dawn.pass
+
+Exit status: 0 done; 1 wrong usage, or a file that can't be read or written; 2 a
+frame, a text or units were refused; `compare` has 3 and 4 too.";
+
+pub const LOG: &str = "\
+Ends at the first frame that is refused with 4 to 7, with status 2 and the reason on
+standard error.
+
+Examples:
+  ems log examples/dawn.pass
+  ems log --explain examples/shorted.pass
+  ems log --hex examples/dawn.pass
+  printf '\\003\\001\\001\\000' | ems log -";
+
+pub const FRAMES: &str = "\
+Example:
+  ems frames examples/dawn.pass -o dawn.bin";
+
+pub const SHOW: &str = "\
+What is printed is a pass script that `ems frames` turns into the same bytes. Where
+the board would stop reading, a comment says so; what follows is a guess.
+
+Examples:
+  ems show dawn.bin
+  printf '\\004\\001\\000\\021\\004\\001' | ems show -";
+
+pub const PLOT: &str = "\
+Example:
+  ems plot examples/orbit.pass -o flight.svg --title 'A day of fifteen orbits'";
+
+pub const BEACON: &str = "\
+The text that the last tick made due; if none is due then, the board is left alone
+until one is, and standard error says for how long.
+
+Examples:
+  ems beacon examples/dawn.pass
+  ems key \"$(ems beacon examples/dawn.pass)\" -o beacon.wav";
+
+pub const KEY: &str = "\
+Examples:
+  ems key \"EMS R 7000\" -o beacon.wav --wpm 18 --tone 700
+  ems key --units \"EMS R 7000\"";
+
+pub const READ: &str = "\
+Blanks and line ends between units are skipped.
+
+Examples:
+  ems read units.txt
+  ems key --units \"EMS R 7000\" | ems read -";
+
+pub const COMPARE: &str = "\
+The promise: two craft are sent the same frames, but for battery readings, which are
+in range and never lower on B. Then, after every frame, B's mode is as good as A's,
+each mission module requested on A is requested on B, and each that never saw a
+short and is on at A is on at B.
+
+Exit status: 0 premises and conclusions hold; 3 the premises don't; 4 they do and a
+conclusion doesn't (never seen: it is proved); 2 a frame was refused on both.
+
+Example:
+  ems compare examples/sister-craft-a.pass examples/sister-craft-b.pass";

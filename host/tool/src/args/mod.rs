@@ -1,0 +1,150 @@
+//! The command line: every command with what it is for and an example.
+
+mod help;
+
+use clap::{Args, Parser, Subcommand, ValueEnum};
+use std::path::{Path, PathBuf};
+
+/// What will the board do if this is sent to it, and why did it do that?
+#[derive(Debug, Parser)]
+#[command(name = "ems", version, after_help = help::MAIN)]
+pub struct Line {
+    #[command(subcommand)]
+    pub command: Command,
+}
+
+#[derive(Debug, Subcommand)]
+pub enum Command {
+    /// What the board answers, a line a frame
+    #[command(after_help = help::LOG)]
+    Log(Log),
+    /// Turns a pass script into the bytes of its frames
+    #[command(after_help = help::FRAMES)]
+    Frames(Frames),
+    /// Turns bytes back into a pass script, damaged ones too
+    #[command(after_help = help::SHOW)]
+    Show(Show),
+    /// Draws the flight as an SVG picture
+    #[command(after_help = help::PLOT)]
+    Plot(Plot),
+    /// The beacon's text that falls due at or after the flight's end
+    #[command(after_help = help::BEACON)]
+    Beacon(Beacon),
+    /// Keys a text in Morse, as sound or as units
+    #[command(after_help = help::KEY)]
+    Key(Key),
+    /// Reads units back to the text that they are the keying of
+    #[command(after_help = help::READ)]
+    Read(Read),
+    /// Two craft side by side: where they differ, and whether the stronger keeps up
+    #[command(after_help = help::COMPARE)]
+    Compare(Compare),
+}
+
+/// A flight: what is sent to a board from the fresh start on.
+#[derive(Args, Debug)]
+pub struct Flight {
+    /// A pass script (*.pass), a file of frames, or `-` for frames from standard input
+    pub file: PathBuf,
+    /// Takes the file for this, whatever its name
+    #[arg(long = "as", value_name = "WHAT")]
+    pub kind: Option<As>,
+}
+
+/// What a file holds.
+#[derive(Clone, Copy, Debug, PartialEq, Eq, ValueEnum)]
+pub enum As {
+    Script,
+    Bytes,
+}
+
+impl As {
+    /// What a file of this name holds.
+    pub fn of(path: &Path) -> As {
+        match path.extension() {
+            Some(ending) if ending == "pass" => As::Script,
+            _ => As::Bytes,
+        }
+    }
+}
+
+#[derive(Args, Debug)]
+pub struct Log {
+    #[command(flatten)]
+    pub flight: Flight,
+    /// In words, with ticks in which nothing happens taken together
+    #[arg(long)]
+    pub explain: bool,
+    /// As bytes, each frame (>) with its report (<), the same ones in a row taken together
+    #[arg(long, conflicts_with = "explain")]
+    pub hex: bool,
+}
+
+#[derive(Args, Debug)]
+pub struct Frames {
+    /// The pass script
+    pub script: PathBuf,
+    /// Where the bytes go; `-` is standard output
+    #[arg(short, long, value_name = "FILE")]
+    pub output: PathBuf,
+}
+
+#[derive(Args, Debug)]
+pub struct Show {
+    /// The bytes; `-` is standard input
+    pub file: PathBuf,
+}
+
+#[derive(Args, Debug)]
+pub struct Plot {
+    #[command(flatten)]
+    pub flight: Flight,
+    /// Where the picture goes; `-` is standard output
+    #[arg(short, long, value_name = "FILE")]
+    pub output: PathBuf,
+    /// The picture's title [default: the flight's file name]
+    #[arg(long, value_name = "TEXT")]
+    pub title: Option<String>,
+}
+
+#[derive(Args, Debug)]
+pub struct Beacon {
+    #[command(flatten)]
+    pub flight: Flight,
+    /// Every beacon that falls due in the flight, with its time and kind
+    #[arg(long)]
+    pub all: bool,
+}
+
+#[derive(Args, Debug)]
+pub struct Key {
+    /// The text
+    pub text: String,
+    /// Where the sound (or the units) go; `-` is standard output
+    #[arg(short, long, value_name = "FILE", required_unless_present = "units")]
+    pub output: Option<PathBuf>,
+    /// Units as text instead of sound: 1 key down, 0 key up
+    #[arg(long)]
+    pub units: bool,
+    /// Words a minute: a unit lasts 1,200 ms divided by it
+    #[arg(long, default_value_t = 18, value_parser = clap::value_parser!(u32).range(1..=100))]
+    pub wpm: u32,
+    /// The tone in hertz
+    #[arg(long, value_name = "HZ", default_value_t = 700,
+          value_parser = clap::value_parser!(u32).range(50..=10_000))]
+    pub tone: u32,
+}
+
+#[derive(Args, Debug)]
+pub struct Read {
+    /// Units as text, 1 key down and 0 key up; `-` is standard input
+    pub file: PathBuf,
+}
+
+#[derive(Args, Debug)]
+pub struct Compare {
+    /// The craft with the weaker battery
+    pub a: PathBuf,
+    /// The same flight with battery readings as high or higher
+    pub b: PathBuf,
+}

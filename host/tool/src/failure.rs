@@ -1,0 +1,60 @@
+//! How a command ends badly: one line for standard error, and a status.
+
+use std::{fmt, io};
+
+/// Wrong usage, or a file that can't be read or written.
+pub const USAGE: u8 = 1;
+/// The board, the keyer or the reader refused what it was given.
+pub const REFUSED: u8 = 2;
+/// `compare`: the two flights are not those that the promise speaks of.
+pub const PREMISES: u8 = 3;
+/// `compare`: they are, and what is promised doesn't hold.
+pub const CONCLUSIONS: u8 = 4;
+
+/// Why a command ended, and with which status.
+#[derive(Debug)]
+pub struct Failure {
+    pub status: u8,
+    message: String,
+}
+
+impl Failure {
+    pub fn new(status: u8, message: impl Into<String>) -> Failure {
+        let message = message.into();
+        Failure { status, message }
+    }
+
+    pub fn usage(message: impl Into<String>) -> Failure {
+        Failure::new(USAGE, message)
+    }
+
+    /// A file that can't be opened, read or written.
+    pub fn file(name: impl fmt::Display, error: &io::Error) -> Failure {
+        Failure::usage(format!("{name}: {}", said(error)))
+    }
+}
+
+/// What went wrong, without the number that the system gives it.
+pub fn said(error: &io::Error) -> String {
+    if error.kind() == io::ErrorKind::BrokenPipe {
+        return "closed before everything was written".to_string();
+    }
+    let text = error.to_string();
+    match text.find(" (os error") {
+        Some(end) => text[..end].to_string(),
+        None => text,
+    }
+}
+
+impl fmt::Display for Failure {
+    fn fmt(&self, f: &mut fmt::Formatter<'_>) -> fmt::Result {
+        f.write_str(&self.message)
+    }
+}
+
+/// Errors of writing carry the file's name already: see `output`.
+impl From<io::Error> for Failure {
+    fn from(error: io::Error) -> Failure {
+        Failure::usage(said(&error))
+    }
+}

@@ -1,0 +1,50 @@
+//! What became of the modules, in words.
+
+use crate::image::{Image, Power};
+use crate::tables::MODULES;
+use crate::words::{count, list};
+
+/// The modules whose power changed, those with the same fate together.
+pub fn changes(before: &Image, after: &Image, shorts: u8) -> Vec<String> {
+    let mut fates: Vec<(String, Vec<String>)> = Vec::new();
+    for (i, module) in MODULES.iter().enumerate() {
+        let short = shorts >> i & 1 == 1;
+        let Some(fate) = fate(before.power(i), after.power(i), short) else {
+            continue;
+        };
+        let module = (*module).to_string();
+        match fates.iter_mut().find(|(other, _)| *other == fate) {
+            Some((_, modules)) => modules.push(module),
+            None => fates.push((fate, vec![module])),
+        }
+    }
+    let said = fates
+        .iter()
+        .map(|(fate, modules)| format!("{} {fate}", list(modules)));
+    said.collect()
+}
+
+/// What became of a module in a tick; nothing where only its seconds ran.
+fn fate(before: Power, after: Power, short: bool) -> Option<String> {
+    let again = |seconds: u16| count(u64::from(seconds), "second");
+    match (before, after) {
+        (Power::On, Power::On) => None,
+        (_, Power::On) => Some("on".to_string()),
+        (Power::On, Power::Off(_)) if short => Some("off, shorted".to_string()),
+        (Power::On, Power::Off(_)) => Some("off".to_string()),
+        (Power::Off(was), Power::Off(is)) if is < was => {
+            let left = if is == 1 {
+                "1 try".into()
+            } else {
+                format!("{is} tries")
+            };
+            Some(format!("shorted at its start, {left} left"))
+        }
+        (Power::Failed(was), Power::Failed(left)) if left > was => {
+            Some(format!("shorted at its start, {} to wait", again(left)))
+        }
+        (Power::Failed(_), Power::Failed(_)) | (Power::Off(_), Power::Off(_)) => None,
+        (_, Power::Failed(left)) => Some(format!("failed, {} to wait", again(left))),
+        (Power::Failed(_), Power::Off(_)) => Some("off".to_string()),
+    }
+}

@@ -1,0 +1,68 @@
+//! A stream of bytes cut into frames by kind, the way the page's `step-log` cuts
+//! them. What no kind tells the length of is one byte.
+
+use crate::args::Flight;
+use crate::failure::Failure;
+use crate::progress::Progress;
+use crate::source::{self, Place, Source};
+use crate::tables::kind_of;
+
+/// Frames, one after the other.
+pub struct Stream {
+    source: Source,
+    progress: Progress,
+    frame: Vec<u8>,
+    place: Place,
+}
+
+impl Stream {
+    pub fn open(flight: &Flight) -> Result<Stream, Failure> {
+        let source = source::open(&flight.file, flight.kind)?;
+        let progress = Progress::new(source.length);
+        Ok(Stream {
+            source,
+            progress,
+            frame: Vec::new(),
+            place: Place::Byte(0),
+        })
+    }
+
+    /// Cuts off the next frame; false if there is none.
+    pub fn advance(&mut self) -> Result<bool, Failure> {
+        self.frame.clear();
+        let Some((kind, place)) = self.byte()? else {
+            return Ok(false);
+        };
+        self.place = place;
+        self.frame.push(kind);
+        let total = kind_of(kind).map_or(1, |kind| kind.total());
+        while self.frame.len() < total {
+            match self.byte()? {
+                Some((byte, _)) => self.frame.push(byte),
+                None => break,
+            }
+        }
+        self.progress.advance(self.frame.len());
+        Ok(true)
+    }
+
+    /// The frame that was cut off last.
+    pub fn frame(&self) -> &[u8] {
+        &self.frame
+    }
+
+    /// Where that frame begins.
+    pub fn place(&self) -> Place {
+        self.place
+    }
+
+    /// The file's name, as it was given.
+    pub fn name(&self) -> &str {
+        &self.source.name
+    }
+
+    fn byte(&mut self) -> Result<Option<(u8, Place)>, Failure> {
+        let next = self.source.bytes.next().transpose();
+        next.map_err(|error| Failure::file(&self.source.name, &error))
+    }
+}

@@ -1,0 +1,97 @@
+//! The examples: what is said of them, and their pictures in `docs/`.
+
+mod common;
+
+use common::{is_file, run, scratch};
+
+/// Each with its picture's title.
+const EXAMPLES: [(&str, &str); 5] = [
+    ("dawn", "The night of the mission, as it goes now"),
+    ("orbit", "A day of fifteen orbits"),
+    ("shorted", "Modules with a short"),
+    ("sister-craft-a", "Sister craft A, the tired battery"),
+    ("sister-craft-b", "Sister craft B, the fresh battery"),
+];
+
+#[test]
+fn each_example_is_explained_as_expected() {
+    for (name, _) in EXAMPLES {
+        let ran = run(&["log", "--explain", &format!("examples/{name}.pass")]).status(0);
+        is_file(&format!("host/tool/tests/expected/{name}.txt"), &ran.out);
+    }
+}
+
+#[test]
+fn each_picture_in_the_docs_is_what_is_drawn() {
+    for (name, title) in EXAMPLES {
+        let script = format!("examples/{name}.pass");
+        let ran = run(&["plot", &script, "--title", title, "-o", "-"]).status(0);
+        assert!(ran.out.len() < 150_000, "{name}: {} bytes", ran.out.len());
+        is_file(&format!("docs/{name}.svg"), &ran.out);
+    }
+}
+
+#[test]
+fn the_sister_craft_are_compared_as_expected() {
+    let (a, b) = (
+        "examples/sister-craft-a.pass",
+        "examples/sister-craft-b.pass",
+    );
+    let ran = run(&["compare", a, b]).status(0);
+    is_file("host/tool/tests/expected/sister-craft.txt", &ran.out);
+}
+
+/// The sentence on top of `dawn.pass`, in its log.
+#[test]
+fn at_dawn_the_camera_stays_off() {
+    let ran = run(&["log", "examples/dawn.pass"]).status(0);
+    let lines: Vec<Vec<&str>> = ran
+        .text()
+        .lines()
+        .map(|line| line.split(' ').collect())
+        .collect();
+    let orders = lines.iter().filter(|line| line[1] == "04");
+    let answers: Vec<(&str, &str)> = orders.map(|line| (line[3], line[4])).collect();
+    assert_eq!(
+        answers,
+        [("17", "0"), ("18", "0"), ("17", "9"), ("18", "8")]
+    );
+    let stale = lines
+        .iter()
+        .position(|line| line[4] == "9")
+        .expect("a stale order");
+    assert!(
+        lines[stale..].iter().all(|line| line[7] == "27"),
+        "a mission module is on"
+    );
+}
+
+#[test]
+fn a_picture_is_drawn_of_any_flight() {
+    let flights = [
+        ("empty", "", 0),
+        ("one", "tick\n", 0),
+        ("untimed", "order ground 1 MCS off\n", 0),
+        ("refused", "tick 100\nbattery 9001\n", 2),
+        ("<&>", "battery 9000\ntick 100000\n", 0),
+    ];
+    for (name, script, status) in flights {
+        let file = scratch("flight.pass", script.as_bytes());
+        let ran = run(&["plot", &file, "-o", "-", "--title", name]).status(status);
+        assert!(ran.text().ends_with("</svg>\n"));
+        assert!(
+            !ran.text().contains("NaN") && !ran.text().contains("inf"),
+            "{name}"
+        );
+        assert!(!ran.text().contains("<&>"));
+    }
+    let orders: String = (1..200)
+        .map(|n| format!("order ground {n} MCS on\ntick\n"))
+        .collect();
+    let file = scratch("orders.pass", orders.as_bytes());
+    let ran = run(&["plot", &file, "-o", "-"]).status(0);
+    assert!(ran.text().contains("and 159 more, as dots"));
+    run(&["plot", &file, "-o", "/nowhere/x.svg"])
+        .status(1)
+        .says("/nowhere/x.svg: No such file");
+}

@@ -1,0 +1,47 @@
+//! Help and usage.
+
+mod common;
+
+use common::run;
+
+const COMMANDS: [&str; 8] = [
+    "log", "frames", "show", "plot", "beacon", "key", "read", "compare",
+];
+
+#[test]
+fn every_command_has_help_with_an_example() {
+    let main = run(&["--help"]).status(0);
+    assert!(main.text().contains("Example:\n  ems log"));
+    for command in COMMANDS {
+        assert!(
+            main.text().contains(&format!("\n  {command} ")),
+            "{command}"
+        );
+        let help = run(&[command, "--help"]).status(0);
+        let example = format!("  ems {command} ");
+        assert!(
+            help.text().contains("Example") && help.text().contains(&example),
+            "{command}"
+        );
+    }
+}
+
+#[test]
+fn wrong_usage_is_told_with_status_1() {
+    for args in [
+        &[][..],
+        &["fly"],
+        &["log"],
+        &["log", "-", "--as", "music"],
+        &["frames", "x.pass"],
+    ] {
+        let ran = run(args).status(1);
+        assert!(!ran.err.is_empty() && ran.out.is_empty(), "{args:?}");
+    }
+    let ran = run(&["lag", "-"]).status(1);
+    assert!(
+        ran.err.starts_with("ems: The subcommand 'lag' "),
+        "{}",
+        ran.err
+    );
+}

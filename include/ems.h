@@ -1,0 +1,140 @@
+/* ems.h: the power-board supervisor, as C and C++ call it.
+ *
+ * The library is libflight.a, built by `rt staticlib flight`. Every call is
+ * proved to do exactly what its contract says, for all bytes it is given. It
+ * allocates nothing, keeps nothing between calls, and always returns.
+ *
+ * What the proof takes from you, and cannot check:
+ *   - every pointer is non-null, also where its length is 0;
+ *   - every length is true: that many bytes may be read there (and written,
+ *     where the pointer isn't const);
+ *   - no two buffers of one call overlap, and `count` lies outside of all;
+ *   - one caller at a time for any one buffer.
+ *
+ * What no call catches: an image whose write was interrupted halfway and that
+ * happens to be a state in range, and a bit flip that stays within the ranges.
+ * A caller that keeps the image over a reset guards it (two copies and a
+ * checksum, say).
+ */
+#ifndef EMS_H
+#define EMS_H
+
+#include <stddef.h>
+#include <stdint.h>
+
+#ifdef __cplusplus
+extern "C" {
+#endif
+
+/* The bytes of an image: the whole state of the board, kept by the caller.
+ * Numbers are big-endian.
+ *
+ *   at   bytes  holds
+ *    0     1    the layout's version, EMS_IMAGE_VERSION
+ *    1     1    mode: 0 DEPLOY_WAIT, 1 RECOVERY, 2 SAFE
+ *    2     1    deploy phase: 1 waiting, 2 settling; 0 outside DEPLOY_WAIT
+ *    3     4    seconds waited (0 to 86,399), or left to settle (1 to 900);
+ *               0 outside DEPLOY_WAIT
+ *    7     1    control count, 0 to 29; 0 in DEPLOY_WAIT
+ *    8     2    beacon count, 0 to 299; 0 in DEPLOY_WAIT
+ *   10     1    antennas: 0 folded, 1 deployed
+ *   11     2    tension in millivolts, 5,000 to 9,000; 0 before any reading
+ *   13     2    ascend, 5,000 to 9,000
+ *   15     2    descend, 5,000 to ascend
+ *   17     2    the ground's last serial
+ *   19     2    the payload's last serial
+ *   21     4    module 0, then 4 bytes for each of the modules 1 to 7:
+ *     +0   1      power: 0 on, 1 off, 2 failed
+ *     +1   2      0 when on; tries left (1 to 5) when off; seconds left
+ *                 (0 to 600) when failed
+ *     +3   1      requested: 0 or 1
+ *
+ * Bytes that are not exactly such an image are refused with EMS_BAD_STATE. */
+#define EMS_IMAGE_BYTES 53
+#define EMS_IMAGE_VERSION 1
+
+/* The bytes of a report: 81, kind answered, origin, serial (2), answer, mode,
+ * requested mask, on mask, failed mask, beacon. */
+#define EMS_REPORT_BYTES 11
+
+/* The bytes of the two beacon texts. */
+#define EMS_BEACON_BASIC_BYTES 10
+#define EMS_BEACON_COMPLETE_BYTES 16
+
+/* The longest text that is keyed, and room enough for the units of any text
+ * that is: 22 units for each `0`, less the gap after the last. */
+#define EMS_TEXT_BYTES 64
+#define EMS_UNITS_BYTES 1405
+
+/* What a call answers. The checks run in the order of the numbers 1 to 15 that
+ * the call gives; the first that applies is given. */
+enum ems_answer {
+    EMS_DONE = 0,           /* done by the rules; there is a report */
+    EMS_BAD_STATE = 1,      /* the image is not that of a state in range */
+    EMS_SHORT_ROOM = 2,     /* fewer than EMS_REPORT_BYTES of reply room */
+    EMS_NO_INPUT = 3,       /* no input bytes */
+    EMS_UNKNOWN_KIND = 4,   /* kind not 01 to 05 */
+    EMS_BAD_LENGTH = 5,     /* input length not the kind's total */
+    EMS_BAD_FIELD = 6,      /* a field outside its range, or descend above ascend */
+    EMS_NOT_PERMITTED = 7,  /* the payload asks for what only the ground may */
+    EMS_REPEAT = 8,         /* serial a repeat; there is a report */
+    EMS_STALE = 9,          /* serial stale; there is a report */
+    EMS_NOT_NOW = 10,       /* "on" for one of the mission four outside SAFE;
+                               the serial is used up; there is a report */
+    EMS_TEXT_TOO_LONG = 11, /* text over EMS_TEXT_BYTES */
+    EMS_NOT_KEYABLE = 12,   /* a byte that is not A to Z, 0 to 9 or a space */
+    EMS_BAD_SPACE = 13,     /* a space first, last or doubled */
+    EMS_NO_ROOM = 14,       /* the room is shorter than the result */
+    EMS_NOT_A_KEYING = 15   /* the units are not exactly the keying of a text */
+};
+
+/* The kinds of frames, the modes, and the beacon that a tick makes due, as they
+ * stand in frames and reports. */
+enum ems_kind {
+    EMS_KIND_TICK = 0x01,
+    EMS_KIND_BATTERY = 0x02,
+    EMS_KIND_ANTENNAS = 0x03,
+    EMS_KIND_ORDER = 0x04,
+    EMS_KIND_THRESHOLDS = 0x05,
+    EMS_KIND_REPORT = 0x81
+};
+enum ems_mode { EMS_DEPLOY_WAIT = 0, EMS_RECOVERY = 1, EMS_SAFE = 2 };
+enum ems_due { EMS_DUE_NONE = 0, EMS_DUE_BASIC = 1, EMS_DUE_COMPLETE = 2 };
+
+/* Writes the image of the fresh start. EMS_DONE; or EMS_BAD_STATE with nothing
+ * written, unless `image_len` is EMS_IMAGE_BYTES. */
+uint8_t ems_fresh(uint8_t *image, size_t image_len);
+
+/* Takes one frame. On EMS_DONE, EMS_REPEAT, EMS_STALE and EMS_NOT_NOW the first
+ * EMS_REPORT_BYTES of the room are the report, the bytes past them stay, and
+ * the image is the next state's. On every other answer (1 to 7) image and room
+ * stay as they are. */
+uint8_t ems_step(uint8_t *image, size_t image_len,
+                 const uint8_t *frame, size_t frame_len,
+                 uint8_t *room, size_t room_len);
+
+/* Write the beacon's text of a state, and its length to `*count`. Answers:
+ * EMS_BAD_STATE, then EMS_NO_ROOM, both with `*count` 0 and the text untouched;
+ * else EMS_DONE. Bytes past the text stay. */
+uint8_t ems_beacon_basic(const uint8_t *image, size_t image_len,
+                         uint8_t *text, size_t text_len, size_t *count);
+uint8_t ems_beacon_complete(const uint8_t *image, size_t image_len,
+                            uint8_t *text, size_t text_len, size_t *count);
+
+/* Keys a text: one byte a unit, 1 key down, 0 key up, their number to `*count`.
+ * Answers 11, 12, 13, 14 in this order, with `*count` 0 and the units untouched;
+ * else EMS_DONE. Bytes past the last unit stay. */
+uint8_t ems_key(const uint8_t *text, size_t text_len,
+                uint8_t *units, size_t units_len, size_t *count);
+
+/* Reads units back: the text that they are the keying of, its length to
+ * `*count`. Answers 15, then 14, with `*count` 0 and the text untouched; else
+ * EMS_DONE. No units are the empty text. Bytes past the text stay. */
+uint8_t ems_read(const uint8_t *units, size_t units_len,
+                 uint8_t *text, size_t text_len, size_t *count);
+
+#ifdef __cplusplus
+}
+#endif
+
+#endif /* EMS_H */
