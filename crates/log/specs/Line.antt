@@ -1,12 +1,12 @@
 -- A line of the log.
 -- Assumes nothing.
-use Prim.Native.Nat.{ℕ}
+use Prim.Native.Nat.{ℕ, _+_, _*_}
 use mathlib.Core.List.{List, [], _∷_, _++_}
 use lib.Dec.{leb}
 use lib.ListN.{length, drop}
 use Rattle.choice.specs.Choice.{if_then_else_}
 use Rattle.frames.specs.Frame.{byteAt, wordAt}
-use Rattle.log.specs.Text.{decimal, hex, spaced}
+use Rattle.log.specs.Text.{mostDigits, decimal, hex, spaced, mostNumber, mostHex}
 
 -- each word after a space
 abbrev pub words : List (List ℕ) → List ℕ
@@ -50,9 +50,9 @@ pub record Written : Type 0 where
 abbrev pub written : (count : ℕ) (room : List ℕ) → Written
 written count room = record { count = count; room = room }
 
--- a room of so many bytes has place for every line
+-- a room of so many bytes has place for every line: n, four bytes in hex, five numbers, a newline
 abbrev pub longest : ℕ
-longest = 138
+longest = mostDigits + 4 * mostHex + 5 * mostNumber + 1
 
 -- a line at the front of a room, whose bytes past it stay; a room that is too short stays as it is
 unfoldable pub placed : (text room : List ℕ) → Written

@@ -37,6 +37,13 @@ space = 32
 unfoldable pub spaced : List ℕ → List ℕ
 spaced word = space ∷ word
 
+-- at most so many bytes for a space and a number, and so many for a space and a byte in hex
+abbrev pub mostNumber : ℕ
+mostNumber = 1 + mostDigits
+
+abbrev pub mostHex : ℕ
+mostHex = 3
+
 -- a text of at most so many bytes, stored in a room from a place on: the place after it, and the room then
 pub record Put (text : List ℕ) (most at : ℕ) (room : List ℕ) (next : ℕ) (later : List ℕ) : Type 0 where
   pub after : next ≡ at + length text

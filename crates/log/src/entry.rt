@@ -28,6 +28,7 @@ pub enum Entry {
     NoRoom,
 }
 
+// An entry, and where the log stands after it.
 pub struct Entered {
     pub entry: Entry,
     pub log: Log,

@@ -1,10 +1,10 @@
 // A line of the log: of a frame that has a report, and of one that is refused.
 ghost use mathlib.Core.Path.{_≡_};
-ghost use Prim.Native.Nat.{_+_, _≤_};
+ghost use Prim.Native.Nat.{_+_, _*_, _≤_};
 ghost use lib.ListN.{length};
 ghost use Rattle.frames.specs.Answer.{answerNumber};
 ghost use Rattle.log.specs.Line.{words, headWords, answerWords, maskWords, written, placed, lineOf, refusedLine};
-ghost use Rattle.log.specs.Text.{Put};
+ghost use Rattle.log.specs.Text.{mostNumber, mostHex, Put};
 use crate::text::put_byte;
 use crate::text::put_bytes;
 use crate::text::put_decimal;
@@ -17,8 +17,8 @@ pub const LONGEST: usize = 138;
 
 // Kind, origin and serial.
 fn put_head(room: &mut [u8], at: usize, report: &[u8; 11]) -> usize
-    requires { ⌜ at + 45 ≤ length (now room) ⌝ }
-    ensures { λ r. ⌜ Put (words (headWords (now (report .entry)))) 45 at (now (room .entry)) r (now (room .exit)) ⌝ }
+    requires { ⌜ at + (mostHex + 2 * mostNumber) ≤ length (now room) ⌝ }
+    ensures { λ r. ⌜ Put (words (headWords (now (report .entry)))) (mostHex + 2 * mostNumber) at (now (room .entry)) r (now (room .exit)) ⌝ }
 {
     let mut next = put_hex(room, at, report[1]);
     next = put_byte(room, next, report[2]);
@@ -27,8 +27,8 @@ fn put_head(room: &mut [u8], at: usize, report: &[u8; 11]) -> usize
 
 // Answer and mode.
 fn put_answer(room: &mut [u8], at: usize, report: &[u8; 11]) -> usize
-    requires { ⌜ at + 42 ≤ length (now room) ⌝ }
-    ensures { λ r. ⌜ Put (words (answerWords (now (report .entry)))) 42 at (now (room .entry)) r (now (room .exit)) ⌝ }
+    requires { ⌜ at + 2 * mostNumber ≤ length (now room) ⌝ }
+    ensures { λ r. ⌜ Put (words (answerWords (now (report .entry)))) (2 * mostNumber) at (now (room .entry)) r (now (room .exit)) ⌝ }
 {
     let next = put_byte(room, at, report[5]);
     put_byte(room, next, report[6])
@@ -36,8 +36,8 @@ fn put_answer(room: &mut [u8], at: usize, report: &[u8; 11]) -> usize
 
 // The masks: requested, on, failed.
 fn put_masks(room: &mut [u8], at: usize, report: &[u8; 11]) -> usize
-    requires { ⌜ at + 9 ≤ length (now room) ⌝ }
-    ensures { λ r. ⌜ Put (words (maskWords (now (report .entry)))) 9 at (now (room .entry)) r (now (room .exit)) ⌝ }
+    requires { ⌜ at + 3 * mostHex ≤ length (now room) ⌝ }
+    ensures { λ r. ⌜ Put (words (maskWords (now (report .entry)))) (3 * mostHex) at (now (room .entry)) r (now (room .exit)) ⌝ }
 {
     let mut next = put_hex(room, at, report[7]);
     next = put_hex(room, next, report[8]);

@@ -3,7 +3,7 @@ ghost use mathlib.Core.Path.{_≡_};
 ghost use Prim.Native.Nat.{_+_, _<_, _≤_};
 ghost use lib.ListN.{length};
 ghost use Rattle.choice.specs.Choice.{word};
-ghost use Rattle.log.specs.Text.{mostDigits, decimal, hexDigit, hex, spaced, Put};
+ghost use Rattle.log.specs.Text.{mostDigits, decimal, hexDigit, hex, spaced, mostNumber, mostHex, Put};
 
 // Bytes as they are.
 pub(crate) fn put_bytes(room: &mut [u8], at: usize, text: &[u8]) -> usize
@@ -33,8 +33,8 @@ fn hex_digit(d: u8) -> u8
 
 // A space and a number in decimal.
 fn put_number(room: &mut [u8], at: usize, n: u64) -> usize
-    requires { ⌜ at + (1 + mostDigits) ≤ length (now room) ⌝ }
-    ensures { λ r. ⌜ Put (spaced (decimal n)) (1 + mostDigits) at (now (room .entry)) r (now (room .exit)) ⌝ }
+    requires { ⌜ at + mostNumber ≤ length (now room) ⌝ }
+    ensures { λ r. ⌜ Put (spaced (decimal n)) mostNumber at (now (room .entry)) r (now (room .exit)) ⌝ }
 {
     room[at] = b' ';
     put_decimal(room, at + 1, n)
@@ -42,24 +42,24 @@ fn put_number(room: &mut [u8], at: usize, n: u64) -> usize
 
 // A space and a byte in decimal.
 pub(crate) fn put_byte(room: &mut [u8], at: usize, byte: u8) -> usize
-    requires { ⌜ at + (1 + mostDigits) ≤ length (now room) ⌝ }
-    ensures { λ r. ⌜ Put (spaced (decimal byte)) (1 + mostDigits) at (now (room .entry)) r (now (room .exit)) ⌝ }
+    requires { ⌜ at + mostNumber ≤ length (now room) ⌝ }
+    ensures { λ r. ⌜ Put (spaced (decimal byte)) mostNumber at (now (room .entry)) r (now (room .exit)) ⌝ }
 {
     put_number(room, at, byte as u64)
 }
 
 // A space and a two-byte number, its high byte first, in decimal.
 pub(crate) fn put_word(room: &mut [u8], at: usize, high: u8, low: u8) -> usize
-    requires { ⌜ at + (1 + mostDigits) ≤ length (now room) ⌝ }
-    ensures { λ r. ⌜ Put (spaced (decimal (word high low))) (1 + mostDigits) at (now (room .entry)) r (now (room .exit)) ⌝ }
+    requires { ⌜ at + mostNumber ≤ length (now room) ⌝ }
+    ensures { λ r. ⌜ Put (spaced (decimal (word high low))) mostNumber at (now (room .entry)) r (now (room .exit)) ⌝ }
 {
     put_number(room, at, (high as u64) * 256 + (low as u64))
 }
 
 // A space and a byte as two hex digits.
 pub(crate) fn put_hex(room: &mut [u8], at: usize, byte: u8) -> usize
-    requires { ⌜ at + 3 ≤ length (now room) ⌝ }
-    ensures { λ r. ⌜ Put (spaced (hex byte)) 3 at (now (room .entry)) r (now (room .exit)) ⌝ }
+    requires { ⌜ at + mostHex ≤ length (now room) ⌝ }
+    ensures { λ r. ⌜ Put (spaced (hex byte)) mostHex at (now (room .entry)) r (now (room .exit)) ⌝ }
 {
     room[at] = b' ';
     room[at + 1] = hex_digit(byte / 16);

@@ -12,9 +12,6 @@ Inv-loop from to bytes₀ room₀ stream₀ turns₀ bytes room stream turns = (
 abbrev μ-loop : tie.MeasureT-loop
 μ-loop from to bytes₀ room₀ stream₀ turns₀ bytes room stream turns = turns
 
-slice-aggregate-write-all : tie.Need-slice-aggregate-write-all Inv-loop μ-loop
-slice-aggregate-write-all c = search needs
-
 write-all-requires : tie.Need-write-all-requires Inv-loop μ-loop
 write-all-requires c κs = search needs
 
@@ -69,7 +66,6 @@ follow-spec =
     (tie.spec
     Inv-loop
     μ-loop
-    slice-aggregate-write-all
     write-all-requires
     slice-aggregate-fail
     fail-requires
