@@ -1,0 +1,33 @@
+-- `log::cut::cut` meets its contract: the tests are those of the definition.
+use borrow.Author.Tests.{eq-eqb, ne-eqb, lt-ltb, le-ltb}
+use Rattle.log.specs.Cut.{cutOf}
+use borrow.Author.Needs.{needs}
+use Rattle.log.proofs.cut.cut.Statement.{statement}
+use Rattle.log.proofs.cut.cut.Tie as tie
+
+returns : tie.Need-returns
+unfolding cutOf
+returns c = simp (eq-eqb _ _ (c .if1 .taken))
+
+shared-slice-read-total : tie.Need-shared-slice-read-total
+shared-slice-read-total c = search needs
+
+total-requires : tie.Need-total-requires
+total-requires c κs = search needs
+
+returns-2 : tie.Need-returns-2
+unfolding cutOf
+returns-2 c = simp (ne-eqb _ _ (c .before .before .before .if1 .left), eq-eqb _ _ (rw (c .before .total .ensures) at (c .if2 .taken)))
+
+returns-3 : tie.Need-returns-3
+unfolding cutOf
+returns-3 c = simp (ne-eqb _ _ (c .before .before .before .before .if1 .left), ne-eqb _ _ (rw (c .before .before .total .ensures) at (c .before .if2 .left)), lt-ltb _ _ (rw (c .before .before .total .ensures) at (c .if3 .taken)))
+
+returns-4 : tie.Need-returns-4
+unfolding cutOf
+returns-4 c = simp (ne-eqb _ _ (c .before .before .before .before .if1 .left), c .before .before .total .ensures, ne-eqb _ _ (rw (c .before .before .total .ensures) at (c .before .if2 .left)), le-ltb _ _ (rw (c .before .before .total .ensures) at (c .if3 .left)))
+
+pub cut-spec : {M : Type 1} → statement M
+cut-spec =
+    tie.close
+    (tie.spec returns shared-slice-read-total total-requires returns-2 returns-3 returns-4)

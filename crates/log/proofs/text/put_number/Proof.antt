@@ -1,0 +1,26 @@
+-- `log::text::put_number` meets its contract: a space, then what put_decimal stores.
+use Rattle.log.proofs.TextLaws.{put-length, put-spaced}
+use native.Mathlib.Omega.{arith}
+use lib.ListN.{length-set}
+use borrow.Author.Needs.{needs}
+use Rattle.log.proofs.text.put_number.Statement.{statement}
+use Rattle.log.proofs.text.put_number.Tie as tie
+
+slice-write-room : tie.Need-slice-write-room
+slice-write-room c = search needs
+
+add-put-decimal : tie.Need-add-put-decimal
+add-put-decimal c = search needs
+
+put-decimal-requires : tie.Need-put-decimal-requires
+put-decimal-requires c κs = simp length-set (omega arith)
+
+same-length : tie.Need-same-length
+same-length c = put-length {room = c .before .before .before .before .before .args .room .now} (put-spaced (c .before .before .put-decimal .ensures))
+
+returns : tie.Need-returns
+returns c = put-spaced (c .before .before .put-decimal .ensures)
+
+pub put-number-spec : {M : Type 1} → statement M
+put-number-spec =
+    tie.close (tie.spec slice-write-room add-put-decimal put-decimal-requires same-length returns)

@@ -1,0 +1,4 @@
+pub mod Cut
+pub mod Text
+pub mod Line
+pub mod Entry

@@ -1,0 +1,51 @@
+-- Numbers as text, in ASCII, and text stored in a room.
+-- Assumes nothing.
+use Prim.Native.Nat.{ℕ, zero, suc, _+_, _/_, _%_, _≤_}
+use mathlib.Core.Path.{_≡_}
+use mathlib.Core.List.{List, [], _∷_}
+use lib.Dec.{ltb}
+use lib.ListN.{length}
+use lib.Seq.{sets}
+use Rattle.io.specs.Digits.{digits}
+use Rattle.choice.specs.Choice.{if_then_else_}
+
+-- the decimal digits of the largest number of 64 bits
+abbrev pub mostDigits : ℕ
+mostDigits = 20
+
+-- how many decimal digits a number has: one, and as many more as its tenth has, if it isn't below 10
+unfoldable pub digitCountUpTo : (more : ℕ) → ℕ → ℕ
+digitCountUpTo zero n = 1
+digitCountUpTo (suc more) n = if ltb n 10 then 1 else suc (digitCountUpTo more (n / 10))
+
+-- a number of 64 bits in decimal, without leading zeros
+unfoldable pub decimal : ℕ → List ℕ
+decimal n = digits 10 (digitCountUpTo 19 n) n
+
+-- a digit below 16: `0` to `9`, then `A` to `F`
+abbrev pub hexDigit : ℕ → ℕ
+hexDigit d = if ltb d 10 then 48 + d else 55 + d
+
+-- a byte as two upper-case hex digits
+unfoldable pub hex : ℕ → List ℕ
+hex byte = hexDigit (byte / 16) ∷ hexDigit (byte % 16) ∷ []
+
+abbrev pub space : ℕ
+space = 32
+
+-- a space before a word
+unfoldable pub spaced : List ℕ → List ℕ
+spaced word = space ∷ word
+
+-- at most so many bytes for a space and a number, and so many for a space and a byte in hex
+abbrev pub mostNumber : ℕ
+mostNumber = 1 + mostDigits
+
+abbrev pub mostHex : ℕ
+mostHex = 3
+
+-- a text of at most so many bytes, stored in a room from a place on: the place after it, and the room then
+pub record Put (text : List ℕ) (most at : ℕ) (room : List ℕ) (next : ℕ) (later : List ℕ) : Type 0 where
+  pub after : next ≡ at + length text
+  pub near : next ≤ at + most
+  pub stored : later ≡ sets room at text

@@ -1,0 +1,163 @@
+// A stream read piece by piece and logged: its lines are gathered in a room and written whenever that is full or the piece is done.
+// No contract can say what is read or written; what a line is, and when the log ends, is entry's.
+ghost use mathlib.Core.Path.{_≡_};
+ghost use Prim.Native.Nat.{_-_, _≤_};
+ghost use lib.ListN.{length};
+use crate::entry::Entry;
+use crate::entry::Log;
+use crate::entry::enter;
+use crate::entry::fresh;
+
+// Where a piece leaves the log: the entry that was no line, the bytes used, and the bytes written.
+struct Filled {
+    entry: Entry,
+    log: Log,
+    used: usize,
+    written: usize,
+}
+
+// Where a stream stands: the log, how many bytes are read and not yet used, and whether the stream and the log have ended.
+struct Stream {
+    log: Log,
+    unused: usize,
+    ended: bool,
+    over: bool,
+}
+
+impl Stream {
+    // The stream, once its log is over.
+    fn closed(mut self) -> Stream
+        ensures { λ r. ⌜ r .unused ≡ self .unused ⌝ }
+    {
+        self.over = true;
+        self
+    }
+}
+
+// Enters frame after frame, as long as there is a whole one and room for its line.
+fn fill(mut log: Log, bytes: &[u8], ended: bool, room: &mut [u8]) -> Filled
+    ensures { λ r. ⌜ (r .used ≤ length (now (bytes .entry))) × (r .written ≤ length (now (room .entry))) ⌝ }
+{
+    let mut used = 0;
+    let mut written = 0;
+    loop {
+        let entered = enter(log, &bytes[used..], ended, &mut room[written..]);
+        let entry = entered.entry;
+        let next = entered.log;
+        log = next;
+        match entry {
+            Entry::Line { frame, line } => {
+                used += frame;
+                written += line;
+            }
+            Entry::Last(line) => {
+                return Filled {
+                    entry,
+                    log,
+                    used,
+                    written: written + line,
+                };
+            }
+            _ => {
+                return Filled {
+                    entry,
+                    log,
+                    used,
+                    written,
+                };
+            }
+        }
+    }
+}
+
+// Moves the bytes from a place to another to the front, and gives how many they are.
+fn keep(bytes: &mut [u8], from: usize, to: usize) -> usize
+    requires { ⌜ (from ≤ to) × (to ≤ length (now bytes)) ⌝ }
+    ensures { λ r. ⌜ r ≡ to - from ⌝ }
+{
+    let mut i = from;
+    let mut kept = 0;
+    while i < to {
+        bytes[kept] = bytes[i];
+        kept += 1;
+        i += 1;
+    }
+    kept
+}
+
+// The stream after a read into what is left of its bytes.
+fn read(mut stream: Stream, from: i32, bytes: &mut [u8]) -> Stream
+    requires { ⌜ stream .unused ≤ length (now bytes) ⌝ }
+    ensures { λ r. ⌜ r .unused ≤ length (now (bytes .entry)) ⌝ }
+{
+    let unused = stream.unused;
+    let part = &mut bytes[unused..];
+    let got = libc::read(from, part);
+    if got < 0 {
+        os::fail(b"read");
+        return stream.closed();
+    }
+    stream.unused = unused + io::count(got, part);
+    stream.ended = got == 0;
+    stream
+}
+
+// One turn: the frames at hand are entered and their lines written; where they are used up, more is read.
+fn turn(stream: Stream, from: i32, to: i32, bytes: &mut [u8], room: &mut [u8]) -> Stream
+    requires { ⌜ stream .unused ≤ length (now bytes) ⌝ }
+    ensures { λ r. ⌜ r .unused ≤ length (now (bytes .entry)) ⌝ }
+{
+    let unused = stream.unused;
+    let ended = stream.ended;
+    let filled = fill(stream.log, &bytes[0..unused], ended, room);
+    let entry = filled.entry;
+    let log = filled.log;
+    let written = filled.written;
+    let is_written = io::write_all(to, &room[0..written]);
+    let next = Stream {
+        log,
+        unused: keep(bytes, filled.used, unused),
+        ended,
+        over: false,
+    };
+    if !is_written {
+        os::fail(b"write");
+        return next.closed();
+    }
+    match entry {
+        Entry::NoRoom => next,
+        Entry::More => {
+            if ended {
+                next.closed()
+            } else {
+                read(next, from, bytes)
+            }
+        }
+        _ => next.closed(),
+    }
+}
+
+// Logs the stream that is read from one descriptor to another, until it ends or a frame is refused.
+pub fn follow(from: i32, to: i32) {
+    let header = b"n kind origin serial answer mode requested on failed beacon\n";
+    if !io::write_all(to, header) {
+        os::fail(b"write");
+        return;
+    }
+    let mut bytes = io::large_buffer();
+    let mut room = io::large_buffer();
+    let mut stream = Stream {
+        log: fresh(),
+        unused: 0,
+        ended: false,
+        over: false,
+    };
+    let mut turns = u64::MAX;
+    while 0 < turns {
+        if stream.over {
+            return;
+        }
+        stream = turn(stream, from, to, &mut bytes, &mut room);
+        turns -= 1;
+    }
+}

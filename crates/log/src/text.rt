@@ -1,0 +1,68 @@
+// The parts of a line, each stored in a room from a place on. Each call gives the place after what it stored.
+ghost use mathlib.Core.Path.{_≡_};
+ghost use Prim.Native.Nat.{_+_, _<_, _≤_};
+ghost use lib.ListN.{length};
+ghost use Rattle.choice.specs.Choice.{word};
+ghost use Rattle.log.specs.Text.{mostDigits, decimal, hexDigit, hex, spaced, mostNumber, mostHex, Put};
+
+// Bytes as they are.
+pub(crate) fn put_bytes(room: &mut [u8], at: usize, text: &[u8]) -> usize
+    requires { ⌜ at + length (now text) ≤ length (now room) ⌝ }
+    ensures { λ r. ⌜ Put (now (text .entry)) (length (now (text .entry))) at (now (room .entry)) r (now (room .exit)) ⌝ }
+{
+    at + bytes::copy(text, &mut room[at..])
+}
+
+// A number in decimal.
+pub(crate) fn put_decimal(room: &mut [u8], at: usize, n: u64) -> usize
+    requires { ⌜ at + mostDigits ≤ length (now room) ⌝ }
+    ensures { λ r. ⌜ Put (decimal n) mostDigits at (now (room .entry)) r (now (room .exit)) ⌝ }
+{
+    let mut digits = [0u8; 20];
+    let k = io::decimal(n, &mut digits);
+    put_bytes(room, at, &digits[0..k])
+}
+
+// The hex digit of a number below 16, in upper case.
+fn hex_digit(d: u8) -> u8
+    requires { ⌜ d < 16 ⌝ }
+    ensures { λ r. ⌜ r ≡ hexDigit d ⌝ }
+{
+    if d < 10 { b'0' + d } else { b'A' + (d - 10) }
+}
+
+// A space and a number in decimal.
+fn put_number(room: &mut [u8], at: usize, n: u64) -> usize
+    requires { ⌜ at + mostNumber ≤ length (now room) ⌝ }
+    ensures { λ r. ⌜ Put (spaced (decimal n)) mostNumber at (now (room .entry)) r (now (room .exit)) ⌝ }
+{
+    room[at] = b' ';
+    put_decimal(room, at + 1, n)
+}
+
+// A space and a byte in decimal.
+pub(crate) fn put_byte(room: &mut [u8], at: usize, byte: u8) -> usize
+    requires { ⌜ at + mostNumber ≤ length (now room) ⌝ }
+    ensures { λ r. ⌜ Put (spaced (decimal byte)) mostNumber at (now (room .entry)) r (now (room .exit)) ⌝ }
+{
+    put_number(room, at, byte as u64)
+}
+
+// A space and a two-byte number, its high byte first, in decimal.
+pub(crate) fn put_word(room: &mut [u8], at: usize, high: u8, low: u8) -> usize
+    requires { ⌜ at + mostNumber ≤ length (now room) ⌝ }
+    ensures { λ r. ⌜ Put (spaced (decimal (word high low))) mostNumber at (now (room .entry)) r (now (room .exit)) ⌝ }
+{
+    put_number(room, at, (high as u64) * 256 + (low as u64))
+}
+
+// A space and a byte as two hex digits.
+pub(crate) fn put_hex(room: &mut [u8], at: usize, byte: u8) -> usize
+    requires { ⌜ at + mostHex ≤ length (now room) ⌝ }
+    ensures { λ r. ⌜ Put (spaced (hex byte)) mostHex at (now (room .entry)) r (now (room .exit)) ⌝ }
+{
+    room[at] = b' ';
+    room[at + 1] = hex_digit(byte / 16);
+    room[at + 2] = hex_digit(byte % 16);
+    at + 3
+}

@@ -1,0 +1,54 @@
+-- `numbers::ticks_to_recovery` is safe and ends. The measure is the ticks left.
+use Prim.Native.Nat.{_-_, _≤_}
+use borrow.Author.Needs.{needs}
+use Rattle.numbers.proofs.ticks_to_recovery.Statement.{statement}
+use Rattle.numbers.proofs.ticks_to_recovery.Tie as tie
+
+abbrev Inv-loop : tie.InvT-loop
+Inv-loop state₀ tick ticks₀ state ticks = ticks ≤ 100000
+
+abbrev μ-loop : tie.MeasureT-loop
+μ-loop state₀ tick ticks₀ state ticks = 100000 - ticks
+
+loop-holds : tie.Need-loop-holds Inv-loop μ-loop
+loop-holds c = search needs
+
+slice-aggregate-after : tie.Need-slice-aggregate-after Inv-loop μ-loop
+slice-aggregate-after c = search needs
+
+after-requires : tie.Need-after-requires Inv-loop μ-loop
+after-requires c κs = search needs
+
+add-ticks : tie.Need-add-ticks Inv-loop μ-loop
+add-ticks c = search needs
+
+mode-of-requires : tie.Need-mode-of-requires Inv-loop μ-loop
+mode-of-requires c κs = search needs
+
+returns : tie.Need-returns Inv-loop μ-loop
+returns c = search needs
+
+loop-less : tie.Need-loop-less Inv-loop μ-loop
+loop-less c = search needs
+
+loop-again : tie.Need-loop-again Inv-loop μ-loop
+loop-again c = search needs
+
+returns-2 : tie.Need-returns-2 Inv-loop μ-loop
+returns-2 c = search needs
+
+pub ticks-to-recovery-spec : {M : Type 1} → statement M
+ticks-to-recovery-spec =
+    tie.close
+    (tie.spec
+    Inv-loop
+    μ-loop
+    loop-holds
+    slice-aggregate-after
+    after-requires
+    add-ticks
+    mode-of-requires
+    returns
+    loop-less
+    loop-again
+    returns-2)
