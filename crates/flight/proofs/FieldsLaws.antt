@@ -2,8 +2,8 @@
 -- Assumes nothing.
 use Prim.Native.Nat.{ℕ, _+_, _*_, _/_, _%_}
 use native.Mathlib.Nat.{div-add-mod'}
-use mathlib.Core.Path.{_≡_, refl, sym, subst}
-use mathlib.Core.Bool.{Bool, true, false, _&&_, false≢true}
+use mathlib.Core.Path.{_≡_, refl}
+use mathlib.Core.Bool.{Bool, true, false, _&&_}
 use mathlib.Core.List.{List, [], _∷_}
 use lib.Dec.{T, eqb, eqb→eq, eqb-refl}
 use Rattle.choice.proofs.ChoiceLaws.{and-left, and-right, and-both, holds}
@@ -31,12 +31,9 @@ unfolding alike
 alike-refl [] = tt
 alike-refl (x ∷ xs) = and-both (eqb x x) (alike xs xs) (eqb-refl x) (alike-refl xs)
 
--- a test that passes just where two lists are equal
-pub alike-test : (xs ys : List ℕ) (test : Bool) → (test ≡ true → xs ≡ ys) → (xs ≡ ys → test ≡ true) → alike xs ys ≡ test
-alike-test xs ys test p q = by-tests (alike xs ys) refl test p q
+pub alike-not : (xs ys : List ℕ) → (xs ≡ ys → ⊥) → alike xs ys ≡ false
+alike-not xs ys never = by-test (alike xs ys) refl
   where
-    by-tests : (a : Bool) → alike xs ys ≡ a → (b : Bool) → (b ≡ true → xs ≡ ys) → (xs ≡ ys → b ≡ true) → a ≡ b
-    by-tests true e true p q = refl
-    by-tests false e false p q = refl
-    by-tests true e false p q = sym (q (alike-eq xs ys (holds (alike xs ys) e)))
-    by-tests false e true p q = absurd (subst T e (subst (λ (v : List ℕ). T (alike xs v)) (p refl) (alike-refl xs)))
+    by-test : (t : Bool) → alike xs ys ≡ t → t ≡ false
+    by-test true e = absurd (never (alike-eq xs ys (holds (alike xs ys) e)))
+    by-test false e = refl

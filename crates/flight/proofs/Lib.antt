@@ -1,5 +1,6 @@
 pub mod FieldsLaws
 pub mod ImageLaws
+pub mod ComparedLaws
 pub mod LoadSave
 pub mod CallsLaws
 pub mod Images

@@ -3,7 +3,7 @@
 use Prim.Native.Nat.{ℕ}
 use native.Mathlib.Omega.{arith}
 use mathlib.Core.Path.{_≡_, refl, sym, ap, _∙_}
-use mathlib.Core.Bool.{Bool, true, false, not, false≢true}
+use mathlib.Core.Bool.{Bool, true, false, not}
 use mathlib.Core.List.{List}
 use mathlib.Core.Option.{Option, none, some}
 use borrow.Author.Tests.{not-true, not-false}
@@ -15,7 +15,7 @@ use Rattle.supervisor.specs.declared.state.State.{State}
 use Rattle.flight.specs.Fields.{alike}
 use Rattle.flight.specs.Image.{imageBytes, saved, decoded, loaded, found}
 use Rattle.flight.specs.declared.image.Loaded.{Loaded}
-use Rattle.flight.proofs.FieldsLaws.{alike-eq, alike-refl, alike-test}
+use Rattle.flight.proofs.FieldsLaws.{alike-eq, alike-refl, alike-not}
 use Rattle.flight.proofs.ImageLaws.{length-saved, length-in, decoded-saved}
 
 -- load (save s) = s
@@ -34,21 +34,18 @@ save-load bytes s e = by-test (alike (saved (decoded bytes)) bytes) refl e
         ap saved (sym same) ∙ alike-eq (saved (decoded bytes)) bytes (holds (alike (saved (decoded bytes)) bytes) q)
     by-test false q z = let never : _≡_ {A = ℕ} 0 1 = cc in absurd (omega arith)
 
--- the code's test: what the fields say is saved again, and compared
+-- what the code finds: the state that the fields say, and whether its save is this image
 module _ (bytes : List ℕ) where
-  pub found-compared : (same : Bool) (s : State) → s ≡ decoded bytes → (same ≡ true → saved s ≡ bytes) → (saved s ≡ bytes → same ≡ true)
-      → found (record { ok = same; state = s }) ≡ loaded bytes
+  pub found-compared : (same : Bool) (s : State) → s ≡ decoded bytes → same ≡ alike (saved s) bytes → found (record { ok = same; state = s }) ≡ loaded bytes
   unfolding loaded
-  found-compared same s e p q =
-      let t : alike (saved (decoded bytes)) bytes ≡ same = alike-test (saved (decoded bytes)) bytes same (λ z. rw (← e) (p z)) (λ z. q (rw e z)) in
-      simp (t, e)
+  found-compared same s e t = rw (t, e)
 
   -- bytes of another length have no state
   pub found-none : (length bytes ≡ imageBytes → ⊥) → none ≡ loaded bytes
   unfolding loaded decoded
   found-none never =
-      let t : alike (saved (decoded bytes)) bytes ≡ false = alike-test (saved (decoded bytes)) bytes false (λ z. absurd (false≢true z)) (λ z. absurd (never (ap length (sym z) ∙ length-saved (decoded bytes) (length-in bytes)))) in
-      simp t
+      let length-of = length-saved (decoded bytes) (length-in bytes) in
+      simp (alike-not (saved (decoded bytes)) bytes (λ z. never (ap length (sym z) ∙ length-of)))
 
 -- an image has 53 bytes
 pub loaded-length : (bytes : List ℕ) (s : State) → loaded bytes ≡ some s → length bytes ≡ imageBytes

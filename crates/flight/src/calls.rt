@@ -83,30 +83,21 @@ struct Reply {
     count: usize,
 }
 
+fn answer(number: u8, count: usize) -> Reply
+    ensures { λ r. ⌜ r ≡ record { number = number; count = count } ⌝ }
+{
+    Reply { number, count }
+}
+
 fn key_reply(keyed: Keyed) -> Reply
     ensures { λ r. ⌜ (r .number ≡ keyReply keyed .number) × (r .count ≡ keyReply keyed .count) ⌝ }
 {
     match keyed {
-        Keyed::Done(n) => Reply {
-            number: 0,
-            count: n,
-        },
-        Keyed::TooLong => Reply {
-            number: 11,
-            count: 0,
-        },
-        Keyed::OutsideAlphabet => Reply {
-            number: 12,
-            count: 0,
-        },
-        Keyed::BadSpacing => Reply {
-            number: 13,
-            count: 0,
-        },
-        Keyed::NoRoom => Reply {
-            number: 14,
-            count: 0,
-        },
+        Keyed::Done(n) => answer(0, n),
+        Keyed::TooLong => answer(11, 0),
+        Keyed::OutsideAlphabet => answer(12, 0),
+        Keyed::BadSpacing => answer(13, 0),
+        Keyed::NoRoom => answer(14, 0),
     }
 }
 
@@ -114,18 +105,9 @@ fn read_reply(heard: Heard) -> Reply
     ensures { λ r. ⌜ (r .number ≡ readReply heard .number) × (r .count ≡ readReply heard .count) ⌝ }
 {
     match heard {
-        Heard::Text(n) => Reply {
-            number: 0,
-            count: n,
-        },
-        Heard::NotAKeying => Reply {
-            number: 15,
-            count: 0,
-        },
-        Heard::NoRoom => Reply {
-            number: 14,
-            count: 0,
-        },
+        Heard::Text(n) => answer(0, n),
+        Heard::NotAKeying => answer(15, 0),
+        Heard::NoRoom => answer(14, 0),
     }
 }
 
