@@ -3,8 +3,8 @@ use mathlib.Core.Path.{_≡_}
 use Prim.Native.Nat.{_+_, _-_, _≤_}
 use lib.ListN.{length}
 use borrow.Author.Needs.{needs}
-use Rattle.log.proofs.follow.keep.Statement.{statement}
-use Rattle.log.proofs.follow.keep.Tie as tie
+use Rattle.follow.proofs.keep.Statement.{statement}
+use Rattle.follow.proofs.keep.Tie as tie
 
 abbrev Inv-loop : tie.InvT-loop
 Inv-loop bytes₀ from to i₀ kept₀ bytes i kept = (from + kept ≡ i) × (i ≤ to) × (length bytes ≡ length bytes₀)

@@ -3,8 +3,8 @@ use mathlib.Core.Path.{_≡_}
 use Prim.Native.Nat.{_≤_}
 use lib.ListN.{length}
 use borrow.Author.Needs.{needs}
-use Rattle.log.proofs.follow.follow.Statement.{statement}
-use Rattle.log.proofs.follow.follow.Tie as tie
+use Rattle.follow.proofs.follow.Statement.{statement}
+use Rattle.follow.proofs.follow.Tie as tie
 
 abbrev Inv-loop : tie.InvT-loop
 Inv-loop from to bytes₀ room₀ stream₀ turns₀ bytes room stream turns = (stream .unused ≤ 65536) × (length bytes ≡ 65536) × (length room ≡ 65536)

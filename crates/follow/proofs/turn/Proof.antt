@@ -2,8 +2,8 @@
 use mathlib.Core.Path.{_≡_}
 use native.Mathlib.Omega.{arith}
 use borrow.Author.Needs.{needs}
-use Rattle.log.proofs.follow.turn.Statement.{statement}
-use Rattle.log.proofs.follow.turn.Tie as tie
+use Rattle.follow.proofs.turn.Statement.{statement}
+use Rattle.follow.proofs.turn.Tie as tie
 
 sub-fill : tie.Need-sub-fill
 sub-fill c = search needs

@@ -3,10 +3,10 @@
 ghost use mathlib.Core.Path.{_≡_};
 ghost use Prim.Native.Nat.{_-_, _≤_};
 ghost use lib.ListN.{length};
-use crate::entry::Entry;
-use crate::entry::Log;
-use crate::entry::enter;
-use crate::entry::fresh;
+use log::entry::Entry;
+use log::entry::Log;
+use log::entry::enter;
+use log::entry::fresh;
 
 // Where a piece leaves the log: the entry that was no line, the bytes used, and the bytes written.
 struct Filled {

@@ -3,10 +3,10 @@ use mathlib.Core.Path.{_≡_}
 use Prim.Native.Nat.{_-_, _≤_}
 use native.Mathlib.Omega.{arith}
 use lib.ListN.{length}
 use Rattle.log.proofs.EntryLaws.{line-within, last-within}
 use borrow.Author.Needs.{needs}
-use Rattle.log.proofs.follow.fill.Statement.{statement}
-use Rattle.log.proofs.follow.fill.Tie as tie
+use Rattle.follow.proofs.fill.Statement.{statement}
+use Rattle.follow.proofs.fill.Tie as tie
 
 abbrev Inv-loop : tie.InvT-loop
 Inv-loop log₀ bytes ended room₀ used₀ written₀ log room used written = (used ≤ length bytes) × (written ≤ length room) × (length room ≡ length room₀)
