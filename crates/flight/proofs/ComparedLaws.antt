@@ -1,7 +1,8 @@
 -- Laws of comparing a state with an image number by number: it comes to comparing all their bytes.
 -- Assumes nothing.
-use Prim.Native.Nat.{ℕ, zero, suc, _+_, _*_, _-_, _/_, _%_, _<_, _≤_}
+use Prim.Native.Nat.{ℕ, zero, suc, _+_, _*_, _/_, _%_, _<_, _≤_}
 use native.Mathlib.Omega.{arith}
+use native.Mathlib.Numerals.{add-one}
 use mathlib.Core.Path.{_≡_, refl, sym, ap, _∙_}
 use mathlib.Core.Bool.{Bool, true, false, _&&_, and-assoc, and-true}
 use mathlib.Core.List.{List, [], _∷_, _++_}
@@ -14,7 +15,8 @@ use Rattle.supervisor.specs.State.{modeNumber}
 use Rattle.frames.specs.Frame.{byteAt, wordAt}
 use Rattle.supervisor.specs.declared.state.State.{State}
 use Rattle.flight.specs.Fields.{flag, alike}
-use Rattle.flight.specs.Image.{layoutVersion, imageBytes, modulesPlace, phaseNumber, phaseSeconds, powerNumber, powerLeft, moduleBytes, modulesBytes, headBytes, saved}
+use Rattle.flight.specs.Image.{layoutVersion, imageBytes, modulesPlace, phaseNumber, phaseSeconds, powerNumber, powerLeft, moduleBytes, modulesBytes, headBytes, saved, moduleAt, blank, modulesIn}
+use Rattle.flight.proofs.ImageLaws.{length-in, module-in}
 
 -- two bytes of a number compared are the number compared
 word-pair : (n high low : ℕ) → low < 256 → (eqb (n / 256) high && eqb (n % 256) low) ≡ eqb n (high * 256 + low)
@@ -55,23 +57,29 @@ alike-part front rest bytes k n e h =
     let fits : n ≤ length (drop k bytes) = simp length-drop (omega arith) in
     ap (alike (front ++ rest)) whole ∙ alike-append front (take n (drop k bytes)) rest (drop (k + n) bytes) (e ∙ sym (length-take-le n (drop k bytes) fits))
 
--- the modules from i - 1 on are compared: one, and those from i on
-pub modules-alike : (ms : List Module) (i : ℕ) (d : Module) (bytes : List ℕ) → 0 < i → i ≤ length ms → modulesPlace + 4 * i ≤ length bytes
-    → (alike (moduleBytes (getD ms (i - 1) d)) (take 4 (drop (modulesPlace + 4 * (i - 1)) bytes)) && alike (modulesBytes (drop i ms)) (drop (modulesPlace + 4 * i) bytes))
-    ≡ alike (modulesBytes (drop (i - 1) ms)) (drop (modulesPlace + 4 * (i - 1)) bytes)
+-- one module more is compared
+pub modules-turn : (bytes : List ℕ) (i : ℕ) (ok test whole : Bool) → i < 8 → length bytes ≡ imageBytes
+    → test ≡ alike (moduleBytes (moduleAt (modulesPlace + 4 * i) bytes)) (take 4 (drop (modulesPlace + 4 * i) bytes))
+    → (ok && alike (modulesBytes (drop i (modulesIn bytes))) (drop (modulesPlace + 4 * i) bytes)) ≡ whole
+    → (ok && test && alike (modulesBytes (drop (i + 1) (modulesIn bytes))) (drop (modulesPlace + 4 * (i + 1)) bytes)) ≡ whole
 unfolding modulesBytes
-modules-alike ms i d bytes p q h =
-    let m = getD ms (i - 1) d in
-    let next : suc (i - 1) ≡ i = omega arith in
-    let place : modulesPlace + 4 * (i - 1) + 4 ≡ modulesPlace + 4 * i = omega arith in
-    let rest : drop (i - 1) ms ≡ m ∷ drop i ms = drop-cons ms (i - 1) d (omega arith) ∙ ap (λ n. m ∷ drop n ms) next in
-    rw (rest, ← place) (sym (alike-part (moduleBytes m) (modulesBytes (drop i ms)) bytes (modulesPlace + 4 * (i - 1)) 4 refl (omega arith)))
+modules-turn bytes i ok test whole low fits t w =
+    let at = modulesPlace + 4 * i in
+    let m = moduleAt at bytes in
+    let eight = length-in bytes in
+    let place : at + 4 ≡ modulesPlace + 4 * (i + 1) = omega arith in
+    let rest : drop i (modulesIn bytes) ≡ m ∷ drop (i + 1) (modulesIn bytes) = drop-cons (modulesIn bytes) i blank (omega arith) ∙ ap (λ x. x ∷ drop (suc i) (modulesIn bytes)) (module-in bytes i low) ∙ ap (λ n. m ∷ drop n (modulesIn bytes)) (sym (add-one i)) in
+    let left = modulesBytes (drop (i + 1) (modulesIn bytes)) in
+    let step : alike (modulesBytes (drop i (modulesIn bytes))) (drop at bytes) ≡ (test && alike left (drop (modulesPlace + 4 * (i + 1)) bytes)) = rw (rest, t, ← place) (alike-part (moduleBytes m) left bytes at 4 refl (omega arith)) in
+    and-assoc ok test (alike left (drop (modulesPlace + 4 * (i + 1)) bytes)) ∙ ap (λ r. ok && r) (sym step) ∙ w
 
 -- past the last module both end
-pub modules-end : (ms : List Module) (bytes : List ℕ) → length ms ≡ 8 → length bytes ≡ imageBytes
-    → true ≡ alike (modulesBytes (drop 8 ms)) (drop (modulesPlace + 4 * 8) bytes)
+pub modules-end : (bytes : List ℕ) (ok whole : Bool) → length bytes ≡ imageBytes
+    → (ok && alike (modulesBytes (drop 8 (modulesIn bytes))) (drop (modulesPlace + 4 * 8) bytes)) ≡ whole → ok ≡ whole
 unfolding modulesBytes alike
-modules-end ms bytes eight fits = rw (drop-of-length-le ms {i = 8} (omega arith), drop-of-length-le bytes {i = 53} (omega arith))
+modules-end bytes ok whole fits w =
+    let eight = length-in bytes in
+    sym (and-true ok) ∙ (rw (drop-of-length-le (modulesIn bytes) {i = 8} (omega arith), drop-of-length-le bytes {i = 53} (omega arith)) at w)
 
 -- the head, then the modules, are the whole image
 pub saved-alike : (s : State) (bytes : List ℕ) {front rest : Bool} → length bytes ≡ imageBytes

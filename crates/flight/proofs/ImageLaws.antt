@@ -39,9 +39,14 @@ pub length-saved : (s : State) → length (s .modules) ≡ 8 → length (saved s
 unfolding saved headBytes
 length-saved s eight = omega (arith, length-append (headBytes s) (modulesBytes (s .modules)), length-modules (s .modules))
 
-pub length-in : (bytes : List ℕ) → length (modulesIn bytes) ≡ 8
-unfolding modulesIn
-length-in bytes = length-each (λ i m. moduleAt (modulesPlace + 4 * i) bytes) (replicate 8 blank)
+module _ (bytes : List ℕ) where
+  pub length-in : length (modulesIn bytes) ≡ 8
+  unfolding modulesIn
+  length-in = length-each (λ i m. moduleAt (modulesPlace + 4 * i) bytes) (replicate 8 blank)
+
+  pub module-in : (i : ℕ) → i < 8 → getD (modulesIn bytes) i blank ≡ moduleAt (modulesPlace + 4 * i) bytes
+  unfolding modulesIn
+  module-in i low = at-each (λ i m. moduleAt (modulesPlace + 4 * i) bytes) (replicate 8 blank) i blank low
 
 -- storing, part by part
 
@@ -107,11 +112,11 @@ module-of (m ∷ ms) (suc i) h r =
     ∙ module-of ms i (le-of-suc-le-suc h) (and-right (powerInRange (m .power)) (modulesInRange ms) r)
 
 modules-back : (s : State) → T (modulesInRange (s .modules)) → length (s .modules) ≡ 8 → modulesIn (saved s) ≡ s .modules
-unfolding saved headBytes modulesIn
+unfolding saved headBytes
 modules-back s r eight =
-    let n = length-each (λ i m. moduleAt (modulesPlace + 4 * i) (saved s)) (replicate 8 blank) in
+    let n = length-in (saved s) in
     ext-getD blank (modulesIn (saved s)) (s .modules) (n ∙ sym eight)
-    (λ i h. at-each (λ i m. moduleAt (modulesPlace + 4 * i) (saved s)) (replicate 8 blank) i blank (omega arith)
+    (λ i h. module-in (saved s) i (omega arith)
     ∙ module-shift (headBytes s) (modulesBytes (s .modules)) (4 * i)
     ∙ module-of (s .modules) i (omega arith) r)
 

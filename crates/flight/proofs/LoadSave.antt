@@ -10,10 +10,12 @@ use borrow.Author.Tests.{not-true, not-false}
 use lib.ListN.{length}
 use Rattle.choice.specs.Choice.{if_then_else_}
 use Rattle.choice.proofs.ChoiceLaws.{is-true, holds}
+use Rattle.modules.specs.declared.power.Module.{Module}
+use Rattle.supervisor.specs.State.{withModules}
 use Rattle.supervisor.specs.Range.{inRange}
 use Rattle.supervisor.specs.declared.state.State.{State}
 use Rattle.flight.specs.Fields.{alike}
-use Rattle.flight.specs.Image.{imageBytes, saved, decoded, loaded, found}
+use Rattle.flight.specs.Image.{imageBytes, saved, modulesIn, decoded, loaded, found}
 use Rattle.flight.specs.declared.image.Loaded.{Loaded}
 use Rattle.flight.proofs.FieldsLaws.{alike-eq, alike-refl, alike-not}
 use Rattle.flight.proofs.ImageLaws.{length-saved, length-in, decoded-saved}
@@ -36,9 +38,12 @@ save-load bytes s e = by-test (alike (saved (decoded bytes)) bytes) refl e
 
 -- what the code finds: the state that the fields say, and whether its save is this image
 module _ (bytes : List ℕ) where
-  pub found-compared : (same : Bool) (s : State) → s ≡ decoded bytes → same ≡ alike (saved s) bytes → found (record { ok = same; state = s }) ≡ loaded bytes
-  unfolding loaded
-  found-compared same s e t = rw (t, e)
+  pub found-compared : (same : Bool) (modules : List Module) (s : State) → modules ≡ modulesIn bytes → s ≡ withModules modules (decoded bytes)
+      → same ≡ alike (saved s) bytes → found (record { ok = same; state = s }) ≡ loaded bytes
+  unfolding loaded decoded
+  found-compared same modules s m e t =
+      let whole : s ≡ decoded bytes = e ∙ ap (λ l. withModules l (decoded bytes)) m in
+      rw (t, whole)
 
   -- bytes of another length have no state
   pub found-none : (length bytes ≡ imageBytes → ⊥) → none ≡ loaded bytes

@@ -4,6 +4,7 @@ ghost use mathlib.Core.Path.{_≡_};
 ghost use Prim.Native.Nat.{_+_, _≤_};
 ghost use lib.ListN.{length, take, drop};
 ghost use lib.Seq.{sets};
+ghost use Rattle.supervisor.specs.State.{withModules};
 ghost use Rattle.flight.specs.Fields.{alike};
 ghost use Rattle.flight.specs.Image.{imageBytes, modulesPlace, phaseNumber, phaseSeconds, powerNumber, powerLeft, moduleBytes, modulesBytes, headBytes, saved, modeFrom, powerFrom, moduleAt, modulesIn, decoded, found, loaded};
 use crate::fields::flag;
@@ -183,50 +184,6 @@ fn module_at(image: &[u8], at: usize) -> Module
     }
 }
 
-// The eight modules.
-fn modules_in(image: &[u8]) -> [Module; 8]
-    requires { ⌜ length (now image) ≡ imageBytes ⌝ }
-    ensures { λ r. ⌜ r ≡ modulesIn (now (image .entry)) ⌝ }
-{
-    let blank = Module {
-        power: Power::On,
-        requested: false,
-    };
-    let mut modules = [blank; 8];
-    let mut i: usize = 0;
-    while i < 8 {
-        modules[i] = module_at(image, 21 + 4 * i);
-        i += 1;
-    }
-    modules
-}
-
-// The state that the fields of an image say, be it one that was saved or not.
-fn decode(image: &[u8]) -> State
-    requires { ⌜ length (now image) ≡ imageBytes ⌝ }
-    ensures { λ r. ⌜ r ≡ decoded (now (image .entry)) ⌝ }
-{
-    let modules = modules_in(image);
-    State {
-        watch: Watch {
-            mode: mode_from(image[1], image[2], long_at(image, 3)),
-            control: image[7],
-            beacon: word_at(image, 8),
-        },
-        antennas: image[10] == 1,
-        battery: Battery {
-            tension: word_at(image, 11),
-            ascend: word_at(image, 13),
-            descend: word_at(image, 15),
-        },
-        serials: Serials {
-            ground: word_at(image, 17),
-            payload: word_at(image, 19),
-        },
-        modules,
-    }
-}
-
 // Whether the first bytes of an image are a state's.
 fn is_head(state: State, image: &[u8]) -> bool
     requires { ⌜ length (now image) ≡ imageBytes ⌝ }
@@ -263,19 +220,56 @@ fn is_module(m: Module, image: &[u8], at: usize) -> bool
         & (flag(m.requested) == image[at + 3])
 }
 
-// Whether the last bytes of an image are the modules'.
-fn are_modules(modules: [Module; 8], image: &[u8]) -> bool
+// The eight modules of an image, and whether its last bytes are theirs.
+struct Eight {
+    ok: bool,
+    modules: [Module; 8],
+}
+
+fn modules_in(image: &[u8]) -> Eight
     requires { ⌜ length (now image) ≡ imageBytes ⌝ }
-    ensures { λ r. ⌜ r ≡ alike (modulesBytes modules) (drop modulesPlace (now (image .entry))) ⌝ }
+    ensures { λ r. ⌜ (r .modules ≡ modulesIn (now (image .entry))) × (r .ok ≡ alike (modulesBytes (modulesIn (now (image .entry)))) (drop modulesPlace (now (image .entry)))) ⌝ }
 {
+    let blank = Module {
+        power: Power::On,
+        requested: false,
+    };
+    let mut modules = [blank; 8];
     let mut ok = true;
-    let mut i: usize = 8;
-    while 0 < i {
-        i -= 1;
-        let m = modules[i];
-        ok = is_module(m, image, 21 + 4 * i) & ok;
+    let mut i: usize = 0;
+    while i < 8 {
+        let at = 21 + 4 * i;
+        let m = module_at(image, at);
+        ok = ok & is_module(m, image, at);
+        modules[i] = m;
+        i += 1;
     }
-    ok
+    Eight { ok, modules }
+}
+
+// The state that the fields of an image say, with its modules, be it one that was saved or not.
+fn decode(image: &[u8], modules: [Module; 8]) -> State
+    requires { ⌜ length (now image) ≡ imageBytes ⌝ }
+    ensures { λ r. ⌜ r ≡ withModules modules (decoded (now (image .entry))) ⌝ }
+{
+    State {
+        watch: Watch {
+            mode: mode_from(image[1], image[2], long_at(image, 3)),
+            control: image[7],
+            beacon: word_at(image, 8),
+        },
+        antennas: image[10] == 1,
+        battery: Battery {
+            tension: word_at(image, 11),
+            ascend: word_at(image, 13),
+            descend: word_at(image, 15),
+        },
+        serials: Serials {
+            ground: word_at(image, 17),
+            payload: word_at(image, 19),
+        },
+        modules,
+    }
 }
 
 // Whether the bytes are the save of a state, and of which.
@@ -294,10 +288,11 @@ pub(crate) fn load(image: &[u8]) -> Loaded
             state: fresh(),
         };
     }
-    let state = decode(image);
-    let modules = state.modules;
+    let eight = modules_in(image);
+    let modules = eight.modules;
+    let state = decode(image, modules);
     Loaded {
-        ok: is_head(state, image) & are_modules(modules, image),
+        ok: is_head(state, image) & eight.ok,
         state,
     }
 }

@@ -4,9 +4,6 @@ use borrow.Author.Needs.{needs}
 use Rattle.flight.proofs.image.decode.Statement.{statement}
 use Rattle.flight.proofs.image.decode.Tie as tie
 
-modules-in-requires : tie.Need-modules-in-requires
-modules-in-requires c κs = search needs
-
 shared-slice-read-mode-from : tie.Need-shared-slice-read-mode-from
 shared-slice-read-mode-from c = search needs
 
@@ -45,13 +42,12 @@ word-at-requires-6 c κs = search needs
 
 returns : tie.Need-returns
 unfolding decoded
-returns c = simp (c .word-at6 .ensures, c .before .word-at5 .ensures, c .before .before .word-at4 .ensures, c .before .before .before .word-at3 .ensures, c .before .before .before .before .word-at2 .ensures, c .before .before .before .before .before .before .word-at .ensures, c .before .before .before .before .before .before .before .before .mode-from .ensures, c .before .before .before .before .before .before .before .before .before .long-at .ensures, c .before .before .before .before .before .before .before .before .before .before .before .before .modules-in .ensures)
+returns c = simp (c .word-at6 .ensures, c .before .word-at5 .ensures, c .before .before .word-at4 .ensures, c .before .before .before .word-at3 .ensures, c .before .before .before .before .word-at2 .ensures, c .before .before .before .before .before .before .word-at .ensures, c .before .before .before .before .before .before .before .before .mode-from .ensures, c .before .before .before .before .before .before .before .before .before .long-at .ensures)
 
 pub decode-spec : {M : Type 1} → statement M
 decode-spec =
     tie.close
     (tie.spec
-    modules-in-requires
     shared-slice-read-mode-from
     shared-slice-read-mode-from-2
     long-at-requires

@@ -1,4 +1,6 @@
 -- `flight::image::load` meets its contract: what was decoded is compared with the image, and the comparison decides.
+use mathlib.Core.Path.{_≡_, ap, _∙_}
+use Rattle.flight.specs.Image.{modulesIn}
 use Rattle.flight.proofs.ComparedLaws.{saved-alike}
 use Rattle.flight.proofs.LoadSave.{found-none, found-compared}
 use borrow.Author.Needs.{needs}
@@ -11,17 +13,23 @@ fresh-requires c κs = search needs
 returns : tie.Need-returns
 returns c = found-none _ (c .before .if1 .taken)
 
+modules-in-requires : tie.Need-modules-in-requires
+modules-in-requires c κs = search needs
+
 decode-requires : tie.Need-decode-requires
 decode-requires c κs = search needs
 
 is-head-requires : tie.Need-is-head-requires
 is-head-requires c κs = search needs
 
-are-modules-requires : tie.Need-are-modules-requires
-are-modules-requires c κs = search needs
-
 returns-2 : tie.Need-returns-2
-returns-2 c = found-compared _ _ _ (c .before .before .before .decode .ensures) (saved-alike _ _ (c .before .before .before .before .if1 .left) (c .before .is-head .ensures) (c .are-modules .ensures))
+returns-2 c =
+    let read = c .before .before .before .before .modules-in in
+    let s = c .before .before .decode .result in
+    let bytes = c .before .before .before .before .before .before .before .args .image .now in
+    let modules : s .modules ≡ modulesIn bytes = ap (λ x. x .modules) (c .before .before .decode .ensures) ∙ read .ensures .0 in
+    found-compared bytes _ _ s (read .ensures .0) (c .before .before .decode .ensures)
+    (saved-alike s bytes (c .before .before .before .before .before .if1 .left) (c .before .is-head .ensures) (rw modules (read .ensures .1)))
 
 pub load-spec : {M : Type 1} → statement M
 load-spec =
@@ -29,7 +37,7 @@ load-spec =
     (tie.spec
     fresh-requires
     returns
+    modules-in-requires
     decode-requires
     is-head-requires
-    are-modules-requires
     returns-2)

@@ -1,31 +1,42 @@
--- `flight::image::modules_in` meets its contract: after i turns the first i modules are read.
+-- `flight::image::modules_in` meets its contract: after i turns the first i modules are read, and compared with their bytes.
 use Prim.Native.Nat.{_+_, _*_, _-_, _≤_}
 use mathlib.Core.Path.{_≡_, refl, _∙_}
+use mathlib.Core.Bool.{_&&_}
 use native.Mathlib.Omega.{arith}
-use lib.ListN.{replicate}
+use lib.ListN.{drop, replicate}
 use Rattle.choice.proofs.EachLaws.{worked, worked-none, worked-turn, worked-all}
-use Rattle.flight.specs.Image.{modulesPlace, moduleAt, blank, modulesIn}
+use Rattle.flight.specs.Fields.{alike}
+use Rattle.flight.specs.Image.{modulesPlace, modulesBytes, moduleAt, blank, modulesIn}
+use Rattle.flight.proofs.ComparedLaws.{modules-turn, modules-end}
 use borrow.Author.Needs.{needs}
 use Rattle.flight.proofs.image.modules_in.Statement.{statement}
 use Rattle.flight.proofs.image.modules_in.Tie as tie
 
 abbrev Inv-loop : tie.InvT-loop
-Inv-loop image modules₀ i₀ modules i = record { low : i ≤ 8; done : modules ≡ worked (λ k m. moduleAt (modulesPlace + 4 * k) image) i (replicate 8 blank) }
+Inv-loop image modules₀ ok₀ i₀ modules ok i =
+    record {
+      low : i ≤ 8;
+      read : modules ≡ worked (λ k x. moduleAt (modulesPlace + 4 * k) image) i (replicate 8 blank);
+      left : (ok && alike (modulesBytes (drop i (modulesIn image))) (drop (modulesPlace + 4 * i) image)) ≡ alike (modulesBytes (modulesIn image)) (drop modulesPlace image);
+    }
 
 abbrev μ-loop : tie.MeasureT-loop
-μ-loop image modules₀ i₀ modules i = 8 - i
+μ-loop image modules₀ ok₀ i₀ modules ok i = 8 - i
 
 loop-holds : tie.Need-loop-holds Inv-loop μ-loop
-loop-holds c = record { low = search needs; done = worked-none _ _ }
+loop-holds c = record { low = search needs; read = worked-none _ _; left = refl }
 
-mul-module-at : tie.Need-mul-module-at Inv-loop μ-loop
-mul-module-at c = search needs
+mul-at : tie.Need-mul-at Inv-loop μ-loop
+mul-at c = search needs
 
-add-module-at : tie.Need-add-module-at Inv-loop μ-loop
-add-module-at c = search needs
+add-at : tie.Need-add-at Inv-loop μ-loop
+add-at c = search needs
 
 module-at-requires : tie.Need-module-at-requires Inv-loop μ-loop
 module-at-requires c κs = search needs
+
+is-module-requires : tie.Need-is-module-requires Inv-loop μ-loop
+is-module-requires c κs = search needs
 
 mul-modules : tie.Need-mul-modules Inv-loop μ-loop
 mul-modules c = search needs
@@ -40,11 +51,22 @@ loop-less : tie.Need-loop-less Inv-loop μ-loop
 loop-less c = search needs
 
 loop-again : tie.Need-loop-again Inv-loop μ-loop
-loop-again c = record { low = omega arith; done = simp (c .module-at .ensures, c .before .before .loop .inv .done) (worked-turn _ _ _ blank) }
+loop-again c =
+    let l = c .before .before .before .loop in
+    let bytes = c .before .before .before .before .before .args .image .now in
+    record {
+      low = omega arith;
+      read = simp (c .before .module-at .ensures, l .inv .read) (worked-turn _ _ _ blank);
+      left = modules-turn bytes (l .i) (l .ok) _ _ (search needs) (c .before .before .before .before .before .pre) (rw (c .before .module-at .ensures) at (c .is-module .ensures)) (l .inv .left);
+    }
 
 returns : tie.Need-returns Inv-loop μ-loop
 unfolding modulesIn
-returns c = let e : c .before .loop .i ≡ 8 = omega arith in (rw e at (c .before .loop .inv .done)) ∙ worked-all _ 8 (replicate 8 blank) refl
+returns c =
+    let l = c .before .loop in
+    let bytes = c .before .before .before .args .image .now in
+    let e : l .i ≡ 8 = omega arith in
+    ((rw e at (l .inv .read)) ∙ worked-all _ 8 (replicate 8 blank) refl, modules-end bytes (l .ok) _ (c .before .before .before .pre) (rw e at (l .inv .left)))
 
 pub modules-in-spec : {M : Type 1} → statement M
 modules-in-spec =
@@ -53,9 +75,10 @@ modules-in-spec =
     Inv-loop
     μ-loop
     loop-holds
-    mul-module-at
-    add-module-at
+    mul-at
+    add-at
     module-at-requires
+    is-module-requires
     mul-modules
     array-set-from-modules
     add-i
