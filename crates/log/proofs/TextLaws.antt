@@ -1,6 +1,6 @@
 -- Laws of text: how many digits a number has, and texts stored one after the other.
 -- Assumes nothing.
-use Prim.Native.Nat.{ℕ, zero, suc, _+_, _-_, _*_, _/_, _^_, _<_, _≤_}
+use Prim.Native.Nat.{ℕ, zero, suc, _+_, _-_, _/_, _^_, _<_, _≤_}
 use mathlib.Core.Path.{_≡_, refl, ap, sym, _∙_}
 use mathlib.Core.List.{List, [], _∷_, _++_, append-assoc, append-nil}
 use native.Mathlib.Nat.{le-refl, pow-suc, not-suc-le-zero, le-div-iff-mul-le, div-lt-iff-lt-mul}
@@ -9,7 +9,7 @@ use native.Mathlib.Omega.{arith}
 use borrow.Author.Tests.{ltb-true, ltb-false}
 use lib.Dec.{ltb}
 use lib.ListN.{length, set, take, drop, length-append, length-drop}
-use lib.Seq.{sets, sets-eq, length-sets, take-length, take-all, drop-length, drop-drop}
+use lib.Seq.{sets-eq, length-sets, take-length, take-all, drop-length, drop-drop}
 use Rattle.io.specs.Digits.{digits, Fewest}
 use Rattle.choice.proofs.ChoiceLaws.{either, decided}
 use Rattle.choice.proofs.Stores.{sets-append}
