@@ -1,7 +1,7 @@
 -- Laws of the two texts: how long each is, and that each is a front of the complete one.
 -- Assumes nothing.
 use mathlib.Core.Path.{_≡_, refl}
-use Prim.Native.Nat.{ℕ, _≤_}
+use Prim.Native.Nat.{_≤_}
 use lib.Dec.{lit≤}
 use lib.ListN.{length, take}
 use Rattle.supervisor.specs.declared.state.State.{State}

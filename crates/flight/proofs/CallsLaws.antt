@@ -1,9 +1,9 @@
 -- Laws of the calls: what each makes of an image that has a state or none, and an answer by its number and count.
 -- Assumes nothing.
 use Prim.Native.Nat.{ℕ}
-use mathlib.Core.Path.{_≡_, refl, sym, ap, _∙_}
+use mathlib.Core.Path.{_≡_, refl, ap}
 use mathlib.Core.List.{List}
-use mathlib.Core.Option.{Option, none, some}
+use mathlib.Core.Option.{none, some}
 use Rattle.morse.specs.Answers.{Reply, Outcome, outcome}
 use Rattle.morse.specs.Reading.{Read, readReply}
 use Rattle.morse.specs.declared.reading.Heard.{Heard}
@@ -14,8 +14,9 @@ use Rattle.supervisor.specs.declared.state.State.{State}
 use Rattle.beacon.specs.Writing.{beaconOf}
 use Rattle.beacon.specs.declared.text.Form.{Form}
 use Rattle.beacon.specs.declared.writing.Written.the-variants.{StateOutside}
-use Rattle.flight.specs.Image.{saved, loaded}
-use Rattle.flight.specs.Calls.{badImage, stepped, steppedTo, stepLoaded, stepImage, beaconLoaded, beaconImage, told, replied, ReadTold}
+use Rattle.flight.specs.Saving.{saved}
+use Rattle.flight.specs.Loading.{loaded}
+use Rattle.flight.specs.Calls.{badImage, stepped, steppedTo, stepImage, beaconImage, told, replied, ReadTold}
 
 module _ (image room : List ℕ) where
   pub step-refused : (frame : List ℕ) → loaded image ≡ none → stepped badImage image room ≡ stepImage image frame room

@@ -15,8 +15,9 @@ use Rattle.supervisor.specs.State.{modeNumber}
 use Rattle.frames.specs.Frame.{byteAt, wordAt}
 use Rattle.supervisor.specs.declared.state.State.{State}
 use Rattle.flight.specs.Fields.{flag, alike}
-use Rattle.flight.specs.Image.{layoutVersion, imageBytes, modulesPlace, phaseNumber, phaseSeconds, powerNumber, powerLeft, moduleBytes, modulesBytes, headBytes, saved, moduleAt, blank, modulesIn}
-use Rattle.flight.proofs.ImageLaws.{length-in, module-in}
+use Rattle.flight.specs.Saving.{layoutVersion, imageBytes, modulesPlace, phaseNumber, phaseSeconds, powerNumber, powerLeft, moduleBytes, modulesBytes, headBytes, saved}
+use Rattle.flight.specs.Loading.{moduleAt, blank, modulesIn}
+use Rattle.flight.proofs.LoadingLaws.{length-in, module-in}
 
 -- two bytes of a number compared are the number compared
 word-pair : (n high low : ℕ) → low < 256 → (eqb (n / 256) high && eqb (n % 256) low) ≡ eqb n (high * 256 + low)

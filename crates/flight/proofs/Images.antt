@@ -8,17 +8,17 @@ use mathlib.Core.Option.{Option, none, some}
 use lib.ListN.{length}
 use Rattle.morse.specs.Answers.{outcome}
 use Rattle.supervisor.specs.Range.{inRange}
-use Rattle.supervisor.specs.Step.{stepOf, refused}
-use Rattle.frames.specs.declared.answer.Answer.the-variants as answer
+use Rattle.supervisor.specs.Step.{stepOf}
 use Rattle.supervisor.specs.declared.state.State.{State}
 use Rattle.beacon.specs.Writing.{beaconOf}
 use Rattle.beacon.specs.declared.text.Form.{Form}
 use Rattle.beacon.specs.declared.writing.Written.the-variants.{StateOutside}
 use Rattle.beacon.proofs.WritingLaws.{beacon-outside}
-use Rattle.flight.specs.Image.{saved, loaded}
-use Rattle.flight.specs.Calls.{badImage, stepped, steppedTo, stepLoaded, stepImage, beaconLoaded, beaconImage}
+use Rattle.flight.specs.Saving.{saved}
+use Rattle.flight.specs.Loading.{loaded}
+use Rattle.flight.specs.Calls.{badImage, stepped, steppedTo, stepImage, beaconImage}
 use Rattle.flight.proofs.LoadSave.{load-save, save-load}
-use Rattle.flight.proofs.CallsLaws.{step-refused, step-taken, beacon-refused, beacon-taken}
+use Rattle.flight.proofs.CallsLaws.{beacon-refused, beacon-taken}
 
 -- the image of a state in range is worked as that state
 module _ (s : State) (e : inRange s ≡ true) (eight : length (s .modules) ≡ 8) (room : List ℕ) where

@@ -1,5 +1,6 @@
 pub mod FieldsLaws
-pub mod ImageLaws
+pub mod SavingLaws
+pub mod LoadingLaws
 pub mod ComparedLaws
 pub mod LoadSave
 pub mod CallsLaws

@@ -5,7 +5,7 @@ use native.Mathlib.Omega.{arith}
 use mathlib.Core.Path.{_≡_, refl, sym, ap, _∙_}
 use mathlib.Core.Bool.{Bool, true, false, not}
 use mathlib.Core.List.{List}
-use mathlib.Core.Option.{Option, none, some}
+use mathlib.Core.Option.{none, some}
 use borrow.Author.Tests.{not-true, not-false}
 use lib.ListN.{length}
 use Rattle.choice.specs.Choice.{if_then_else_}
@@ -15,10 +15,12 @@ use Rattle.supervisor.specs.State.{withModules}
 use Rattle.supervisor.specs.Range.{inRange}
 use Rattle.supervisor.specs.declared.state.State.{State}
 use Rattle.flight.specs.Fields.{alike}
-use Rattle.flight.specs.Image.{imageBytes, saved, modulesIn, decoded, loaded, found}
-use Rattle.flight.specs.declared.image.Loaded.{Loaded}
+use Rattle.flight.specs.Saving.{imageBytes, saved}
+use Rattle.flight.specs.Loading.{modulesIn, decoded, loaded, found}
+use Rattle.flight.specs.declared.loading.Loaded.{Loaded}
 use Rattle.flight.proofs.FieldsLaws.{alike-eq, alike-refl, alike-not}
-use Rattle.flight.proofs.ImageLaws.{length-saved, length-in, decoded-saved}
+use Rattle.flight.proofs.SavingLaws.{length-saved}
+use Rattle.flight.proofs.LoadingLaws.{length-in, decoded-saved}
 
 -- load (save s) = s
 pub load-save : (s : State) → inRange s ≡ true → length (s .modules) ≡ 8 → loaded (saved s) ≡ some s

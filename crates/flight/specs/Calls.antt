@@ -19,7 +19,8 @@ use Rattle.beacon.specs.Writing.{beaconOf}
 use Rattle.beacon.specs.declared.text.Form.{Form}
 use Rattle.beacon.specs.declared.writing.Written.{Written}
 use Rattle.beacon.specs.declared.writing.Written.the-variants.{StateOutside}
-use Rattle.flight.specs.Image.{imageBytes, saved, loaded}
+use Rattle.flight.specs.Saving.{imageBytes, saved}
+use Rattle.flight.specs.Loading.{loaded}
 
 -- the number that a call answers, and the later content of the image
 pub record Freshed : Type 0 where

@@ -1,3 +1,4 @@
 pub mod Fields
-pub mod Image
+pub mod Saving
+pub mod Loading
 pub mod Calls

@@ -1,5 +1,5 @@
 // Numbers as bytes, the high byte first, and tests as 0 or 1.
-// Each function asks that the place is within the bytes, which `image` sees to.
+// Each function asks that the place is within the bytes, which `loading` sees to.
 ghost use mathlib.Core.Path.{_≡_};
 ghost use Prim.Native.Nat.{_+_, _≤_};
 ghost use lib.ListN.{length};

@@ -1,5 +1,6 @@
 // The library that flies: the state as bytes, and the calls that C and Rust make.
-// `fields` has numbers as bytes, `image` the state's, `calls` what is exported.
+// `fields` has numbers as bytes, `saving` and `loading` the state's, `calls` what is exported.
 pub mod calls;
 mod fields;
-mod image;
+mod loading;
+mod saving;

@@ -4,7 +4,7 @@ use Prim.Native.Nat.{_-_}
 use native.Mathlib.Omega.{arith}
 use lib.ListN.{take}
 use borrow.Author.Tests.{not-true, not-false}
-use Rattle.beacon.specs.Text.{completeText, textOf, formBytes}
+use Rattle.beacon.specs.Text.{completeText, formBytes}
 use Rattle.beacon.proofs.TextLaws.{form-most, text-length, text-front}
 use Rattle.beacon.proofs.WritingLaws.{beacon-outside, beacon-short, beacon-copied}
 use borrow.Author.Needs.{needs}

@@ -1,4 +1,4 @@
--- `flight::image::put_modules` meets its contract: the modules left, put into the image as it is, make what all of them make of it at entry.
+-- `flight::saving::put_modules` meets its contract: the modules left, put into the image as it is, make what all of them make of it at entry.
 use Prim.Native.Nat.{_+_, _*_, _-_, _≤_}
 use mathlib.Core.Path.{_≡_, refl, _∙_}
 use mathlib.Core.List.{[]}
@@ -6,11 +6,11 @@ use native.Mathlib.Omega.{arith}
 use lib.ListN.{length, drop, drop-of-length-le}
 use lib.Seq.{sets}
 use Rattle.choice.proofs.EachLaws.{length-mapped}
-use Rattle.flight.specs.Image.{imageBytes, modulesPlace, modulesBytes}
-use Rattle.flight.proofs.ImageLaws.{stored-turn}
+use Rattle.flight.specs.Saving.{imageBytes, modulesPlace, modulesBytes}
+use Rattle.flight.proofs.SavingLaws.{stored-turn}
 use borrow.Author.Needs.{needs}
-use Rattle.flight.proofs.image.put_modules.Statement.{statement}
-use Rattle.flight.proofs.image.put_modules.Tie as tie
+use Rattle.flight.proofs.saving.put_modules.Statement.{statement}
+use Rattle.flight.proofs.saving.put_modules.Tie as tie
 
 abbrev Inv-loop : tie.InvT-loop
 Inv-loop image₀ modules i₀ image i =

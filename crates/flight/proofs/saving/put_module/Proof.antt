@@ -1,13 +1,13 @@
--- `flight::image::put_module` meets its contract: four stores in a row.
+-- `flight::saving::put_module` meets its contract: four stores in a row.
 use Prim.Native.Nat.{_/_, _%_}
 use native.Mathlib.Omega.{arith}
 use lib.ListN.{length-set}
 use Rattle.flight.specs.Fields.{flag}
-use Rattle.flight.specs.Image.{powerNumber, powerLeft}
-use Rattle.flight.proofs.ImageLaws.{stored-module}
+use Rattle.flight.specs.Saving.{powerNumber, powerLeft}
+use Rattle.flight.proofs.SavingLaws.{stored-module}
 use borrow.Author.Needs.{needs}
-use Rattle.flight.proofs.image.put_module.Statement.{statement}
-use Rattle.flight.proofs.image.put_module.Tie as tie
+use Rattle.flight.proofs.saving.put_module.Statement.{statement}
+use Rattle.flight.proofs.saving.put_module.Tie as tie
 
 power-left-requires : tie.Need-power-left-requires
 power-left-requires c κs = search needs

@@ -1,8 +1,8 @@
--- `flight::image::power_from` meets its contract: the tests are the rule's.
+-- `flight::loading::power_from` meets its contract: the tests are the rule's.
 use borrow.Author.Tests.{eq-eqb, ne-eqb}
 use borrow.Author.Needs.{needs}
-use Rattle.flight.proofs.image.power_from.Statement.{statement}
-use Rattle.flight.proofs.image.power_from.Tie as tie
+use Rattle.flight.proofs.loading.power_from.Statement.{statement}
+use Rattle.flight.proofs.loading.power_from.Tie as tie
 
 cast-t5 : tie.Need-cast-t5
 cast-t5 c = search needs

@@ -1,8 +1,8 @@
--- `flight::image::mode_from` meets its contract: the tests are the rule's.
+-- `flight::loading::mode_from` meets its contract: the tests are the rule's.
 use borrow.Author.Tests.{eq-eqb, ne-eqb}
 use borrow.Author.Needs.{needs}
-use Rattle.flight.proofs.image.mode_from.Statement.{statement}
-use Rattle.flight.proofs.image.mode_from.Tie as tie
+use Rattle.flight.proofs.loading.mode_from.Statement.{statement}
+use Rattle.flight.proofs.loading.mode_from.Tie as tie
 
 returns : tie.Need-returns
 returns c = simp (eq-eqb _ _ (c .if1 .taken))

@@ -1,13 +1,13 @@
--- `flight::image::save` meets its contract: the head, then the modules, fill the image.
+-- `flight::saving::save` meets its contract: the head, then the modules, fill the image.
 use mathlib.Core.Path.{_≡_, ap, _∙_}
 use lib.ListN.{length}
 use lib.Seq.{sets}
 use Rattle.choice.proofs.EachLaws.{length-mapped}
-use Rattle.flight.specs.Image.{modulesPlace, modulesBytes}
-use Rattle.flight.proofs.ImageLaws.{stored-state}
+use Rattle.flight.specs.Saving.{modulesPlace, modulesBytes}
+use Rattle.flight.proofs.SavingLaws.{stored-state}
 use borrow.Author.Needs.{needs}
-use Rattle.flight.proofs.image.save.Statement.{statement}
-use Rattle.flight.proofs.image.save.Tie as tie
+use Rattle.flight.proofs.saving.save.Statement.{statement}
+use Rattle.flight.proofs.saving.save.Tie as tie
 
 head-requires : tie.Need-head-requires
 head-requires c κs = search needs

@@ -1,4 +1,4 @@
--- `flight::image::modules_in` meets its contract: after i turns the first i modules are read, and compared with their bytes.
+-- `flight::loading::modules_in` meets its contract: after i turns the first i modules are read, and compared with their bytes.
 use Prim.Native.Nat.{_+_, _*_, _-_, _≤_}
 use mathlib.Core.Path.{_≡_, refl, _∙_}
 use mathlib.Core.Bool.{_&&_}
@@ -6,11 +6,12 @@ use native.Mathlib.Omega.{arith}
 use lib.ListN.{drop, replicate}
 use Rattle.choice.proofs.EachLaws.{worked, worked-none, worked-turn, worked-all}
 use Rattle.flight.specs.Fields.{alike}
-use Rattle.flight.specs.Image.{modulesPlace, modulesBytes, moduleAt, blank, modulesIn}
+use Rattle.flight.specs.Saving.{modulesPlace, modulesBytes}
+use Rattle.flight.specs.Loading.{moduleAt, blank, modulesIn}
 use Rattle.flight.proofs.ComparedLaws.{modules-turn, modules-end}
 use borrow.Author.Needs.{needs}
-use Rattle.flight.proofs.image.modules_in.Statement.{statement}
-use Rattle.flight.proofs.image.modules_in.Tie as tie
+use Rattle.flight.proofs.loading.modules_in.Statement.{statement}
+use Rattle.flight.proofs.loading.modules_in.Tie as tie
 
 abbrev Inv-loop : tie.InvT-loop
 Inv-loop image modules₀ ok₀ i₀ modules ok i =

@@ -1,8 +1,8 @@
--- `flight::image::is_module` meets its contract: three numbers compared are four bytes compared.
+-- `flight::loading::is_module` meets its contract: three numbers compared are four bytes compared.
 use Rattle.flight.proofs.ComparedLaws.{module-alike}
 use borrow.Author.Needs.{needs}
-use Rattle.flight.proofs.image.is_module.Statement.{statement}
-use Rattle.flight.proofs.image.is_module.Tie as tie
+use Rattle.flight.proofs.loading.is_module.Statement.{statement}
+use Rattle.flight.proofs.loading.is_module.Tie as tie
 
 power-number-requires : tie.Need-power-number-requires
 power-number-requires c κs = search needs

@@ -1,8 +1,8 @@
--- `flight::image::head` meets its contract: each byte is the rule's.
-use Rattle.flight.specs.Image.{headBytes}
+-- `flight::saving::head` meets its contract: each byte is the rule's.
+use Rattle.flight.specs.Saving.{headBytes}
 use borrow.Author.Needs.{needs}
-use Rattle.flight.proofs.image.head.Statement.{statement}
-use Rattle.flight.proofs.image.head.Tie as tie
+use Rattle.flight.proofs.saving.head.Statement.{statement}
+use Rattle.flight.proofs.saving.head.Tie as tie
 
 phase-seconds-requires : tie.Need-phase-seconds-requires
 phase-seconds-requires c κs = search needs

@@ -1,7 +1,7 @@
--- `flight::image::module_at` meets its contract: each field is the rule's.
+-- `flight::loading::module_at` meets its contract: each field is the rule's.
 use borrow.Author.Needs.{needs}
-use Rattle.flight.proofs.image.module_at.Statement.{statement}
-use Rattle.flight.proofs.image.module_at.Tie as tie
+use Rattle.flight.proofs.loading.module_at.Statement.{statement}
+use Rattle.flight.proofs.loading.module_at.Tie as tie
 
 shared-slice-read-power-from : tie.Need-shared-slice-read-power-from
 shared-slice-read-power-from c = search needs

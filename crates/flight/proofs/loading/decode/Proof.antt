@@ -1,8 +1,8 @@
--- `flight::image::decode` meets its contract: each field is the rule's.
-use Rattle.flight.specs.Image.{decoded}
+-- `flight::loading::decode` meets its contract: each field is the rule's.
+use Rattle.flight.specs.Loading.{decoded}
 use borrow.Author.Needs.{needs}
-use Rattle.flight.proofs.image.decode.Statement.{statement}
-use Rattle.flight.proofs.image.decode.Tie as tie
+use Rattle.flight.proofs.loading.decode.Statement.{statement}
+use Rattle.flight.proofs.loading.decode.Tie as tie
 
 shared-slice-read-mode-from : tie.Need-shared-slice-read-mode-from
 shared-slice-read-mode-from c = search needs

@@ -1,9 +1,9 @@
--- `flight::image::is_head` meets its contract: thirteen numbers compared are twenty-one bytes compared.
+-- `flight::loading::is_head` meets its contract: thirteen numbers compared are twenty-one bytes compared.
 use native.Mathlib.Omega.{arith}
 use Rattle.flight.proofs.ComparedLaws.{head-alike}
 use borrow.Author.Needs.{needs}
-use Rattle.flight.proofs.image.is_head.Statement.{statement}
-use Rattle.flight.proofs.image.is_head.Tie as tie
+use Rattle.flight.proofs.loading.is_head.Statement.{statement}
+use Rattle.flight.proofs.loading.is_head.Tie as tie
 
 phase-seconds-requires : tie.Need-phase-seconds-requires
 phase-seconds-requires c κs = search needs

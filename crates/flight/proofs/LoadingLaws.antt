@@ -1,18 +1,16 @@
--- Laws of an image: its length, how it is stored part by part, and what its fields say.
+-- Laws of loading: the modules of an image, and that the fields of a saved state say that state.
 -- Assumes nothing.
-use Prim.Native.Nat.{ℕ, zero, suc, _+_, _*_, _/_, _%_, _<_, _≤_}
+use Prim.Native.Nat.{ℕ, zero, suc, _+_, _*_, _<_}
 use native.Mathlib.Omega.{arith}
 use native.Mathlib.Nat.{add-assoc, div-add-mod', mod-eq-of-lt, le-of-suc-le-suc, not-suc-le-zero}
-use native.Mathlib.Numerals.{add-one}
 use mathlib.Core.Path.{_≡_, refl, sym, ap, _∙_}
-use mathlib.Core.Bool.{Bool, true, false, _&&_}
-use mathlib.Core.List.{List, [], _∷_, _++_, append-nil}
+use mathlib.Core.Bool.{true}
+use mathlib.Core.List.{List, [], _∷_, _++_}
 use lib.Dec.{T, eqb}
-use lib.ListN.{length, getD, set, take, drop, replicate, length-append, drop-of-length-le}
-use lib.Seq.{sets, take-length, drop-cons, getD-append-add, ext-getD}
+use lib.ListN.{length, getD, replicate}
+use lib.Seq.{getD-append-add, ext-getD}
 use Rattle.choice.proofs.ChoiceLaws.{and-left, and-right, within-high}
 use Rattle.choice.proofs.EachLaws.{length-each, at-each}
-use Rattle.choice.proofs.Stores.{sets-append, sets-front}
 use Rattle.modules.specs.Power.{powerInRange, fullTries}
 use Rattle.modules.specs.Stage.{modulesInRange}
 use Rattle.modules.specs.declared.power.Power.{Power}
@@ -27,17 +25,9 @@ use Rattle.supervisor.specs.declared.state.Mode.the-variants.{DeployWait, Recov
 use Rattle.supervisor.specs.declared.state.State.{State}
 use Rattle.beacon.proofs.RangeLaws.{in-range-parts}
 use Rattle.flight.specs.Fields.{flag}
-use Rattle.flight.specs.Image.{imageBytes, modulesPlace, phaseNumber, phaseSeconds, powerNumber, powerLeft, moduleBytes, modulesBytes, headBytes, saved, modeFrom, powerFrom, moduleAt, blank, modulesIn, decoded}
+use Rattle.flight.specs.Saving.{modulesPlace, phaseNumber, phaseSeconds, powerNumber, powerLeft, moduleBytes, modulesBytes, headBytes, saved}
+use Rattle.flight.specs.Loading.{modeFrom, powerFrom, moduleAt, blank, modulesIn, decoded}
 use Rattle.flight.proofs.FieldsLaws.{flag-back, word-back}
-
-length-modules : (ms : List Module) → length (modulesBytes ms) ≡ 4 * length ms
-unfolding modulesBytes
-length-modules [] = refl
-length-modules (m ∷ ms) = omega (arith, length-modules ms)
-
-pub length-saved : (s : State) → length (s .modules) ≡ 8 → length (saved s) ≡ imageBytes
-unfolding saved headBytes
-length-saved s eight = omega (arith, length-append (headBytes s) (modulesBytes (s .modules)), length-modules (s .modules))
 
 module _ (bytes : List ℕ) where
   pub length-in : length (modulesIn bytes) ≡ 8
@@ -47,36 +37,6 @@ module _ (bytes : List ℕ) where
   pub module-in : (i : ℕ) → i < 8 → getD (modulesIn bytes) i blank ≡ moduleAt (modulesPlace + 4 * i) bytes
   unfolding modulesIn
   module-in i low = at-each (λ i m. moduleAt (modulesPlace + 4 * i) bytes) (replicate 8 blank) i blank low
-
--- storing, part by part
-
-pub stored-module : (room : List ℕ) (at power high low requested : ℕ)
-    → set (set (set (set room at power) (at + 1) high) (at + 2) low) (at + 3) requested ≡ sets room at (power ∷ high ∷ low ∷ requested ∷ [])
-stored-module room at power high low requested =
-    let two : at + 2 ≡ suc (suc at) = omega arith in
-    let three : at + 3 ≡ suc (suc (suc at)) = omega arith in
-    rw (add-one, two, three)
-
-pub stored-turn : (ms : List Module) (i at : ℕ) (room : List ℕ) (d : Module) → i < length ms
-    → sets (sets room at (moduleBytes (getD ms i d))) (at + 4) (modulesBytes (drop (i + 1) ms)) ≡ sets room at (modulesBytes (drop i ms))
-unfolding modulesBytes
-stored-turn ms i at room d h =
-    let rest : drop i ms ≡ getD ms i d ∷ drop (i + 1) ms = rw add-one (drop-cons ms i d h) in
-    rw rest (sym (sets-append (moduleBytes (getD ms i d)) (modulesBytes (drop (i + 1) ms)) room at))
-
--- the modules after a head that was copied
-pub stored-state : (s : State) (head room : List ℕ) → head ≡ headBytes s → length (s .modules) ≡ 8 → length room ≡ imageBytes
-    → sets (take (length head) head ++ drop (length head) room) modulesPlace (modulesBytes (s .modules)) ≡ saved s
-unfolding saved headBytes
-stored-state s head room e eight fits =
-    let n = length-saved s eight in
-    let modules = modulesBytes (s .modules) in
-    rw (take-length head, e)
-    (ap (λ r. sets r modulesPlace modules) (sym (sets-front (headBytes s) room (omega arith)))
-    ∙ sym (sets-append (headBytes s) modules room 0)
-    ∙ sets-front (saved s) room (omega arith)
-    ∙ ap (λ l. saved s ++ l) (drop-of-length-le room {i = length (saved s)} (omega arith))
-    ∙ append-nil (saved s))
 
 -- what the fields of a saved state say
 

@@ -1,0 +1,62 @@
+-- The state of an image: what its fields say, and whether it is the save of that.
+-- Assumes nothing.
+use Prim.Native.Nat.{ℕ, _+_, _*_, _%_}
+use mathlib.Core.Bool.{false}
+use mathlib.Core.List.{List}
+use mathlib.Core.Option.{Option, none, some}
+use lib.Dec.{eqb}
+use lib.ListN.{replicate}
+use Rattle.choice.specs.Choice.{if_then_else_}
+use Rattle.choice.specs.Each.{each}
+use Rattle.modules.specs.declared.power.Power.{Power}
+use Rattle.modules.specs.declared.power.Power.the-variants.{On, Off, Failed}
+use Rattle.modules.specs.declared.power.Module.{Module}
+use Rattle.frames.specs.Frame.{byteAt, wordAt}
+use Rattle.supervisor.specs.declared.state.Phase.the-variants.{Waiting, Settling}
+use Rattle.supervisor.specs.declared.state.Mode.{Mode}
+use Rattle.supervisor.specs.declared.state.Mode.the-variants.{DeployWait, Recovery, Safe}
+use Rattle.supervisor.specs.declared.state.State.{State}
+use Rattle.flight.specs.Fields.{longAt, alike}
+use Rattle.flight.specs.Saving.{modulesPlace, saved}
+use Rattle.flight.specs.declared.loading.Loaded.{Loaded}
+
+-- what the fields of an image say, be it one that was saved or not
+
+abbrev pub modeFrom : (mode phase seconds : ℕ) → Mode
+modeFrom mode phase seconds =
+    if eqb mode 1 then Recovery else
+    if eqb mode 2 then Safe else
+    if eqb phase 2 then DeployWait (Settling (seconds % 65536)) else DeployWait (Waiting seconds)
+
+abbrev pub powerFrom : (power left : ℕ) → Power
+powerFrom power left =
+    if eqb power 1 then Off (left % 256) else
+    if eqb power 2 then Failed left else On
+
+abbrev pub moduleAt : (at : ℕ) → List ℕ → Module
+moduleAt at bytes = record { power = powerFrom (byteAt at bytes) (wordAt (at + 1) bytes); requested = eqb (byteAt (at + 3) bytes) 1 }
+
+abbrev pub blank : Module
+blank = record { power = On; requested = false }
+
+-- module i stands at 21 + 4 i
+unfoldable pub modulesIn : List ℕ → List Module
+modulesIn bytes = each (λ i m. moduleAt (modulesPlace + 4 * i) bytes) (replicate 8 blank)
+
+unfoldable pub decoded : List ℕ → State
+decoded bytes =
+    record {
+      watch = record { mode = modeFrom (byteAt 1 bytes) (byteAt 2 bytes) (longAt 3 bytes); control = byteAt 7 bytes; beacon = wordAt 8 bytes };
+      antennas = eqb (byteAt 10 bytes) 1;
+      battery = record { tension = wordAt 11 bytes; ascend = wordAt 13 bytes; descend = wordAt 15 bytes };
+      serials = record { ground = wordAt 17 bytes; payload = wordAt 19 bytes };
+      modules = modulesIn bytes;
+    }
+
+-- the state of an image: the one that its fields say, if its save is this image; no other bytes have a state
+unfoldable pub loaded : List ℕ → Option State
+loaded bytes = if alike (saved (decoded bytes)) bytes then some (decoded bytes) else none
+
+-- what the code has found
+abbrev pub found : Loaded → Option State
+found r = if r .ok then some (r .state) else none
