@@ -46,12 +46,31 @@ abbrev pub wordAt : ℕ → List ℕ → ℕ
 wordAt i bytes = word (byteAt i bytes) (byteAt (i + 1) bytes)
 
 -- origin is 1 (ground, through MCS) or 2 (the payload)
+abbrev pub groundOrigin : ℕ
+groundOrigin = 1
+
+abbrev pub payloadOrigin : ℕ
+payloadOrigin = 2
+
 abbrev pub originFrom : ℕ → Origin
-originFrom byte = if eqb byte 1 then Ground else Payload
+originFrom byte = if eqb byte groundOrigin then Ground else Payload
+
+-- modules are 0 to 7; the payload's own is 4
+abbrev pub lastModule : ℕ
+lastModule = 7
+
+abbrev pub payloadModule : ℕ
+payloadModule = 4
 
 -- millivolts, 5,000 to 9,000
+abbrev pub lowestReading : ℕ
+lowestReading = 5000
+
+abbrev pub highestReading : ℕ
+highestReading = 9000
+
 abbrev pub isReading : ℕ → Bool
-isReading millivolts = within 5000 9000 millivolts
+isReading millivolts = within lowestReading highestReading millivolts
 
 -- thresholds lie in 5,000 to 9,000 with descend at most ascend
 abbrev pub areThresholds : (ascend descend : ℕ) → Bool
@@ -71,16 +90,16 @@ antennasFields bytes = if leb (byteAt 1 bytes) 1 then Accepted (Antennas (eqb (b
 -- origin, serial (2), module 0 to 7, wanted 0 off or 1 on; origin 2 orders module 4 alone
 unfoldable pub orderFields : List ℕ → Reading
 orderFields bytes =
-    if within 1 2 (byteAt 1 bytes) && leb (byteAt 4 bytes) 7 && leb (byteAt 5 bytes) 1 then
-    (if eqb (byteAt 1 bytes) 2 && not (eqb (byteAt 4 bytes) 4) then Refused NotPermitted else
+    if within groundOrigin payloadOrigin (byteAt 1 bytes) && leb (byteAt 4 bytes) lastModule && leb (byteAt 5 bytes) 1 then
+    (if eqb (byteAt 1 bytes) payloadOrigin && not (eqb (byteAt 4 bytes) payloadModule) then Refused NotPermitted else
     Accepted (Order (originFrom (byteAt 1 bytes)) (wordAt 2 bytes) (byteAt 4 bytes) (eqb (byteAt 5 bytes) 1)))
     else Refused FieldOutside
 
 -- origin, serial (2), ascend (2), descend (2); never from origin 2
 unfoldable pub thresholdsFields : List ℕ → Reading
 thresholdsFields bytes =
-    if within 1 2 (byteAt 1 bytes) && areThresholds (wordAt 4 bytes) (wordAt 6 bytes) then
-    (if eqb (byteAt 1 bytes) 2 then Refused NotPermitted else
+    if within groundOrigin payloadOrigin (byteAt 1 bytes) && areThresholds (wordAt 4 bytes) (wordAt 6 bytes) then
+    (if eqb (byteAt 1 bytes) payloadOrigin then Refused NotPermitted else
     Accepted (Thresholds (wordAt 2 bytes) (wordAt 4 bytes) (wordAt 6 bytes)))
     else Refused FieldOutside
 

@@ -7,6 +7,7 @@ pub mod Calls
 pub mod RangeTick
 pub mod InRange
 pub mod KeyerRefusals
+pub mod BeaconRefusals
 pub mod Refusals
 pub mod Deployment
 pub mod ModuleLaws

@@ -25,6 +25,7 @@ use Rattle.promises.specs.History.{Call, answered, bears}
 use Rattle.promises.specs.Refusals.{Refusals, Untouched, Reported, SerialUsed}
 use Rattle.promises.proofs.TickLaws.{ticked-done}
 use Rattle.promises.proofs.DateLaws.{Dated, Dates, undated, dates, act-dates, unrefused, zero-or-ten, own-serial}
+use Rattle.promises.proofs.BeaconRefusals.{beacon-keeps}
 use Rattle.promises.proofs.KeyerRefusals.{keying-keeps, reading-keeps}
 use Rattle.promises.proofs.Calls.{Comes, stopped, second, other, comes}
 
@@ -87,4 +88,5 @@ refusals =
       ten = λ s c. used s c (comes s c);
       keying = λ text room. keying-keeps room text;
       reading = reading-keeps;
+      beacon = λ form s room. beacon-keeps room form s;
     }

@@ -16,6 +16,8 @@ use Rattle.morse.specs.Answers.{Reply, Outcome}
 use Rattle.morse.specs.Keying.{keyOf, keyReply}
 use Rattle.morse.specs.Reading.{Read, readReply}
 use Rattle.morse.specs.declared.reading.Heard.{Heard}
+use Rattle.beacon.specs.Writing.{beaconOf, writtenReply}
+use Rattle.beacon.specs.declared.text.Form.{Form}
 use Rattle.promises.specs.History.{Call, called, answered, bears}
 
 -- nothing was moved, and nothing written
@@ -53,3 +55,7 @@ pub record Refusals : Type 0 where
   pub reading :
       (units room : List ℕ) (left : Outcome Heard) → Read units room left → T (within 14 15 (readReply (left .answer) .number)) →
       Unwritten (readReply (left .answer)) room (left .room)
+  -- the beacon's text
+  pub beacon :
+      (form : Form) (s : State) (room : List ℕ) → T (within 1 14 (writtenReply (beaconOf form s room .answer) .number)) →
+      Unwritten (writtenReply (beaconOf form s room .answer)) room (beaconOf form s room .room)

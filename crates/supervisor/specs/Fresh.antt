@@ -1,5 +1,6 @@
 -- The fresh start.
 -- Assumes nothing.
+use Prim.Native.Nat.{ℕ}
 use mathlib.Core.Bool.{Bool, true, false}
 use mathlib.Core.List.{List, [], _∷_}
 use Rattle.modules.specs.Power.{fullTries}
@@ -19,13 +20,20 @@ freshModules =
     offRequested true ∷ offRequested true ∷ offRequested true ∷ offRequested false
     ∷ offRequested false ∷ offRequested true ∷ offRequested false ∷ offRequested false ∷ []
 
+-- the thresholds at the start
+abbrev pub freshAscend : ℕ
+freshAscend = 7400
+
+abbrev pub freshDescend : ℕ
+freshDescend = 7000
+
 -- DEPLOY_WAIT, waited 0 seconds, antennas folded, tension 0, ascend 7,400, descend 7,000, both counts 0, both last serials 0
 unfoldable pub freshState : State
 freshState =
     record {
       watch = record { mode = DeployWait (Waiting 0); control = 0; beacon = 0 };
       antennas = false;
-      battery = record { tension = 0; ascend = 7400; descend = 7000 };
+      battery = record { tension = 0; ascend = freshAscend; descend = freshDescend };
       serials = record { ground = 0; payload = 0 };
       modules = freshModules;
     }

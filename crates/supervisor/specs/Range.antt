@@ -25,9 +25,12 @@ settleSeconds = 900
 abbrev pub judgeTicks : ℕ
 judgeTicks = 30
 
--- the ticks from one basic beacon to the next
+-- the ticks from one basic beacon to the next, and from one complete beacon to the next
 abbrev pub basicTicks : ℕ
 basicTicks = 300
+
+abbrev pub completeTicks : ℕ
+completeTicks = 60
 
 -- tension 0 (no reading yet) is the only value outside 5,000 to 9,000
 abbrev pub batteryInRange : Battery → Bool

@@ -6,7 +6,7 @@ use Rattle.modules.specs.Masks.{masksOf}
 use Rattle.modules.specs.declared.masks.Masks.{Masks}
 use Rattle.frames.specs.Answer.{answerNumber}
 use Rattle.supervisor.specs.State.{modeNumber}
-use Rattle.frames.specs.Frame.{tickKind, batteryKind, antennasKind, orderKind, thresholdsKind}
+use Rattle.frames.specs.Frame.{tickKind, batteryKind, antennasKind, orderKind, thresholdsKind, groundOrigin, payloadOrigin}
 use Rattle.frames.specs.declared.serial.Origin.{Origin}
 use Rattle.frames.specs.declared.serial.Origin.the-variants.{Ground, Payload}
 use Rattle.supervisor.specs.declared.tick.Due.{Due}
@@ -24,8 +24,8 @@ abbrev pub reportKind : ℕ
 reportKind = 0x81
 
 abbrev pub originNumber : Origin → ℕ
-originNumber Ground = 1
-originNumber Payload = 2
+originNumber Ground = groundOrigin
+originNumber Payload = payloadOrigin
 
 -- beacon: 0 none, 1 basic, 2 complete
 abbrev pub dueNumber : Due → ℕ

@@ -6,7 +6,7 @@ use lib.Dec.{ltb, eqb}
 use Rattle.choice.specs.Choice.{if_then_else_}
 use Rattle.modules.specs.Stage.{stageOf, requestedBy}
 use Rattle.supervisor.specs.State.{coreFour, missionFour, withMode, withControl, withBeacon, withModules}
-use Rattle.supervisor.specs.Range.{waitSeconds, settleSeconds, judgeTicks, basicTicks}
+use Rattle.supervisor.specs.Range.{waitSeconds, settleSeconds, judgeTicks, basicTicks, completeTicks}
 use Rattle.supervisor.specs.Acted.{done, doneWith}
 use Rattle.supervisor.specs.declared.state.Phase.{Phase}
 use Rattle.supervisor.specs.declared.state.Phase.the-variants.{Waiting, Settling}
@@ -80,7 +80,7 @@ moduleStage shorts s = withModules (stageOf (allowedIn (s .watch .mode)) shorts 
 abbrev pub dueAt : Mode → (count : ℕ) → Due
 dueAt (DeployWait phase) count = Nothing
 dueAt Recovery count = if eqb count basicTicks then Basic else Nothing
-dueAt Safe count = if eqb (count % 60) 0 then Complete else Nothing
+dueAt Safe count = if eqb (count % completeTicks) 0 then Complete else Nothing
 
 -- the count returns to 0 where one is due
 abbrev pub countAfter : Due → ℕ → ℕ

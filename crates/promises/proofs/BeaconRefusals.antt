@@ -1,0 +1,28 @@
+-- A refusal of the beacon's text writes nothing.
+-- Assumes nothing.
+use Prim.Native.Nat.{ℕ}
+use mathlib.Core.Path.{refl}
+use mathlib.Core.List.{List}
+use lib.Dec.{T, ltb}
+use lib.ListN.{length}
+use Rattle.choice.specs.Choice.{within}
+use Rattle.choice.proofs.ChoiceLaws.{either}
+use Rattle.morse.specs.Answers.{Outcome}
+use Rattle.supervisor.specs.Range.{inRange}
+use Rattle.supervisor.specs.declared.state.State.{State}
+use Rattle.beacon.specs.Text.{textOf}
+use Rattle.beacon.specs.Writing.{beaconOf, writtenReply}
+use Rattle.beacon.specs.declared.text.Form.{Form}
+use Rattle.beacon.specs.declared.writing.Written.{Written}
+use Rattle.promises.specs.Refusals.{Unwritten}
+
+module _ (room : List ℕ) where
+  abbrev Keeps : Outcome Written → Type 0
+  Keeps left = T (within 1 14 (writtenReply (left .answer) .number)) → Unwritten (writtenReply (left .answer)) room (left .room)
+
+  pub beacon-keeps : (form : Form) (s : State) → Keeps (beaconOf form s room)
+  unfolding beaconOf
+  beacon-keeps form s =
+      either Keeps (inRange s)
+      (either Keeps (ltb (length room) (length (textOf form s))) (λ t. record { count = refl; room = refl }) (λ t. absurd t))
+      (λ t. record { count = refl; room = refl })
