@@ -21,7 +21,8 @@ use Rattle.supervisor.specs.Range.{inRange}
 use Rattle.supervisor.specs.declared.state.Mode.{Mode}
 use Rattle.supervisor.specs.declared.state.Mode.the-variants.{DeployWait, Recovery, Safe}
 use Rattle.supervisor.specs.declared.state.State.{State}
-use Rattle.beacon.specs.Text.{modeLetter, figure, hexDigit, basicText, completeText, textOf}
+use Rattle.choice.specs.Bytes.{hexDigit}
+use Rattle.beacon.specs.Text.{modeLetter, figure, basicText, completeText, textOf}
 use Rattle.beacon.specs.declared.text.Form.{Form}
 use Rattle.beacon.specs.declared.text.Form.the-variants.{Basic, Complete}
 use Rattle.beacon.proofs.RangeLaws.{in-range-parts, tension-most}

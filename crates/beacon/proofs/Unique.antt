@@ -1,13 +1,15 @@
 -- The outcome of each public call is unique: no second outcome satisfies its contract.
 -- `basic` and `complete` are the two forms of the one below. Assumes nothing.
-use mathlib.Core.Path.{_≡_, sym, _∙_}
+use mathlib.Core.Path.{_≡_}
 use mathlib.Core.List.{List}
 use Prim.Native.Nat.{ℕ}
+use Rattle.choice.specs.Unique.{Unique}
+use Rattle.choice.proofs.UniqueLaws.{by-equation}
 use Rattle.morse.specs.Answers.{Outcome}
 use Rattle.supervisor.specs.declared.state.State.{State}
 use Rattle.beacon.specs.Writing.{beaconOf}
 use Rattle.beacon.specs.declared.text.Form.{Form}
 use Rattle.beacon.specs.declared.writing.Written.{Written}
 
-pub one-beacon : (form : Form) (s : State) (room : List ℕ) (a b : Outcome Written) → a ≡ beaconOf form s room → b ≡ beaconOf form s room → a ≡ b
-one-beacon form s room a b p q = p ∙ sym q
+pub one-beacon : (form : Form) (s : State) (room : List ℕ) → Unique (λ (o : Outcome Written). o ≡ beaconOf form s room)
+one-beacon form s room = by-equation (beaconOf form s room)

@@ -1,9 +1,8 @@
 -- The beacon's text, of a state.
 -- Assumes nothing.
-use Prim.Native.Nat.{ℕ, _+_, _-_, _/_, _%_}
+use Prim.Native.Nat.{ℕ, _+_, _/_, _%_}
 use mathlib.Core.List.{List, [], _∷_, _++_}
-use lib.Dec.{ltb}
-use Rattle.choice.specs.Choice.{if_then_else_}
+use Rattle.choice.specs.Bytes.{twoHex}
 use Rattle.modules.specs.Masks.{masksOf}
 use Rattle.supervisor.specs.declared.state.Mode.{Mode}
 use Rattle.supervisor.specs.declared.state.Mode.the-variants.{DeployWait, Recovery, Safe}
@@ -31,14 +30,6 @@ figure n = 48 + n
 -- four digits
 abbrev pub fourDigits : ℕ → List ℕ
 fourDigits n = figure (n / 1000) ∷ figure (n / 100 % 10) ∷ figure (n / 10 % 10) ∷ figure (n % 10) ∷ []
-
--- an upper-case hex digit: 0 to 9, then A to F
-abbrev pub hexDigit : ℕ → ℕ
-hexDigit n = if ltb n 10 then figure n else 65 + (n - 10)
-
--- two upper-case hex digits
-abbrev pub twoHex : ℕ → List ℕ
-twoHex n = hexDigit (n / 16) ∷ hexDigit (n % 16) ∷ []
 
 -- basic: `EMS `, the mode's letter, a space, the tension in four digits
 unfoldable pub basicText : State → List ℕ

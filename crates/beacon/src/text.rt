@@ -1,7 +1,8 @@
 // The bytes of the beacon's text: the basic one is the front of the complete one.
 ghost use mathlib.Core.Path.{_≡_};
 ghost use Prim.Native.Nat.{_<_};
-ghost use Rattle.beacon.specs.Text.{modeLetter, hexDigit, formBytes, completeText};
+ghost use Rattle.choice.specs.Bytes.{hexDigit};
+ghost use Rattle.beacon.specs.Text.{modeLetter, formBytes, completeText};
 use modules::masks::masks_of;
 use supervisor::state::Mode;
 use supervisor::state::State;

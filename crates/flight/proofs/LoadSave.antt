@@ -14,11 +14,11 @@ use Rattle.modules.specs.declared.power.Module.{Module}
 use Rattle.supervisor.specs.State.{withModules}
 use Rattle.supervisor.specs.Range.{inRange}
 use Rattle.supervisor.specs.declared.state.State.{State}
-use Rattle.flight.specs.Fields.{alike}
+use Rattle.choice.specs.Bytes.{alike}
 use Rattle.flight.specs.Saving.{imageBytes, saved}
 use Rattle.flight.specs.Loading.{modulesIn, decoded, loaded, found}
 use Rattle.flight.specs.declared.loading.Loaded.{Loaded}
-use Rattle.flight.proofs.FieldsLaws.{alike-eq, alike-refl, alike-not}
+use Rattle.choice.proofs.BytesLaws.{alike-eq, alike-refl, alike-not}
 use Rattle.flight.proofs.SavingLaws.{length-saved}
 use Rattle.flight.proofs.LoadingLaws.{length-in, decoded-saved}
 

@@ -1,9 +1,8 @@
 -- Numbers as bytes, the high byte first, and tests as 0 or 1.
 -- Assumes nothing.
 use Prim.Native.Nat.{ℕ, _+_, _*_, _/_, _%_}
-use mathlib.Core.Bool.{Bool, true, false, _&&_}
+use mathlib.Core.Bool.{Bool, true, false}
 use mathlib.Core.List.{List, [], _∷_, _++_}
-use lib.Dec.{eqb}
 use Rattle.frames.specs.Frame.{wordAt}
 
 abbrev pub flag : Bool → ℕ
@@ -21,10 +20,3 @@ longBytes n = wordBytes (n / 65536) ++ wordBytes (n % 65536)
 -- the four-byte number at i
 abbrev pub longAt : ℕ → List ℕ → ℕ
 longAt i bytes = wordAt i bytes * 65536 + wordAt (i + 2) bytes
-
--- whether two lists of bytes are the same
-unfoldable pub alike : List ℕ → List ℕ → Bool
-alike [] [] = true
-alike [] (y ∷ ys) = false
-alike (x ∷ xs) [] = false
-alike (x ∷ xs) (y ∷ ys) = eqb x y && alike xs ys

@@ -16,7 +16,8 @@ use Rattle.supervisor.specs.declared.state.Phase.the-variants.{Waiting, Settlin
 use Rattle.supervisor.specs.declared.state.Mode.{Mode}
 use Rattle.supervisor.specs.declared.state.Mode.the-variants.{DeployWait, Recovery, Safe}
 use Rattle.supervisor.specs.declared.state.State.{State}
-use Rattle.flight.specs.Fields.{longAt, alike}
+use Rattle.choice.specs.Bytes.{alike}
+use Rattle.flight.specs.Fields.{longAt}
 use Rattle.flight.specs.Saving.{modulesPlace, saved}
 use Rattle.flight.specs.declared.loading.Loaded.{Loaded}
 

@@ -1,12 +1,13 @@
 -- Numbers as text, in ASCII, and text stored in a room.
 -- Assumes nothing.
-use Prim.Native.Nat.{ℕ, zero, suc, _+_, _/_, _%_, _≤_}
+use Prim.Native.Nat.{ℕ, zero, suc, _+_, _/_, _≤_}
 use mathlib.Core.Path.{_≡_}
-use mathlib.Core.List.{List, [], _∷_}
+use mathlib.Core.List.{List, _∷_}
 use lib.Dec.{ltb}
 use lib.ListN.{length}
 use lib.Seq.{sets}
 use Rattle.io.specs.Digits.{digits}
+use Rattle.choice.specs.Bytes.{twoHex}
 use Rattle.choice.specs.Choice.{if_then_else_}
 
 -- the decimal digits of the largest number of 64 bits
@@ -22,13 +23,9 @@ digitCountUpTo (suc more) n = if ltb n 10 then 1 else suc (digitCountUpTo more (
 unfoldable pub decimal : ℕ → List ℕ
 decimal n = digits 10 (digitCountUpTo 19 n) n
 
--- a digit below 16: `0` to `9`, then `A` to `F`
-abbrev pub hexDigit : ℕ → ℕ
-hexDigit d = if ltb d 10 then 48 + d else 55 + d
-
 -- a byte as two upper-case hex digits
 unfoldable pub hex : ℕ → List ℕ
-hex byte = hexDigit (byte / 16) ∷ hexDigit (byte % 16) ∷ []
+hex byte = twoHex byte
 
 abbrev pub space : ℕ
 space = 32

@@ -3,7 +3,8 @@ ghost use mathlib.Core.Path.{_≡_};
 ghost use Prim.Native.Nat.{_+_, _<_, _≤_};
 ghost use lib.ListN.{length};
 ghost use Rattle.choice.specs.Choice.{word};
-ghost use Rattle.log.specs.Text.{mostDigits, decimal, hexDigit, hex, spaced, mostNumber, mostHex, Put};
+ghost use Rattle.choice.specs.Bytes.{hexDigit};
+ghost use Rattle.log.specs.Text.{mostDigits, decimal, hex, spaced, mostNumber, mostHex, Put};
 
 // Bytes as they are.
 pub(crate) fn put_bytes(room: &mut [u8], at: usize, text: &[u8]) -> usize

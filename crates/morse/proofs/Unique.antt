@@ -1,12 +1,15 @@
 -- The outcome of each public call is unique: no second outcome satisfies its contract.
 -- Assumes nothing.
 use mathlib.Core.Path.{_≡_, refl, sym, _∙_, subst}
-use mathlib.Core.Bool.{Bool, true, false, _&&_}
+use mathlib.Core.Bool.{Bool, true, false}
 use mathlib.Core.Logic.{_⊎_, inl, inr, ⊎-elim}
-use mathlib.Core.List.{List, [], _∷_}
+use mathlib.Core.List.{List}
 use Prim.Native.Nat.{ℕ}
-use lib.Dec.{T, eqb, eqb→eq, eqb-refl}
-use Rattle.choice.proofs.ChoiceLaws.{and-left, and-right, and-both}
+use lib.Dec.{T, eqb}
+use Rattle.choice.specs.Bytes.{alike}
+use Rattle.choice.specs.Unique.{Unique}
+use Rattle.choice.proofs.BytesLaws.{alike-eq, alike-refl}
+use Rattle.choice.proofs.UniqueLaws.{by-equation}
 use Rattle.morse.specs.declared.keying.Keyed.{Keyed}
 use Rattle.morse.specs.declared.reading.Heard.{Heard}
 use Rattle.morse.specs.declared.texts.Fault.{Fault}
@@ -19,31 +22,11 @@ use Rattle.morse.specs.Reading.{Keys, Read}
 use Rattle.morse.proofs.TextsLaws.{is-fair}
 use Rattle.morse.proofs.ReadingLaws.{heard-text}
 
-pub one-fault : (text : List ℕ) (f g : Fault) → f ≡ faultOf text → g ≡ faultOf text → f ≡ g
-one-fault text f g p q = p ∙ sym q
+pub one-fault : (text : List ℕ) → Unique (λ (f : Fault). f ≡ faultOf text)
+one-fault text = by-equation (faultOf text)
 
-pub one-keying : (text room : List ℕ) (a b : Outcome Keyed) → a ≡ keyOf text room → b ≡ keyOf text room → a ≡ b
-one-keying text room a b p q = p ∙ sym q
-
--- whether two lists of bytes are the same
-abbrev alike : List ℕ → List ℕ → Bool
-alike [] [] = true
-alike [] (y ∷ ys) = false
-alike (x ∷ xs) [] = false
-alike (x ∷ xs) (y ∷ ys) = eqb x y && alike xs ys
-
-alike-eq : (xs ys : List ℕ) → T (alike xs ys) → xs ≡ ys
-alike-eq [] [] t = refl
-alike-eq [] (y ∷ ys) t = absurd t
-alike-eq (x ∷ xs) [] t = absurd t
-alike-eq (x ∷ xs) (y ∷ ys) t =
-    let e = eqb→eq x y (and-left (eqb x y) (alike xs ys) t) in
-    let r = alike-eq xs ys (and-right (eqb x y) (alike xs ys) t) in
-    cc
-
-alike-refl : (xs : List ℕ) → T (alike xs xs)
-alike-refl [] = tt
-alike-refl (x ∷ xs) = and-both (eqb x x) (alike xs xs) (eqb-refl x) (alike-refl xs)
+pub one-keying : (text room : List ℕ) → Unique (λ (o : Outcome Keyed). o ≡ keyOf text room)
+one-keying text room = by-equation (keyOf text room)
 
 -- units are the keying of a text, or they are not
 keys-or-not : (text units : List ℕ) → Keys text units ⊎ (Keys text units → ⊥)
@@ -54,7 +37,7 @@ keys-or-not text units = by-tests (eqb (faultNumber (faultOf text)) 0) refl (ali
     by-tests true p false q = inr (λ k. subst T q (subst (λ (v : List ℕ). T (alike (unitsOf text) v)) (k .same) (alike-refl (unitsOf text))))
     by-tests false p b q = inr (λ k. subst T (rw (k .passes) at p) tt)
 
-pub one-reading : (units room : List ℕ) (a b : Outcome Heard) → Read units room a → Read units room b → a ≡ b
+pub one-reading : (units room : List ℕ) → Unique (λ (o : Outcome Heard). Read units room o)
 one-reading units room a b p q = ⊎-elim by-text by-none (keys-or-not (heard units) units)
   where
     by-text : Keys (heard units) units → a ≡ b

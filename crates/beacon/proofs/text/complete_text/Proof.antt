@@ -1,6 +1,6 @@
 -- `beacon::text::complete_text` meets its contract: each byte is the rule's.
-use Rattle.beacon.specs.Text.{basicText, completeText}
 use borrow.Author.Needs.{needs}
+use Rattle.beacon.specs.Text.{basicText, completeText}
 use Rattle.beacon.proofs.text.complete_text.Statement.{statement}
 use Rattle.beacon.proofs.text.complete_text.Tie as tie
 

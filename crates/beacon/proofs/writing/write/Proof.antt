@@ -4,10 +4,10 @@ use Prim.Native.Nat.{_-_}
 use native.Mathlib.Omega.{arith}
 use lib.ListN.{take}
 use borrow.Author.Tests.{not-true, not-false}
+use borrow.Author.Needs.{needs}
 use Rattle.beacon.specs.Text.{completeText, formBytes}
 use Rattle.beacon.proofs.TextLaws.{form-most, text-length, text-front}
 use Rattle.beacon.proofs.WritingLaws.{beacon-outside, beacon-short, beacon-copied}
-use borrow.Author.Needs.{needs}
 use Rattle.beacon.proofs.writing.write.Statement.{statement}
 use Rattle.beacon.proofs.writing.write.Tie as tie
 

@@ -1,7 +1,7 @@
 -- `flight::calls::ems_beacon_complete` meets its contract: the answer by the page's number and length.
+use borrow.Author.Needs.{needs}
 use Rattle.beacon.specs.Writing.{writtenReply}
 use Rattle.flight.proofs.CallsLaws.{told-by}
-use borrow.Author.Needs.{needs}
 use Rattle.flight.proofs.calls.ems_beacon_complete.Statement.{statement}
 use Rattle.flight.proofs.calls.ems_beacon_complete.Tie as tie
 

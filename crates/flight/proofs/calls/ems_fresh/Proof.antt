@@ -1,7 +1,7 @@
 -- `flight::calls::ems_fresh` meets its contract: the test is the rule's.
 use borrow.Author.Tests.{eq-eqb, ne-eqb}
-use Rattle.flight.specs.Calls.{freshImage}
 use borrow.Author.Needs.{needs}
+use Rattle.flight.specs.Calls.{freshImage}
 use Rattle.flight.proofs.calls.ems_fresh.Statement.{statement}
 use Rattle.flight.proofs.calls.ems_fresh.Tie as tie
 

@@ -1,7 +1,7 @@
 -- `flight::calls::ems_key` meets its contract: the answer by the page's number and count.
+use borrow.Author.Needs.{needs}
 use Rattle.morse.specs.Keying.{keyReply}
 use Rattle.flight.proofs.CallsLaws.{told-by}
-use borrow.Author.Needs.{needs}
 use Rattle.flight.proofs.calls.ems_key.Statement.{statement}
 use Rattle.flight.proofs.calls.ems_key.Tie as tie
 

@@ -1,6 +1,6 @@
 -- `flight::calls::ems_read` meets its contract: the answer by the page's number and count.
-use Rattle.flight.proofs.CallsLaws.{read-told}
 use borrow.Author.Needs.{needs}
+use Rattle.flight.proofs.CallsLaws.{read-told}
 use Rattle.flight.proofs.calls.ems_read.Statement.{statement}
 use Rattle.flight.proofs.calls.ems_read.Tie as tie
 

@@ -1,7 +1,7 @@
 -- `flight::calls::ems_step` meets its contract: an image with no state is refused, any other becomes that of the next state.
+use borrow.Author.Needs.{needs}
 use Rattle.flight.proofs.LoadSave.{not-loaded, is-loaded, loaded-length}
 use Rattle.flight.proofs.CallsLaws.{step-refused, step-taken}
-use borrow.Author.Needs.{needs}
 use Rattle.flight.proofs.calls.ems_step.Statement.{statement}
 use Rattle.flight.proofs.calls.ems_step.Tie as tie
 

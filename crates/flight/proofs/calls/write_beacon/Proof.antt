@@ -1,8 +1,8 @@
 -- `flight::calls::write_beacon` meets its contract: an image with no state is refused, any other has the text of its state.
 use mathlib.Core.Path.{_∙_}
+use borrow.Author.Needs.{needs}
 use Rattle.flight.proofs.LoadSave.{not-loaded, is-loaded}
 use Rattle.flight.proofs.CallsLaws.{beacon-refused, beacon-taken}
-use borrow.Author.Needs.{needs}
 use Rattle.flight.proofs.calls.write_beacon.Statement.{statement}
 use Rattle.flight.proofs.calls.write_beacon.Tie as tie
 

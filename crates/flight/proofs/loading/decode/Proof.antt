@@ -1,6 +1,6 @@
 -- `flight::loading::decode` meets its contract: each field is the rule's.
-use Rattle.flight.specs.Loading.{decoded}
 use borrow.Author.Needs.{needs}
+use Rattle.flight.specs.Loading.{decoded}
 use Rattle.flight.proofs.loading.decode.Statement.{statement}
 use Rattle.flight.proofs.loading.decode.Tie as tie
 

@@ -1,7 +1,7 @@
 -- `flight::loading::is_head` meets its contract: thirteen numbers compared are twenty-one bytes compared.
 use native.Mathlib.Omega.{arith}
-use Rattle.flight.proofs.ComparedLaws.{head-alike}
 use borrow.Author.Needs.{needs}
+use Rattle.flight.proofs.ComparedLaws.{head-alike}
 use Rattle.flight.proofs.loading.is_head.Statement.{statement}
 use Rattle.flight.proofs.loading.is_head.Tie as tie
 

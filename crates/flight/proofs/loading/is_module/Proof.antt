@@ -1,6 +1,6 @@
 -- `flight::loading::is_module` meets its contract: three numbers compared are four bytes compared.
-use Rattle.flight.proofs.ComparedLaws.{module-alike}
 use borrow.Author.Needs.{needs}
+use Rattle.flight.proofs.ComparedLaws.{module-alike}
 use Rattle.flight.proofs.loading.is_module.Statement.{statement}
 use Rattle.flight.proofs.loading.is_module.Tie as tie
 

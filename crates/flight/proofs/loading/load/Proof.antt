@@ -1,9 +1,9 @@
 -- `flight::loading::load` meets its contract: what was decoded is compared with the image, and the comparison decides.
 use mathlib.Core.Path.{_≡_, ap, _∙_}
+use borrow.Author.Needs.{needs}
 use Rattle.flight.specs.Loading.{modulesIn}
 use Rattle.flight.proofs.ComparedLaws.{saved-alike}
 use Rattle.flight.proofs.LoadSave.{found-none, found-compared}
-use borrow.Author.Needs.{needs}
 use Rattle.flight.proofs.loading.load.Statement.{statement}
 use Rattle.flight.proofs.loading.load.Tie as tie
 

@@ -4,12 +4,12 @@ use mathlib.Core.Path.{_≡_, refl, _∙_}
 use mathlib.Core.Bool.{_&&_}
 use native.Mathlib.Omega.{arith}
 use lib.ListN.{drop, replicate}
+use borrow.Author.Needs.{needs}
 use Rattle.choice.proofs.EachLaws.{worked, worked-none, worked-turn, worked-all}
-use Rattle.flight.specs.Fields.{alike}
+use Rattle.choice.specs.Bytes.{alike}
 use Rattle.flight.specs.Saving.{modulesPlace, modulesBytes}
 use Rattle.flight.specs.Loading.{moduleAt, blank, modulesIn}
 use Rattle.flight.proofs.ComparedLaws.{modules-turn, modules-end}
-use borrow.Author.Needs.{needs}
 use Rattle.flight.proofs.loading.modules_in.Statement.{statement}
 use Rattle.flight.proofs.loading.modules_in.Tie as tie
 

@@ -1,6 +1,6 @@
 -- `flight::saving::head` meets its contract: each byte is the rule's.
-use Rattle.flight.specs.Saving.{headBytes}
 use borrow.Author.Needs.{needs}
+use Rattle.flight.specs.Saving.{headBytes}
 use Rattle.flight.proofs.saving.head.Statement.{statement}
 use Rattle.flight.proofs.saving.head.Tie as tie
 

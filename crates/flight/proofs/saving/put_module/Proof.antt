@@ -2,10 +2,10 @@
 use Prim.Native.Nat.{_/_, _%_}
 use native.Mathlib.Omega.{arith}
 use lib.ListN.{length-set}
+use borrow.Author.Needs.{needs}
 use Rattle.flight.specs.Fields.{flag}
 use Rattle.flight.specs.Saving.{powerNumber, powerLeft}
 use Rattle.flight.proofs.SavingLaws.{stored-module}
-use borrow.Author.Needs.{needs}
 use Rattle.flight.proofs.saving.put_module.Statement.{statement}
 use Rattle.flight.proofs.saving.put_module.Tie as tie
 

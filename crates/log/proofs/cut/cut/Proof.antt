@@ -1,7 +1,7 @@
 -- `log::cut::cut` meets its contract: the tests are those of the definition.
 use borrow.Author.Tests.{eq-eqb, ne-eqb, lt-ltb, le-ltb}
-use Rattle.log.specs.Cut.{cutOf}
 use borrow.Author.Needs.{needs}
+use Rattle.log.specs.Cut.{cutOf}
 use Rattle.log.proofs.cut.cut.Statement.{statement}
 use Rattle.log.proofs.cut.cut.Tie as tie
 

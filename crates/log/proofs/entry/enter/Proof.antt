@@ -1,9 +1,9 @@
 -- `log::entry::enter` meets its contract: each case of the cut is a case of the definition.
 use mathlib.Core.Path.{_∙_}
 use borrow.Author.Tests.{le-leb, lt-leb}
+use borrow.Author.Needs.{needs}
 use Rattle.log.specs.Entry.{enterOf}
 use Rattle.log.proofs.EntryLaws.{frame-within, enter-frame}
-use borrow.Author.Needs.{needs}
 use Rattle.log.proofs.entry.enter.Statement.{statement}
 use Rattle.log.proofs.entry.enter.Tie as tie
 

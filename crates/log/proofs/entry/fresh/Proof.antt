@@ -1,6 +1,6 @@
 -- `log::entry::fresh` meets its contract.
-use Rattle.log.specs.Entry.{freshLog}
 use borrow.Author.Needs.{needs}
+use Rattle.log.specs.Entry.{freshLog}
 use Rattle.log.proofs.entry.fresh.Statement.{statement}
 use Rattle.log.proofs.entry.fresh.Tie as tie
 

@@ -1,9 +1,9 @@
 -- `log::entry::work` meets its contract: what the step leaves is printed.
 use denote.Ref.{now}
+use borrow.Author.Needs.{needs}
 use Rattle.supervisor.specs.Step.{left}
 use Rattle.log.specs.Entry.{worked}
 use Rattle.log.proofs.EntryLaws.{printed-line, printed-refusal}
-use borrow.Author.Needs.{needs}
 use Rattle.log.proofs.entry.work.Statement.{statement}
 use Rattle.log.proofs.entry.work.Tie as tie
 

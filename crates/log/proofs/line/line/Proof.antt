@@ -1,9 +1,9 @@
 -- `log::line::line` meets its contract: one part after the other.
 use native.Mathlib.Omega.{arith}
+use borrow.Author.Needs.{needs}
 use Rattle.log.specs.Line.{lineOf}
 use Rattle.log.proofs.TextLaws.{put-length, put-both, put-one}
 use Rattle.log.proofs.LineLaws.{placed-text, placed-short}
-use borrow.Author.Needs.{needs}
 use Rattle.log.proofs.line.line.Statement.{statement}
 use Rattle.log.proofs.line.line.Tie as tie
 

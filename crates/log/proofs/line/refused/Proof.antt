@@ -1,10 +1,10 @@
 -- `log::line::refused` meets its contract: one part after the other.
 use native.Mathlib.Omega.{arith}
+use borrow.Author.Needs.{needs}
 use Rattle.log.specs.Text.{spaced}
 use Rattle.log.specs.Line.{refusedLine}
 use Rattle.log.proofs.TextLaws.{put-length, put-both, put-one}
 use Rattle.log.proofs.LineLaws.{placed-text, placed-short}
-use borrow.Author.Needs.{needs}
 use Rattle.log.proofs.line.refused.Statement.{statement}
 use Rattle.log.proofs.line.refused.Tie as tie
 

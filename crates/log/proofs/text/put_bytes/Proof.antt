@@ -1,7 +1,7 @@
 -- `log::text::put_bytes` meets its contract: what the copy leaves of the room from the place on is a run of stores.
 use denote.Ref.{now}
-use Rattle.log.proofs.TextLaws.{put-part}
 use borrow.Author.Needs.{needs}
+use Rattle.log.proofs.TextLaws.{put-part}
 use Rattle.log.proofs.text.put_bytes.Statement.{statement}
 use Rattle.log.proofs.text.put_bytes.Tie as tie
 

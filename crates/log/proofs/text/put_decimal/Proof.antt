@@ -2,8 +2,8 @@
 use mathlib.Core.Path.{_≡_, _∙_}
 use Prim.Native.Nat.{_-_}
 use native.Mathlib.Omega.{arith}
-use Rattle.log.proofs.TextLaws.{length-decimal, decimal-fewest, fewest-most, put-as}
 use borrow.Author.Needs.{needs}
+use Rattle.log.proofs.TextLaws.{length-decimal, decimal-fewest, fewest-most, put-as}
 use Rattle.log.proofs.text.put_decimal.Statement.{statement}
 use Rattle.log.proofs.text.put_decimal.Tie as tie
 

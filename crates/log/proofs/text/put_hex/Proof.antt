@@ -1,11 +1,11 @@
+-- `log::text::put_hex` meets its contract: its three stores are the text's.
 use mathlib.Core.Path.{_≡_, refl}
 use Prim.Native.Nat.{suc, _+_}
 use native.Mathlib.Numerals.{add-one}
--- `log::text::put_hex` meets its contract: its three stores are the text's.
-use Rattle.log.specs.Text.{spaced, hex}
 use native.Mathlib.Omega.{arith}
 use lib.ListN.{length-set}
 use borrow.Author.Needs.{needs}
+use Rattle.log.specs.Text.{spaced, hex}
 use Rattle.log.proofs.text.put_hex.Statement.{statement}
 use Rattle.log.proofs.text.put_hex.Tie as tie
 

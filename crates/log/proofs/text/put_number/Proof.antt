@@ -1,8 +1,8 @@
 -- `log::text::put_number` meets its contract: a space, then what put_decimal stores.
-use Rattle.log.proofs.TextLaws.{put-length, put-spaced}
 use native.Mathlib.Omega.{arith}
 use lib.ListN.{length-set}
 use borrow.Author.Needs.{needs}
+use Rattle.log.proofs.TextLaws.{put-length, put-spaced}
 use Rattle.log.proofs.text.put_number.Statement.{statement}
 use Rattle.log.proofs.text.put_number.Tie as tie
 

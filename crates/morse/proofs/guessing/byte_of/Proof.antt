@@ -1,9 +1,9 @@
 -- `morse::guessing::byte_of` meets its contract: an entry of the table is right by the table's rule.
 use lib.Dec.{eqb→eq}
 use borrow.Author.Tests.{le-ltb}
+use borrow.Author.Needs.{needs}
 use Rattle.choice.proofs.Tables.{upto}
 use Rattle.morse.specs.Guessing.{isByte, byteOf}
-use borrow.Author.Needs.{needs}
 use Rattle.morse.proofs.guessing.byte_of.Statement.{statement}
 use Rattle.morse.proofs.guessing.byte_of.Tie as tie
 

@@ -6,9 +6,9 @@ use Prim.Native.Nat.{_+_, _-_, _*_, _≤_}
 use native.Mathlib.Omega.{arith}
 use lib.ListN.{length, getD, drop, drop-of-length-le}
 use lib.Seq.{sets}
+use borrow.Author.Needs.{needs}
 use Rattle.morse.specs.Guessing.{nextEar, hear, heard}
 use Rattle.morse.proofs.GuessingLaws.{length-hear, sets-hear, spoken-most, heard-none, heard-some}
-use borrow.Author.Needs.{needs}
 use Rattle.morse.proofs.guessing.guess.Statement.{statement}
 use Rattle.morse.proofs.guessing.guess.Tie as tie
 

@@ -1,9 +1,9 @@
 -- `morse::keying::key` meets its contract: each arm is the rule's case of the fault that was found.
 use mathlib.Core.Path.{sym, _∙_}
+use borrow.Author.Needs.{needs}
 use Rattle.morse.specs.declared.texts.Fault.the-variants.{Nothing, TooLong, OutsideAlphabet, BadSpacing}
 use Rattle.morse.proofs.TextsLaws.{fair}
 use Rattle.morse.proofs.KeyingLaws.{key-by}
-use borrow.Author.Needs.{needs}
 use Rattle.morse.proofs.keying.key.Statement.{statement}
 use Rattle.morse.proofs.keying.key.Tie as tie
 

@@ -1,8 +1,8 @@
 -- `morse::keying::key_fair` meets its contract: a first count tells whether the room is long enough.
 use native.Mathlib.Omega.{arith}
+use borrow.Author.Needs.{needs}
 use Rattle.morse.specs.Units.{unitsOf}
 use Rattle.morse.proofs.KeyingLaws.{key-short, key-stored}
-use borrow.Author.Needs.{needs}
 use Rattle.morse.proofs.keying.key_fair.Statement.{statement}
 use Rattle.morse.proofs.keying.key_fair.Tie as tie
 

@@ -5,11 +5,11 @@ use mathlib.Core.Logic.{⊎-elim}
 use Prim.Native.Nat.{_-_}
 use native.Mathlib.Omega.{arith}
 use lib.ListN.{replicate}
+use borrow.Author.Needs.{needs}
 use Rattle.morse.specs.Units.{unitsOf}
 use Rattle.morse.proofs.TextsLaws.{fair}
 use Rattle.morse.proofs.UnitsLaws.{units-most}
 use Rattle.morse.proofs.ReadingLaws.{front}
-use borrow.Author.Needs.{needs}
 use Rattle.morse.proofs.reading.keys.Statement.{statement}
 use Rattle.morse.proofs.reading.keys.Tie as tie
 

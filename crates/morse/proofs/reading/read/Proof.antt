@@ -4,10 +4,10 @@ use mathlib.Core.Bool.{true≢false}
 use Prim.Native.Nat.{_-_}
 use native.Mathlib.Omega.{arith}
 use lib.ListN.{replicate}
+use borrow.Author.Needs.{needs}
 use Rattle.morse.specs.Guessing.{heard}
 use Rattle.morse.proofs.TextsLaws.{fair}
 use Rattle.morse.proofs.ReadingLaws.{front, read-none, read-short, read-copied}
-use borrow.Author.Needs.{needs}
 use Rattle.morse.proofs.reading.read.Statement.{statement}
 use Rattle.morse.proofs.reading.read.Tie as tie
 

@@ -3,10 +3,10 @@ use mathlib.Core.Path.{_≡_, ap, sym, _∙_}
 use Prim.Native.Nat.{_+_, _-_}
 use native.Mathlib.Omega.{arith}
 use borrow.Author.Tests.{lt-ltb, le-ltb}
+use borrow.Author.Needs.{needs}
 use Rattle.morse.specs.Signs.{signOf}
 use Rattle.morse.specs.SignTable.{marksOf, byteAt}
 use Rattle.morse.proofs.SignsLaws.{range, entry-right, no-sign}
-use borrow.Author.Needs.{needs}
 use Rattle.morse.proofs.signs.sign_of.Statement.{statement}
 use Rattle.morse.proofs.signs.sign_of.Tie as tie
 

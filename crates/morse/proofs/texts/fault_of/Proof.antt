@@ -2,9 +2,9 @@
 use mathlib.Core.Path.{_≡_, sym, ap, _∙_}
 use mathlib.Core.Bool.{true, false}
 use borrow.Author.Tests.{lt-ltb, le-ltb, not-true, not-false}
+use borrow.Author.Needs.{needs}
 use Rattle.morse.specs.Texts.{allKnown, faultOf}
 use Rattle.morse.proofs.TextsLaws.{fault-spacing, fault-seen, empty-spaced}
-use borrow.Author.Needs.{needs}
 use Rattle.morse.proofs.texts.fault_of.Statement.{statement}
 use Rattle.morse.proofs.texts.fault_of.Tie as tie
 

@@ -1,10 +1,10 @@
 -- `morse::texts::is_known` meets its contract: a byte has a sign where the sign has marks.
 use mathlib.Core.Path.{_∙_, ap}
 use mathlib.Core.Bool.{_||_}
+use borrow.Author.Needs.{needs}
 use Rattle.morse.specs.Signs.{signed}
 use Rattle.morse.specs.Texts.{isSpace}
 use Rattle.morse.proofs.TextsLaws.{signed-len}
-use borrow.Author.Needs.{needs}
 use Rattle.morse.proofs.texts.is_known.Statement.{statement}
 use Rattle.morse.proofs.texts.is_known.Tie as tie
 

@@ -5,10 +5,10 @@ use mathlib.Core.List.{[]}
 use Prim.Native.Nat.{_+_, _-_, _≤_}
 use native.Mathlib.Omega.{arith}
 use lib.ListN.{length, getD, drop, drop-of-length-le}
+use borrow.Author.Needs.{needs}
 use Rattle.morse.specs.Texts as Texts
 use Rattle.morse.specs.Texts.{allKnown, isSpace}
 use Rattle.morse.proofs.TextsLaws.{doubledAfter, known-step, doubled-step, doubled-end}
-use borrow.Author.Needs.{needs}
 use Rattle.morse.proofs.texts.look.Statement.{statement}
 use Rattle.morse.proofs.texts.look.Tie as tie
 

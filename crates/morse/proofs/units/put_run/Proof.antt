@@ -5,8 +5,8 @@ use Prim.Native.Nat.{_+_, _-_, _≤_}
 use native.Mathlib.Omega.{arith}
 use lib.ListN.{length, replicate}
 use lib.Seq.{sets}
-use Rattle.morse.proofs.UnitsLaws.{run-step}
 use borrow.Author.Needs.{needs}
+use Rattle.morse.proofs.UnitsLaws.{run-step}
 use Rattle.morse.proofs.units.put_run.Statement.{statement}
 use Rattle.morse.proofs.units.put_run.Tie as tie
 

@@ -4,10 +4,10 @@ use Prim.Native.Nat.{_+_}
 use native.Mathlib.Omega.{arith}
 use lib.ListN.{length}
 use lib.Seq.{sets}
+use borrow.Author.Needs.{needs}
 use Rattle.morse.specs.SignTable.{unpack, marksOf}
 use Rattle.morse.specs.Units.{signUnits}
 use Rattle.morse.proofs.UnitsLaws.{length-sign, sets-sign}
-use borrow.Author.Needs.{needs}
 use Rattle.morse.proofs.units.put_sign.Statement.{statement}
 use Rattle.morse.proofs.units.put_sign.Tie as tie
 

@@ -5,9 +5,9 @@ use native.Mathlib.Omega.{arith}
 use mathlib.Core.List.{[]}
 use lib.ListN.{length, drop, drop-of-length-le}
 use lib.Seq.{sets}
+use borrow.Author.Needs.{needs}
 use Rattle.morse.specs.Units.{signUnits, unitsAfter, unitsOf}
 use Rattle.morse.proofs.UnitsLaws.{length-text, sets-text, units-after-most}
-use borrow.Author.Needs.{needs}
 use Rattle.morse.proofs.units.put_text.Statement.{statement}
 use Rattle.morse.proofs.units.put_text.Tie as tie
 
