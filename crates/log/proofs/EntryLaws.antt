@@ -8,8 +8,8 @@ use native.Mathlib.Nat.{le-refl}
 use native.Mathlib.Omega.{arith}
 use borrow.Author.Tests.{le-leb, leb-true, ltb-false, eqb-false}
 use lib.Dec.{leb, eqb, ltb}
-use lib.ListN.{length, take, drop, replicate, length-drop}
-use lib.Seq.{length-take-le, take-all}
+use lib.ListN.{length, take, replicate}
+use lib.Seq.{length-take-le}
 use Rattle.choice.proofs.ChoiceLaws.{either, decided}
 use Rattle.frames.specs.Answer.{answerNumber}
 use Rattle.frames.specs.Frame.{totalOf, byteAt}
@@ -96,10 +96,6 @@ unfolding enterOf
 enter-frame log bytes ended room total h e =
     let z : total - 0 ≡ total = omega arith in
     simp (le-leb longest (length room) h, e, z)
-
--- what is left of a list from a place on
-pub length-part : {A : Type 0} (xs : List A) (at : ℕ) → length (take (length xs - at) (drop at xs)) ≡ length xs - at
-length-part xs at = rw (take-all (length xs - at) (drop at xs) (rw length-drop (le-refl (length xs - at)))) (length-drop at xs)
 
 -- what an entry counts, where the stream and the room are parts
 module _ (log : Log) (bytes : List ℕ) (ended : Bool) (room : List ℕ) {entered : Entered} {later : List ℕ} where
