@@ -8,8 +8,8 @@ use native.Mathlib.Omega.{arith}
 use lib.Dec.{T}
 use lib.ListN.{length}
 use borrow.Author.Tests.{not-true}
-use Rattle.choice.proofs.ChoiceLaws.{is-true, and-left, and-right}
-use Rattle.choice.proofs.Tables.{upto}
+use Rattle.basics.proofs.ChoiceLaws.{is-true, and-left, and-right}
+use Rattle.basics.proofs.TablesLaws.{upto}
 use Rattle.modules.specs.Power.{isOn, isFailed}
 use Rattle.modules.specs.Masks.{maskOf, masksOf}
 use Rattle.modules.specs.declared.power.Module.{Module}
@@ -21,7 +21,7 @@ use Rattle.supervisor.specs.Range.{inRange}
 use Rattle.supervisor.specs.declared.state.Mode.{Mode}
 use Rattle.supervisor.specs.declared.state.Mode.the-variants.{DeployWait, Recovery, Safe}
 use Rattle.supervisor.specs.declared.state.State.{State}
-use Rattle.choice.specs.Bytes.{hexDigit}
+use Rattle.basics.specs.Bytes.{hexDigit}
 use Rattle.beacon.specs.Text.{modeLetter, figure, basicText, completeText, textOf}
 use Rattle.beacon.specs.declared.text.Form.{Form}
 use Rattle.beacon.specs.declared.text.Form.the-variants.{Basic, Complete}

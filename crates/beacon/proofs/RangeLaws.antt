@@ -6,7 +6,7 @@ use mathlib.Core.Path.{_≡_, refl}
 use mathlib.Core.Bool.{Bool, true, false, _&&_, _||_}
 use lib.Dec.{T, eqb}
 use borrow.Author.Tests.{eqb-true}
-use Rattle.choice.proofs.ChoiceLaws.{holds, and-left, and-right, within-high}
+use Rattle.basics.proofs.ChoiceLaws.{holds, and-left, and-right, within-high}
 use Rattle.modules.specs.Stage.{modulesInRange}
 use Rattle.frames.specs.Frame.{isReading, areThresholds}
 use Rattle.supervisor.specs.Range.{batteryInRange, watchInRange, inRange}

@@ -3,8 +3,8 @@
 use mathlib.Core.Path.{_≡_}
 use mathlib.Core.List.{List}
 use Prim.Native.Nat.{ℕ}
-use Rattle.choice.specs.Unique.{Unique}
-use Rattle.choice.proofs.UniqueLaws.{by-equation}
+use Rattle.basics.specs.Unique.{Unique}
+use Rattle.basics.proofs.UniqueLaws.{by-equation}
 use Rattle.morse.specs.Answers.{Outcome}
 use Rattle.supervisor.specs.declared.state.State.{State}
 use Rattle.beacon.specs.Writing.{beaconOf, writtenReply}

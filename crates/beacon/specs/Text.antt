@@ -2,7 +2,7 @@
 -- Assumes nothing.
 use Prim.Native.Nat.{ℕ, _+_, _/_, _%_}
 use mathlib.Core.List.{List, [], _∷_, _++_}
-use Rattle.choice.specs.Bytes.{twoHex}
+use Rattle.basics.specs.Bytes.{twoHex}
 use Rattle.modules.specs.Masks.{masksOf}
 use Rattle.supervisor.specs.declared.state.Mode.{Mode}
 use Rattle.supervisor.specs.declared.state.Mode.the-variants.{DeployWait, Recovery, Safe}

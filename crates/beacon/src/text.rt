@@ -1,7 +1,7 @@
 // The bytes of the beacon's text: the basic one is the front of the complete one.
 ghost use mathlib.Core.Path.{_≡_};
 ghost use Prim.Native.Nat.{_<_};
-ghost use Rattle.choice.specs.Bytes.{hexDigit};
+ghost use Rattle.basics.specs.Bytes.{hexDigit};
 ghost use Rattle.beacon.specs.Text.{modeLetter, formBytes, completeText};
 use modules::masks::masks_of;
 use supervisor::state::Mode;

@@ -14,7 +14,7 @@ use Rattle.modules.specs.declared.power.Module.{Module}
 use Rattle.supervisor.specs.State.{modeNumber}
 use Rattle.frames.specs.Frame.{byteAt, wordAt}
 use Rattle.supervisor.specs.declared.state.State.{State}
-use Rattle.choice.specs.Bytes.{alike}
+use Rattle.basics.specs.Bytes.{alike}
 use Rattle.flight.specs.Fields.{flag}
 use Rattle.flight.specs.Saving.{layoutVersion, imageBytes, modulesPlace, phaseNumber, phaseSeconds, powerNumber, powerLeft, moduleBytes, modulesBytes, headBytes, saved}
 use Rattle.flight.specs.Loading.{moduleAt, blank, modulesIn}

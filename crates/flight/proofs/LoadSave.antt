@@ -8,17 +8,17 @@ use mathlib.Core.List.{List}
 use mathlib.Core.Option.{none, some}
 use borrow.Author.Tests.{not-true, not-false}
 use lib.ListN.{length}
-use Rattle.choice.specs.Choice.{if_then_else_}
-use Rattle.choice.proofs.ChoiceLaws.{is-true, holds}
+use Rattle.basics.specs.Choice.{if_then_else_}
+use Rattle.basics.proofs.ChoiceLaws.{is-true, holds}
 use Rattle.modules.specs.declared.power.Module.{Module}
 use Rattle.supervisor.specs.State.{withModules}
 use Rattle.supervisor.specs.Range.{inRange}
 use Rattle.supervisor.specs.declared.state.State.{State}
-use Rattle.choice.specs.Bytes.{alike}
+use Rattle.basics.specs.Bytes.{alike}
 use Rattle.flight.specs.Saving.{imageBytes, saved}
 use Rattle.flight.specs.Loading.{modulesIn, decoded, loaded, found}
 use Rattle.flight.specs.declared.loading.Loaded.{Loaded}
-use Rattle.choice.proofs.BytesLaws.{alike-eq, alike-refl, alike-not}
+use Rattle.basics.proofs.BytesLaws.{alike-eq, alike-refl, alike-not}
 use Rattle.flight.proofs.SavingLaws.{length-saved}
 use Rattle.flight.proofs.LoadingLaws.{length-in, decoded-saved}
 

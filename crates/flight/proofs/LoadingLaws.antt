@@ -9,8 +9,8 @@ use mathlib.Core.List.{List, [], _∷_, _++_}
 use lib.Dec.{T, eqb}
 use lib.ListN.{length, getD, replicate}
 use lib.Seq.{getD-append-add, ext-getD}
-use Rattle.choice.proofs.ChoiceLaws.{and-left, and-right, within-high}
-use Rattle.choice.proofs.EachLaws.{length-each, at-each}
+use Rattle.basics.proofs.ChoiceLaws.{and-left, and-right, within-high}
+use Rattle.basics.proofs.EachLaws.{length-each, at-each}
 use Rattle.modules.specs.Power.{powerInRange, fullTries}
 use Rattle.modules.specs.Stage.{modulesInRange}
 use Rattle.modules.specs.declared.power.Power.{Power}

@@ -7,7 +7,7 @@ use mathlib.Core.Path.{_≡_, refl, sym, ap, _∙_}
 use mathlib.Core.List.{List, [], _∷_, _++_, append-nil}
 use lib.ListN.{length, getD, set, take, drop, length-append, drop-of-length-le}
 use lib.Seq.{sets, take-length, drop-cons}
-use Rattle.choice.proofs.Stores.{sets-append, sets-front}
+use Rattle.basics.proofs.Stores.{sets-append, sets-front}
 use Rattle.modules.specs.declared.power.Module.{Module}
 use Rattle.supervisor.specs.declared.state.State.{State}
 use Rattle.flight.specs.Saving.{imageBytes, modulesPlace, moduleBytes, modulesBytes, headBytes, saved}

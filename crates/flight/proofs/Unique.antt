@@ -3,8 +3,8 @@
 use Prim.Native.Nat.{ℕ}
 use mathlib.Core.Path.{_≡_, sym, ap, _∙_}
 use mathlib.Core.List.{List}
-use Rattle.choice.specs.Unique.{Unique}
-use Rattle.choice.proofs.UniqueLaws.{by-equation}
+use Rattle.basics.specs.Unique.{Unique}
+use Rattle.basics.proofs.UniqueLaws.{by-equation}
 use Rattle.morse.specs.Keying.{keyReply, keyOf}
 use Rattle.morse.specs.Reading.{readReply}
 use Rattle.morse.proofs.Unique.{one-reading}

@@ -6,7 +6,7 @@ use mathlib.Core.List.{List}
 use mathlib.Core.Option.{Option, none, some}
 use lib.Dec.{eqb}
 use lib.ListN.{length}
-use Rattle.choice.specs.Choice.{if_then_else_}
+use Rattle.basics.specs.Choice.{if_then_else_}
 use Rattle.morse.specs.Answers.{Reply, Outcome, outcome}
 use Rattle.morse.specs.Reading.{Read, readReply}
 use Rattle.morse.specs.declared.reading.Heard.{Heard}

@@ -6,8 +6,8 @@ use mathlib.Core.List.{List}
 use mathlib.Core.Option.{Option, none, some}
 use lib.Dec.{eqb}
 use lib.ListN.{replicate}
-use Rattle.choice.specs.Choice.{if_then_else_}
-use Rattle.choice.specs.Each.{each}
+use Rattle.basics.specs.Choice.{if_then_else_}
+use Rattle.basics.specs.Each.{each}
 use Rattle.modules.specs.declared.power.Power.{Power}
 use Rattle.modules.specs.declared.power.Power.the-variants.{On, Off, Failed}
 use Rattle.modules.specs.declared.power.Module.{Module}
@@ -16,7 +16,7 @@ use Rattle.supervisor.specs.declared.state.Phase.the-variants.{Waiting, Settlin
 use Rattle.supervisor.specs.declared.state.Mode.{Mode}
 use Rattle.supervisor.specs.declared.state.Mode.the-variants.{DeployWait, Recovery, Safe}
 use Rattle.supervisor.specs.declared.state.State.{State}
-use Rattle.choice.specs.Bytes.{alike}
+use Rattle.basics.specs.Bytes.{alike}
 use Rattle.flight.specs.Fields.{longAt}
 use Rattle.flight.specs.Saving.{modulesPlace, saved}
 use Rattle.flight.specs.declared.loading.Loaded.{Loaded}

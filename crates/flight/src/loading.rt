@@ -4,7 +4,7 @@ ghost use mathlib.Core.Path.{_≡_};
 ghost use Prim.Native.Nat.{_+_, _≤_};
 ghost use lib.ListN.{length, take, drop};
 ghost use Rattle.supervisor.specs.State.{withModules};
-ghost use Rattle.choice.specs.Bytes.{alike};
+ghost use Rattle.basics.specs.Bytes.{alike};
 ghost use Rattle.flight.specs.Saving.{imageBytes, modulesPlace, moduleBytes, modulesBytes, headBytes};
 ghost use Rattle.flight.specs.Loading.{modeFrom, powerFrom, moduleAt, modulesIn, decoded, found, loaded};
 use crate::fields::flag;

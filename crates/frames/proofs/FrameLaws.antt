@@ -6,7 +6,7 @@ use mathlib.Core.List.{List}
 use lib.Dec.{eqb}
 use lib.ListN.{length}
 use borrow.Author.Tests.{eq-eqb, ne-eqb}
-use Rattle.choice.proofs.ChoiceLaws.{decided}
+use Rattle.basics.proofs.ChoiceLaws.{decided}
 use Rattle.frames.specs.Frame.{totalOf, byteAt, fieldsOf, readFrame, tickKind, batteryKind, antennasKind, orderKind, thresholdsKind}
 
 -- a kind that has a total and is none of the first four is the fifth

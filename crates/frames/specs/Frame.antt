@@ -5,7 +5,7 @@ use mathlib.Core.Bool.{Bool, not, _&&_}
 use mathlib.Core.List.{List}
 use lib.ListN.{length, getD}
 use lib.Dec.{eqb, leb}
-use Rattle.choice.specs.Choice.{if_then_else_, within, word}
+use Rattle.basics.specs.Choice.{if_then_else_, within, word}
 use Rattle.frames.specs.declared.answer.Answer.the-variants.{NoBytes, UnknownKind, WrongLength, FieldOutside, NotPermitted}
 use Rattle.frames.specs.declared.serial.Origin.{Origin}
 use Rattle.frames.specs.declared.serial.Origin.the-variants.{Ground, Payload}

@@ -2,7 +2,7 @@
 -- Assumes nothing.
 use Prim.Native.Nat.{ℕ, _+_, _-_, _%_}
 use lib.Dec.{eqb, ltb}
-use Rattle.choice.specs.Choice.{if_then_else_}
+use Rattle.basics.specs.Choice.{if_then_else_}
 use Rattle.frames.specs.declared.serial.Origin.{Origin}
 use Rattle.frames.specs.declared.serial.Origin.the-variants.{Ground, Payload}
 use Rattle.frames.specs.declared.serial.Class.{Class}

@@ -1,7 +1,7 @@
 // What the bytes of a frame say, or why they are refused: checks 3 to 7.
 ghost use mathlib.Core.Path.{_≡_};
 ghost use lib.ListN.{length};
-ghost use Rattle.choice.specs.Choice.{word};
+ghost use Rattle.basics.specs.Choice.{word};
 ghost use Rattle.frames.specs.Frame.{isReading, areThresholds, totalOf, batteryFields, antennasFields, orderFields, thresholdsFields, originFrom, readFrame};
 use crate::answer::Answer;
 use crate::serial::Origin;

@@ -10,7 +10,7 @@ use borrow.Author.Tests.{le-leb, leb-true, ltb-false, eqb-false}
 use lib.Dec.{leb, eqb, ltb}
 use lib.ListN.{length, take, replicate}
 use lib.Seq.{length-take-le}
-use Rattle.choice.proofs.ChoiceLaws.{either, decided}
+use Rattle.basics.proofs.ChoiceLaws.{either, decided}
 use Rattle.frames.specs.Answer.{answerNumber}
 use Rattle.frames.specs.Frame.{totalOf, byteAt}
 use Rattle.supervisor.specs.Report.{reportBytes}

@@ -7,7 +7,7 @@ use native.Mathlib.Nat.{zero-add}
 use native.Mathlib.Omega.{arith}
 use borrow.Author.Tests.{le-leb, lt-leb}
 use lib.ListN.{length, length-append}
-use Rattle.choice.proofs.Stores.{sets-front}
+use Rattle.basics.proofs.Stores.{sets-front}
 use Rattle.frames.specs.Frame.{byteAt, wordAt}
 use Rattle.log.specs.Text.{decimal, hex, spaced, Put}
 use Rattle.log.specs.Line.{lineOf, refusedLine, written, longest, placed}

@@ -11,8 +11,8 @@ use lib.Dec.{ltb}
 use lib.ListN.{length, set, take, drop, length-append, length-drop}
 use lib.Seq.{sets-eq, length-sets, take-length, take-all, drop-length, drop-drop}
 use Rattle.io.specs.Digits.{digits, Fewest}
-use Rattle.choice.proofs.ChoiceLaws.{either, decided}
-use Rattle.choice.proofs.Stores.{sets-append}
+use Rattle.basics.proofs.ChoiceLaws.{either, decided}
+use Rattle.basics.proofs.Stores.{sets-append}
 use Rattle.log.specs.Text.{mostDigits, digitCountUpTo, decimal, hex, spaced, space, Put}
 
 length-digits : (b k n : ℕ) → length (digits b k n) ≡ k

@@ -4,7 +4,7 @@ use Prim.Native.Nat.{ℕ}
 use mathlib.Core.List.{List}
 use lib.Dec.{eqb, ltb}
 use lib.ListN.{length}
-use Rattle.choice.specs.Choice.{if_then_else_}
+use Rattle.basics.specs.Choice.{if_then_else_}
 use Rattle.frames.specs.Frame.{totalOf, byteAt}
 use Rattle.log.specs.declared.cut.Front.{Front}
 use Rattle.log.specs.declared.cut.Front.the-variants.{Frame, Short, Unknown, Empty}

@@ -5,7 +5,7 @@ use mathlib.Core.Bool.{Bool, _||_}
 use mathlib.Core.List.{List}
 use lib.Dec.{eqb, leb}
 use lib.ListN.{length, take, replicate}
-use Rattle.choice.specs.Choice.{if_then_else_}
+use Rattle.basics.specs.Choice.{if_then_else_}
 use Rattle.frames.specs.Answer.{answerNumber}
 use Rattle.supervisor.specs.Fresh.{freshState}
 use Rattle.supervisor.specs.Report.{reportBytes}

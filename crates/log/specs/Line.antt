@@ -4,7 +4,7 @@ use Prim.Native.Nat.{ℕ, _+_, _*_}
 use mathlib.Core.List.{List, [], _∷_, _++_}
 use lib.Dec.{leb}
 use lib.ListN.{length, drop}
-use Rattle.choice.specs.Choice.{if_then_else_}
+use Rattle.basics.specs.Choice.{if_then_else_}
 use Rattle.frames.specs.Frame.{byteAt, wordAt}
 use Rattle.log.specs.Text.{mostDigits, decimal, hex, spaced, mostNumber, mostHex}
 

@@ -7,8 +7,8 @@ use lib.Dec.{ltb}
 use lib.ListN.{length}
 use lib.Seq.{sets}
 use Rattle.io.specs.Digits.{digits}
-use Rattle.choice.specs.Bytes.{twoHex}
-use Rattle.choice.specs.Choice.{if_then_else_}
+use Rattle.basics.specs.Bytes.{twoHex}
+use Rattle.basics.specs.Choice.{if_then_else_}
 
 -- the decimal digits of the largest number of 64 bits
 abbrev pub mostDigits : ℕ

@@ -2,8 +2,8 @@
 ghost use mathlib.Core.Path.{_≡_};
 ghost use Prim.Native.Nat.{_+_, _<_, _≤_};
 ghost use lib.ListN.{length};
-ghost use Rattle.choice.specs.Choice.{word};
-ghost use Rattle.choice.specs.Bytes.{hexDigit};
+ghost use Rattle.basics.specs.Choice.{word};
+ghost use Rattle.basics.specs.Bytes.{hexDigit};
 ghost use Rattle.log.specs.Text.{mostDigits, decimal, hex, spaced, mostNumber, mostHex, Put};
 
 // Bytes as they are.

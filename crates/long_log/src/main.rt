@@ -1,4 +1,4 @@
 // step-log over one long flight, whose frames tests/long-flight makes and whose log an independent model gave too.
 fn main() {
-    follow::follow(libc::STDIN_FILENO, libc::STDOUT_FILENO);
+    stream::print_log(libc::STDIN_FILENO, libc::STDOUT_FILENO);
 }

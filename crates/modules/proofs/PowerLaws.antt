@@ -6,7 +6,7 @@ use mathlib.Core.Path.{_≡_, refl}
 use mathlib.Core.Bool.{Bool, true, false, true≢false}
 use lib.Dec.{T, eqb, leb→le, le→leb, ltb}
 use borrow.Author.Tests.{eqb-false}
-use Rattle.choice.proofs.ChoiceLaws.{decided, either, within-high, within-of}
+use Rattle.basics.proofs.ChoiceLaws.{decided, either, within-high, within-of}
 use Rattle.modules.specs.Power.{switched, attempted, powerInRange, fullTries, retrySeconds, isOn, isFailed}
 use Rattle.modules.specs.declared.power.Power.{Power}
 use Rattle.modules.specs.declared.power.Power.the-variants.{On, Off, Failed}

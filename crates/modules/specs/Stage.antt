@@ -3,8 +3,8 @@
 use Prim.Native.Nat.{ℕ}
 use mathlib.Core.Bool.{Bool, true, _&&_}
 use mathlib.Core.List.{List, [], _∷_}
-use Rattle.choice.specs.Choice.{if_then_else_, bit}
-use Rattle.choice.specs.Each.{each}
+use Rattle.basics.specs.Choice.{if_then_else_, bit}
+use Rattle.basics.specs.Each.{each}
 use Rattle.modules.specs.Power.{switched, powerInRange}
 use Rattle.modules.specs.declared.power.Module.{Module}
 

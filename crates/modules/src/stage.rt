@@ -1,6 +1,6 @@
 // All eight modules: the module stage of a tick, requests set by a mask, and the ranges of check 1.
 ghost use mathlib.Core.Path.{_≡_};
-ghost use Rattle.choice.specs.Choice.{if_then_else_, bit};
+ghost use Rattle.basics.specs.Choice.{if_then_else_, bit};
 ghost use Rattle.modules.specs.Stage.{stageOf, requestedBy, modulesInRange};
 use crate::power::Module;
 

@@ -7,7 +7,7 @@ use Prim.Native.Nat.{ℕ}
 use lib.Dec.{T, ltb}
 use lib.ListN.{length, getD, List·getD-eq-default}
 use borrow.Author.Tests.{ltb-true, ltb-false}
-use Rattle.choice.proofs.Tables.{every, at}
+use Rattle.basics.proofs.TablesLaws.{every, at}
 
 module _ {A : Type 0} (d : A) (f : ℕ → A → Bool) (xs : List A) where
   -- the test passes at each entry, and of d at each number: it passes at each number

@@ -9,8 +9,8 @@ use native.Mathlib.Omega.{arith}
 use lib.Dec.{T, eqb, eqb→eq}
 use lib.ListN.{length, getD}
 use borrow.Author.Tests.{eqb-true}
-use Rattle.choice.specs.Choice.{if_then_else_}
-use Rattle.choice.proofs.ChoiceLaws.{holds, and-left, and-right, and-both}
+use Rattle.basics.specs.Choice.{if_then_else_}
+use Rattle.basics.proofs.ChoiceLaws.{holds, and-left, and-right, and-both}
 use Rattle.morse.specs.declared.texts.Fault.the-variants.{Nothing}
 use Rattle.morse.specs.Signs.{Mark, dot, dash, signs, signOf, signed}
 use Rattle.morse.specs.Texts.{space, isSpace, allKnown, doubled, faultOf}

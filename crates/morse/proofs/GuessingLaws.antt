@@ -8,8 +8,8 @@ use native.Mathlib.Omega.{arith}
 use lib.ListN.{length, getD, drop, length-append}
 use lib.Seq.{sets, drop-cons}
 use lib.Dec.{eqb, ltb}
-use Rattle.choice.proofs.ChoiceLaws.{either}
-use Rattle.choice.proofs.Stores.{sets-append}
+use Rattle.basics.proofs.ChoiceLaws.{either}
+use Rattle.basics.proofs.Stores.{sets-append}
 use Rattle.morse.specs.declared.guessing.Ear.{Ear}
 use Rattle.morse.specs.Units.{betweenSigns, betweenWords}
 use Rattle.morse.specs.Guessing.{ear, nextEar, spoken, hear, heard}

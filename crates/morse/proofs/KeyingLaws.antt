@@ -9,8 +9,8 @@ use lib.Dec.{ltb}
 use lib.ListN.{length, take, drop}
 use lib.Seq.{sets, take-append-seam}
 use borrow.Author.Tests.{lt-ltb, le-ltb}
-use Rattle.choice.specs.Choice.{if_then_else_}
-use Rattle.choice.proofs.Stores.{sets-front}
+use Rattle.basics.specs.Choice.{if_then_else_}
+use Rattle.basics.proofs.Stores.{sets-front}
 use Rattle.morse.specs.declared.keying.Keyed.{Keyed}
 use Rattle.morse.specs.declared.keying.Keyed.the-variants.{Done, NoRoom}
 use Rattle.morse.specs.declared.texts.Fault.the-variants.{Nothing, TooLong, OutsideAlphabet, BadSpacing}

@@ -6,7 +6,7 @@ use Prim.Native.Nat.{ℕ, _<_, _≤_}
 use lib.ListN.{length, take, drop}
 use lib.Seq.{sets, take-length, take-append-seam}
 use borrow.Author.Tests.{lt-ltb, le-ltb}
-use Rattle.choice.proofs.Stores.{sets-front}
+use Rattle.basics.proofs.Stores.{sets-front}
 use Rattle.morse.specs.declared.reading.Heard.the-variants.{Text, NotAKeying, NoRoom}
 use Rattle.morse.specs.Answers.{outcome}
 use Rattle.morse.specs.Guessing.{heard}

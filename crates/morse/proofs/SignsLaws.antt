@@ -6,9 +6,10 @@ use mathlib.Core.List.{List, [], _∷_}
 use Prim.Native.Nat.{ℕ, _<_, _≤_}
 use lib.Dec.{T}
 use lib.ListN.{getD}
-use Rattle.choice.specs.Choice.{within}
-use Rattle.choice.proofs.ChoiceLaws.{holds, within-low, within-high}
-use Rattle.choice.proofs.Tables.{below, upto}
+use Rattle.basics.specs.Choice.{within}
+use Rattle.basics.proofs.ChoiceLaws.{holds, within-low, within-high}
+use Rattle.basics.specs.Tables.{allBelow}
+use Rattle.basics.proofs.TablesLaws.{upto}
 use Rattle.morse.specs.declared.signs.Sign.{Sign}
 use Rattle.morse.specs.Signs.{Mark, dot, dash, signs, signOf, signed}
 use Rattle.morse.specs.SignTable.{marksOf, byteAt, same, isSign}
@@ -24,7 +25,7 @@ same-eq (dot ∷ s) (dash ∷ t) h = absurd h
 same-eq (dash ∷ s) (dot ∷ t) h = absurd h
 
 -- what the rule of the code's table says of an entry
-pub entry-right : (table : List Sign) (k : ℕ) → T (below (isSign table) 36) → k < 36 → marksOf (getD table k (record { marks = 0; len = 0 })) ≡ signOf (byteAt k)
+pub entry-right : (table : List Sign) (k : ℕ) → T (allBelow (isSign table) 36) → k < 36 → marksOf (getD table k (record { marks = 0; len = 0 })) ≡ signOf (byteAt k)
 entry-right table k t h = same-eq _ _ (upto (isSign table) 36 t k h)
 
 -- a byte that is no letter and no figure has no sign

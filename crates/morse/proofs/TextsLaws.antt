@@ -10,7 +10,7 @@ use lib.ListN.{length, getD, drop}
 use lib.Seq.{drop-cons}
 use lib.Dec.{ltb, eqb}
 use borrow.Author.Tests.{lt-ltb, le-ltb, ltb-false}
-use Rattle.choice.specs.Choice.{if_then_else_}
+use Rattle.basics.specs.Choice.{if_then_else_}
 use Rattle.morse.specs.declared.signs.Sign.{Sign}
 use Rattle.morse.specs.declared.texts.Fault.{Fault}
 use Rattle.morse.specs.declared.texts.Fault.the-variants.{Nothing, TooLong, OutsideAlphabet, BadSpacing}

@@ -6,10 +6,10 @@ use mathlib.Core.Logic.{_⊎_, inl, inr, ⊎-elim}
 use mathlib.Core.List.{List}
 use Prim.Native.Nat.{ℕ}
 use lib.Dec.{T, eqb}
-use Rattle.choice.specs.Bytes.{alike}
-use Rattle.choice.specs.Unique.{Unique}
-use Rattle.choice.proofs.BytesLaws.{alike-eq, alike-refl}
-use Rattle.choice.proofs.UniqueLaws.{by-equation}
+use Rattle.basics.specs.Bytes.{alike}
+use Rattle.basics.specs.Unique.{Unique}
+use Rattle.basics.proofs.BytesLaws.{alike-eq, alike-refl}
+use Rattle.basics.proofs.UniqueLaws.{by-equation}
 use Rattle.morse.specs.declared.keying.Keyed.{Keyed}
 use Rattle.morse.specs.declared.reading.Heard.{Heard}
 use Rattle.morse.specs.declared.texts.Fault.{Fault}

@@ -9,8 +9,8 @@ use native.Mathlib.Omega.{arith}
 use lib.ListN.{length, getD, set, replicate, drop, length-append, length-replicate}
 use lib.Seq.{sets, drop-cons}
 use lib.Dec.{T, leb, leb→le}
-use Rattle.choice.proofs.ChoiceLaws.{either}
-use Rattle.choice.proofs.Stores.{sets-append}
+use Rattle.basics.proofs.ChoiceLaws.{either}
+use Rattle.basics.proofs.Stores.{sets-append}
 use Rattle.morse.specs.Signs.{Mark, signs, signOf}
 use Rattle.morse.specs.SignTable.{markOf, unpack}
 use Rattle.morse.specs.Texts.{isSpace}

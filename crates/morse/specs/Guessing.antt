@@ -5,7 +5,7 @@ use mathlib.Core.Bool.{Bool, _&&_}
 use mathlib.Core.List.{List, [], _∷_, _++_}
 use lib.Dec.{eqb, ltb}
 use lib.ListN.{getD}
-use Rattle.choice.specs.Choice.{if_then_else_}
+use Rattle.basics.specs.Choice.{if_then_else_}
 use Rattle.morse.specs.declared.guessing.Ear.{Ear}
 use Rattle.morse.specs.Signs.{Mark, dot, dash, signs, signed}
 use Rattle.morse.specs.Texts.{space}

@@ -4,7 +4,7 @@ use Prim.Native.Nat.{ℕ}
 use mathlib.Core.List.{List}
 use lib.Dec.{ltb}
 use lib.ListN.{length}
-use Rattle.choice.specs.Choice.{if_then_else_}
+use Rattle.basics.specs.Choice.{if_then_else_}
 use Rattle.morse.specs.declared.keying.Keyed.{Keyed}
 use Rattle.morse.specs.declared.keying.Keyed.the-variants as keyed
 use Rattle.morse.specs.declared.texts.Fault.{Fault}

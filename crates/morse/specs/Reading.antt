@@ -5,7 +5,7 @@ use mathlib.Core.Path.{_≡_}
 use mathlib.Core.List.{List}
 use lib.Dec.{ltb}
 use lib.ListN.{length}
-use Rattle.choice.specs.Choice.{if_then_else_}
+use Rattle.basics.specs.Choice.{if_then_else_}
 use Rattle.morse.specs.declared.reading.Heard.{Heard}
 use Rattle.morse.specs.declared.reading.Heard.the-variants.{Text, NotAKeying, NoRoom}
 use Rattle.morse.specs.declared.texts.Fault.the-variants.{Nothing}

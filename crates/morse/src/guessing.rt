@@ -5,7 +5,7 @@ ghost use Prim.Native.Nat.{_+_, _^_, _<_};
 ghost use lib.Dec.{T};
 ghost use lib.ListN.{length};
 ghost use lib.Seq.{sets};
-ghost use Rattle.choice.proofs.Tables.{below};
+ghost use Rattle.basics.specs.Tables.{allBelow};
 ghost use Rattle.morse.specs.Guessing.{isByte, byteOf, nextEar, spoken, heard};
 use crate::units::BETWEEN_SIGNS;
 use crate::units::BETWEEN_WORDS;
@@ -20,7 +20,7 @@ pub struct Ear {
 
 // The byte of each number of a sign in turn, and `_` for a number that no sign has.
 fn table() -> [u8; 64]
-    ensures { λ r. ⌜ T (below (isByte r) 64) ⌝ }
+    ensures { λ r. ⌜ T (allBelow (isByte r) 64) ⌝ }
 {
     *b"__ETIANMSURWDKGOHVF_L_PJBXCYZQ__54_3___2_______16_______7___8_90"
 }

@@ -2,7 +2,7 @@
 // What they are is `specs/Signs.antt`; the table below meets it by one computed test.
 ghost use mathlib.Core.Path.{_≡_};
 ghost use lib.Dec.{T};
-ghost use Rattle.choice.proofs.Tables.{below};
+ghost use Rattle.basics.specs.Tables.{allBelow};
 ghost use Rattle.morse.specs.Signs.{signOf};
 ghost use Rattle.morse.specs.SignTable.{marksOf, isSign};
 
@@ -54,7 +54,7 @@ const SIGNS: [Sign; 36] = [
 
 // The table, each of whose entries is the sign of its byte.
 fn table() -> [Sign; 36]
-    ensures { λ r. ⌜ T (below (isSign r) 36) ⌝ }
+    ensures { λ r. ⌜ T (allBelow (isSign r) 36) ⌝ }
 {
     SIGNS
 }

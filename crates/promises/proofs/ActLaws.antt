@@ -4,7 +4,7 @@ use Prim.Native.Nat.{ℕ}
 use mathlib.Core.Path.{_≡_, refl}
 use mathlib.Core.Bool.{Bool, false, true≢false}
 use lib.Dec.{T}
-use Rattle.choice.proofs.ChoiceLaws.{decided}
+use Rattle.basics.proofs.ChoiceLaws.{decided}
 use Rattle.frames.specs.Frame.{isReading, areThresholds}
 use Rattle.supervisor.specs.State.{withTension, withAntennas, withThresholds, withSerials}
 use Rattle.frames.specs.Serial.{classOf, lastOf, movedTo}

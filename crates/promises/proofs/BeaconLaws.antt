@@ -8,8 +8,8 @@ use mathlib.Core.List.{List, _++_}
 use lib.Dec.{T, eqb}
 use lib.ListN.{getD, drop}
 use borrow.Author.Tests.{eqb-true}
-use Rattle.choice.specs.Choice.{if_then_else_}
-use Rattle.choice.proofs.ChoiceLaws.{either}
+use Rattle.basics.specs.Choice.{if_then_else_}
+use Rattle.basics.proofs.ChoiceLaws.{either}
 use Rattle.supervisor.specs.State.{modeNumber}
 use Rattle.supervisor.specs.Range.{waitSeconds}
 use Rattle.supervisor.specs.Tick.{ticked, phaseTicked, controlled, moduleStage, beaconStage, dueAt, countAfter}

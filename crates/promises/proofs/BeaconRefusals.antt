@@ -5,8 +5,8 @@ use mathlib.Core.Path.{refl}
 use mathlib.Core.List.{List}
 use lib.Dec.{T, ltb}
 use lib.ListN.{length}
-use Rattle.choice.specs.Choice.{within}
-use Rattle.choice.proofs.ChoiceLaws.{either}
+use Rattle.basics.specs.Choice.{within}
+use Rattle.basics.proofs.ChoiceLaws.{either}
 use Rattle.morse.specs.Answers.{Outcome}
 use Rattle.supervisor.specs.Range.{inRange}
 use Rattle.supervisor.specs.declared.state.State.{State}

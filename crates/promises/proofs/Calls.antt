@@ -7,8 +7,8 @@ use mathlib.Core.Bool.{Bool, true, false, _&&_}
 use lib.ListN.{length}
 use lib.Dec.{T, eqb, leb}
 use borrow.Author.Tests.{ne-eqb, le-leb}
-use Rattle.choice.specs.Choice.{within}
-use Rattle.choice.proofs.ChoiceLaws.{is-true, holds, within-low, within-high, within-of}
+use Rattle.basics.specs.Choice.{within}
+use Rattle.basics.proofs.ChoiceLaws.{is-true, holds, within-low, within-high, within-of}
 use Rattle.frames.specs.Answer.{answerNumber}
 use Rattle.supervisor.specs.Range.{inRange}
 use Rattle.frames.specs.Frame.{readFrame}

@@ -7,8 +7,8 @@ use mathlib.Core.Bool.{Bool, true, false, _||_}
 use mathlib.Core.List.{[], _∷_}
 use mathlib.Core.Logic.{_⊎_, inl, inr, ⊎-elim}
 use lib.Dec.{T, eqb, eqb→eq}
-use Rattle.choice.specs.Choice.{if_then_else_, within}
-use Rattle.choice.proofs.ChoiceLaws.{either}
+use Rattle.basics.specs.Choice.{if_then_else_, within}
+use Rattle.basics.proofs.ChoiceLaws.{either}
 use Rattle.frames.specs.Answer.{answerNumber}
 use Rattle.supervisor.specs.State.{withSerials}
 use Rattle.frames.specs.Serial.{classOf, lastOf, movedTo}

@@ -7,8 +7,8 @@ use mathlib.Core.Bool.{Bool, true, false}
 use mathlib.Core.List.{List, [], _∷_}
 use lib.Dec.{T, eqb, ltb}
 use borrow.Author.Tests.{eqb-true, eqb-false, ne-eqb, ltb-true}
-use Rattle.choice.specs.Choice.{if_then_else_, within}
-use Rattle.choice.proofs.ChoiceLaws.{is-true, within-low, within-high}
+use Rattle.basics.specs.Choice.{if_then_else_, within}
+use Rattle.basics.proofs.ChoiceLaws.{is-true, within-low, within-high}
 use Rattle.frames.specs.Answer.{answerNumber}
 use Rattle.supervisor.specs.Range.{inRange}
 use Rattle.frames.specs.Serial.{serialCount, staleFrom, distance, classOf, lastOf}

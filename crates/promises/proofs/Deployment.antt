@@ -6,8 +6,8 @@ use mathlib.Core.Path.{_≡_, refl}
 use mathlib.Core.Bool.{Bool, false, _||_, true≢false}
 use mathlib.Core.List.{List, [], _∷_}
 use lib.Dec.{T, eqb, ltb→lt}
-use Rattle.choice.specs.Choice.{if_then_else_}
-use Rattle.choice.proofs.ChoiceLaws.{and-left, either, within-low}
+use Rattle.basics.specs.Choice.{if_then_else_}
+use Rattle.basics.proofs.ChoiceLaws.{and-left, either, within-low}
 use Rattle.supervisor.specs.Range.{inRange, watchInRange, phaseInRange, waitSeconds, settleSeconds}
 use Rattle.supervisor.specs.Fresh.{freshState}
 use Rattle.supervisor.specs.Tick.{ticked, phaseTicked, controlled, moduleStage, beaconStage}

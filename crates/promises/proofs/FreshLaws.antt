@@ -3,8 +3,8 @@
 use Prim.Native.Nat.{ℕ, _<_}
 use mathlib.Core.Path.{_≡_, refl}
 use mathlib.Core.Bool.{true, false, not}
-use Rattle.choice.specs.Choice.{if_then_else_}
-use Rattle.choice.proofs.Tables.{upto}
+use Rattle.basics.specs.Choice.{if_then_else_}
+use Rattle.basics.proofs.TablesLaws.{upto}
 use Rattle.modules.specs.Power.{isOn, isFailed}
 use Rattle.supervisor.specs.Fresh.{freshState}
 use Rattle.promises.specs.History.{moduleAt, isMission}

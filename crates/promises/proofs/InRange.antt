@@ -6,7 +6,7 @@ use mathlib.Core.Path.{_≡_, sym, _∙_}
 use mathlib.Core.Bool.{_||_, true≢false}
 use mathlib.Core.List.{List, [], _∷_}
 use lib.Dec.{T, eqb}
-use Rattle.choice.proofs.ChoiceLaws.{and-left, and-right, and-both, or-right, is-true}
+use Rattle.basics.proofs.ChoiceLaws.{and-left, and-right, and-both, or-right, is-true}
 use Rattle.modules.specs.Stage.{modulesInRange}
 use Rattle.frames.specs.Frame.{isReading, areThresholds}
 use Rattle.supervisor.specs.Range.{inRange, batteryInRange}

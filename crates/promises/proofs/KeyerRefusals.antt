@@ -6,8 +6,8 @@ use mathlib.Core.Path.{_≡_, refl}
 use mathlib.Core.List.{List, List-discrete}
 use lib.Dec.{T, ltb}
 use lib.ListN.{length}
-use Rattle.choice.specs.Choice.{within}
-use Rattle.choice.proofs.ChoiceLaws.{either}
+use Rattle.basics.specs.Choice.{within}
+use Rattle.basics.proofs.ChoiceLaws.{either}
 use Rattle.morse.specs.Answers.{Outcome}
 use Rattle.morse.specs.Texts.{faultOf}
 use Rattle.morse.specs.Units.{unitsOf}

@@ -7,11 +7,11 @@ use mathlib.Core.Bool.{Bool, true, false, not, true≢false}
 use lib.ListN.{length}
 use lib.Dec.{T, lit<, leb}
 use borrow.Author.Tests.{leb-true, leb-false}
-use Rattle.choice.specs.Choice.{if_then_else_, bit}
-use Rattle.choice.proofs.ChoiceLaws.{is-true}
-use Rattle.choice.proofs.EachLaws.{at-each, length-each}
-use Rattle.choice.proofs.BitLaws.{bit-past}
-use Rattle.choice.proofs.Tables.{below, upto}
+use Rattle.basics.specs.Choice.{if_then_else_, bit}
+use Rattle.basics.proofs.ChoiceLaws.{is-true}
+use Rattle.basics.proofs.EachLaws.{at-each, length-each}
+use Rattle.basics.proofs.BitLaws.{bit-past}
+use Rattle.basics.proofs.TablesLaws.{upto}
 use Rattle.modules.specs.Stage.{stageOf, requestedBy, moduleSecond, moduleRequested}
 use Rattle.supervisor.specs.State.{coreFour, missionFour, withControl}
 use Rattle.supervisor.specs.Order.{inSafe, requestSet, moduleAsked}

@@ -6,7 +6,7 @@ use mathlib.Core.Path.{_≡_, refl, sym, _∙_}
 use mathlib.Core.Bool.{Bool, true, false, _||_, true≢false}
 use mathlib.Core.List.{List, [], _∷_}
 use lib.Dec.{T}
-use Rattle.choice.proofs.ChoiceLaws.{is-true, holds}
+use Rattle.basics.proofs.ChoiceLaws.{is-true, holds}
 use Rattle.supervisor.specs.Range.{inRange}
 use Rattle.supervisor.specs.declared.state.State.{State}
 use Rattle.supervisor.proofs.TickLaws.{beacon-low}

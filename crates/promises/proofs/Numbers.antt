@@ -1,7 +1,7 @@
 -- Numbers on either side, computed.
 -- Assumes nothing.
 use mathlib.Core.Path.{refl}
-use Rattle.choice.specs.Each.{each, eachFrom}
+use Rattle.basics.specs.Each.{each, eachFrom}
 use Rattle.modules.specs.Power.{switched}
 use Rattle.modules.specs.Stage.{stageOf, requestedBy, modulesInRange}
 use Rattle.supervisor.specs.Range.{inRange}

@@ -5,8 +5,8 @@ use mathlib.Core.Path.{_≡_, refl, ap, _∙_}
 use mathlib.Core.Bool.{Bool, true, false, _&&_}
 use mathlib.Core.List.{List, [], _∷_}
 use lib.Dec.{T}
-use Rattle.choice.specs.Choice.{bit}
-use Rattle.choice.proofs.ChoiceLaws.{and-left}
+use Rattle.basics.specs.Choice.{bit}
+use Rattle.basics.proofs.ChoiceLaws.{and-left}
 use Rattle.modules.specs.Power.{switched, isOn}
 use Rattle.modules.proofs.PowerLaws.{unwanted-switched}
 use Rattle.modules.specs.declared.power.Power.{Power}

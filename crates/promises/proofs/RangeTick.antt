@@ -7,9 +7,9 @@ use mathlib.Core.Bool.{Bool, true, false, _&&_, _||_, true≢false}
 use mathlib.Core.List.{List, [], _∷_}
 use lib.Dec.{T, eqb, ltb, lit<, ltb→lt, lt→ltb, eqb→eq}
 use borrow.Author.Tests.{eqb-false}
-use Rattle.choice.specs.Choice.{bit}
-use Rattle.choice.specs.Each.{each, eachFrom}
-use Rattle.choice.proofs.ChoiceLaws.{and-left, and-right, and-both, within-high, within-of, decided}
+use Rattle.basics.specs.Choice.{bit}
+use Rattle.basics.specs.Each.{each, eachFrom}
+use Rattle.basics.proofs.ChoiceLaws.{and-left, and-right, and-both, within-high, within-of, decided}
 use Rattle.modules.specs.Power.{powerInRange}
 use Rattle.modules.specs.Stage.{stageOf, requestedBy, modulesInRange, moduleSecond, moduleRequested}
 use Rattle.modules.proofs.PowerLaws.{switched-in-range}

@@ -6,8 +6,8 @@ use mathlib.Core.Bool.{Bool, not, _&&_}
 use mathlib.Core.List.{List, [], _∷_}
 use lib.ListN.{length}
 use lib.Dec.{T, eqb, leb}
-use Rattle.choice.specs.Choice.{within, word}
-use Rattle.choice.proofs.ChoiceLaws.{is-true, either, decided, holds, and-right}
+use Rattle.basics.specs.Choice.{within, word}
+use Rattle.basics.proofs.ChoiceLaws.{is-true, either, decided, holds, and-right}
 use Rattle.frames.specs.Answer.{answerNumber}
 use Rattle.frames.specs.Frame.{readFrame, fieldsOf, totalOf, byteAt, wordAt, batteryFields, antennasFields, orderFields, thresholdsFields, tickKind, batteryKind, antennasKind, orderKind, isReading, areThresholds}
 use Rattle.frames.specs.declared.frame.Frame.{Frame}

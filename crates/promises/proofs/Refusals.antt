@@ -7,8 +7,8 @@ use mathlib.Core.List.{List, [], _∷_, _++_}
 use mathlib.Core.Logic.{⊎-elim}
 use lib.Dec.{T}
 use lib.ListN.{drop}
-use Rattle.choice.specs.Choice.{within}
-use Rattle.choice.proofs.ChoiceLaws.{within-low, within-high}
+use Rattle.basics.specs.Choice.{within}
+use Rattle.basics.proofs.ChoiceLaws.{within-low, within-high}
 use Rattle.frames.specs.Answer.{answerNumber}
 use Rattle.supervisor.specs.State.{withSerials}
 use Rattle.frames.specs.Serial.{classOf, lastOf, movedTo}

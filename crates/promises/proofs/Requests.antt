@@ -6,8 +6,8 @@ use mathlib.Core.Path.{_≡_, refl, sym, ap, _∙_}
 use mathlib.Core.Bool.{Bool, true, false, _&&_, true≢false}
 use lib.Dec.{eqb}
 use borrow.Author.Tests.{eqb-true, ne-eqb}
-use Rattle.choice.specs.Choice.{if_then_else_}
-use Rattle.choice.proofs.ChoiceLaws.{either, within-low}
+use Rattle.basics.specs.Choice.{if_then_else_}
+use Rattle.basics.proofs.ChoiceLaws.{either, within-low}
 use Rattle.frames.specs.Answer.{answerNumber}
 use Rattle.supervisor.specs.State.{modeNumber, coreFour, missionFour, withControl, withSerials}
 use Rattle.frames.specs.Serial.{classOf, lastOf, movedTo}

@@ -3,7 +3,7 @@
 use Prim.Native.Nat.{ℕ}
 use mathlib.Core.Path.{_≡_, refl, ap, _∙_}
 use mathlib.Core.List.{[], _∷_}
-use Rattle.choice.specs.Choice.{if_then_else_}
+use Rattle.basics.specs.Choice.{if_then_else_}
 use Rattle.frames.specs.Serial.{classOf, lastOf, movedTo}
 use Rattle.frames.specs.declared.serial.Origin.{Origin}
 use Rattle.frames.specs.declared.serial.Origin.the-variants.{Ground, Payload}

@@ -4,8 +4,8 @@ use Prim.Native.Nat.{ℕ, _+_, _≤_, _<_}
 use mathlib.Core.Path.{_≡_, refl, ap, _∙_}
 use mathlib.Core.Bool.{true, false}
 use lib.Dec.{T, eqb}
-use Rattle.choice.specs.Choice.{bit}
-use Rattle.choice.proofs.ChoiceLaws.{alike}
+use Rattle.basics.specs.Choice.{bit}
+use Rattle.basics.proofs.ChoiceLaws.{same-test}
 use Rattle.modules.specs.declared.power.Module.{Module}
 use Rattle.supervisor.specs.State.{coreFour, missionFour, withControl}
 use Rattle.supervisor.specs.Range.{judgeTicks}
@@ -145,7 +145,7 @@ module _ (i : ℕ) (mission : isMission i ≡ true) where
     controlled-sim h =
         let battery : Charged (a .battery) (b .battery) = h .shared .battery in
         let flight : Flight i a b = h .flight in
-        alike (Sim i) _ _ (ap (λ (n : ℕ). eqb (n + 1) judgeTicks) (flight .counts))
+        same-test (Sim i) _ _ (ap (λ (n : ℕ). eqb (n + 1) judgeTicks) (flight .counts))
         (crossed-sim (a .watch .mode) (b .watch .mode) _ _ refl refl
         (crosses (flight .modes) (a .battery) (b .battery) (battery .tension) (battery .ascend) (battery .descend) (battery .apart)) (h .shared) flight)
         (record {

@@ -7,7 +7,7 @@ use mathlib.Core.Bool.{true, false}
 use mathlib.Core.List.{List, [], _∷_}
 use lib.ListN.{take}
 use lib.Dec.{T}
-use Rattle.choice.specs.Choice.{word}
+use Rattle.basics.specs.Choice.{word}
 use Rattle.supervisor.specs.Range.{inRange}
 use Rattle.supervisor.specs.Fresh.{freshState}
 use Rattle.frames.specs.Frame.{readFrame}

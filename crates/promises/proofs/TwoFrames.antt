@@ -6,8 +6,8 @@ use mathlib.Core.Path.{_≡_, refl, sym, ap, _∙_, subst}
 use mathlib.Core.Bool.{Bool, true, false, not, _&&_, true≢false, false≢true}
 use lib.Dec.{T, eqb, leb, leb→le}
 use borrow.Author.Tests.{eqb-true}
-use Rattle.choice.specs.Choice.{if_then_else_}
-use Rattle.choice.proofs.ChoiceLaws.{and-right, sooner}
+use Rattle.basics.specs.Choice.{if_then_else_}
+use Rattle.basics.proofs.ChoiceLaws.{and-right, sooner}
 use Rattle.frames.specs.Frame.{isReading}
 use Rattle.supervisor.specs.State.{withSerials, withTension}
 use Rattle.frames.specs.Serial.{classOf, lastOf, movedTo}

@@ -5,7 +5,7 @@ use native.Mathlib.Omega.{arith}
 use mathlib.Core.Path.{_≡_, refl}
 use mathlib.Core.Bool.{Bool, true, false}
 use lib.Dec.{T, ltb, ltb→lt, lt→ltb}
-use Rattle.choice.specs.Choice.{if_then_else_}
+use Rattle.basics.specs.Choice.{if_then_else_}
 use Rattle.supervisor.specs.State.{modeNumber}
 use Rattle.supervisor.specs.Order.{inSafe}
 use Rattle.supervisor.specs.Tick.{crossingOf}

@@ -4,7 +4,7 @@ use Prim.Native.Nat.{ℕ, _<_}
 use mathlib.Core.Path.{_≡_, refl}
 use mathlib.Core.Bool.{Bool, true, false, _&&_}
 use lib.Dec.{T}
-use Rattle.choice.specs.Choice.{bit}
+use Rattle.basics.specs.Choice.{bit}
 use Rattle.modules.specs.Power.{switched, isOn, isFailed}
 use Rattle.modules.proofs.PowerLaws.{on-switched, sound-switched}
 use Rattle.modules.specs.declared.power.Power.{Power}

@@ -5,7 +5,7 @@ use mathlib.Core.Path.{_≡_}
 use mathlib.Core.Bool.{Bool, true, false}
 use mathlib.Core.List.{List, [], _∷_}
 use lib.Dec.{T}
-use Rattle.choice.specs.Choice.{if_then_else_, within}
+use Rattle.basics.specs.Choice.{if_then_else_, within}
 use Rattle.frames.specs.Serial.{serialCount, distance, lastOf}
 use Rattle.frames.specs.Frame.{readFrame}
 use Rattle.frames.specs.declared.serial.Origin.{Origin}

@@ -5,7 +5,7 @@ use mathlib.Core.Path.{_≡_}
 use mathlib.Core.List.{List, [], _∷_}
 use lib.Dec.{T}
 use lib.ListN.{drop}
-use Rattle.choice.specs.Choice.{within}
+use Rattle.basics.specs.Choice.{within}
 use Rattle.supervisor.specs.State.{withSerials}
 use Rattle.frames.specs.Serial.{movedTo}
 use Rattle.frames.specs.Frame.{readFrame}

@@ -4,7 +4,7 @@ use Prim.Native.Nat.{ℕ}
 use mathlib.Core.Path.{_≡_}
 use mathlib.Core.List.{List, [], _∷_, _++_}
 use lib.Dec.{eqb}
-use Rattle.choice.specs.Choice.{if_then_else_}
+use Rattle.basics.specs.Choice.{if_then_else_}
 use Rattle.supervisor.specs.Fresh.{freshState}
 use Rattle.frames.specs.Frame.{readFrame}
 use Rattle.frames.specs.declared.serial.Origin.{Origin}

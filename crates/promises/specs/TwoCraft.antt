@@ -6,7 +6,7 @@ use mathlib.Core.Bool.{Bool, true, false}
 use mathlib.Core.List.{List, [], _∷_}
 use lib.ListN.{take}
 use lib.Dec.{T}
-use Rattle.choice.specs.Choice.{word, bit}
+use Rattle.basics.specs.Choice.{word, bit}
 use Rattle.modules.specs.Power.{isOn}
 use Rattle.supervisor.specs.State.{modeNumber}
 use Rattle.supervisor.specs.Fresh.{freshState}

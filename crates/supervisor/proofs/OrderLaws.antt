@@ -6,7 +6,7 @@ use mathlib.Core.Bool.{Bool}
 use lib.ListN.{length, getD, set}
 use lib.Seq.{set-out}
 use borrow.Author.Tests.{ne-eqb, eq-eqb}
-use Rattle.choice.proofs.EachLaws.{each-one}
+use Rattle.basics.proofs.EachLaws.{each-one}
 use Rattle.modules.specs.declared.power.Module.{Module}
 use Rattle.supervisor.specs.State.{withModules}
 use Rattle.supervisor.specs.Fresh.{offRequested}

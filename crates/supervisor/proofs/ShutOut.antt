@@ -6,7 +6,7 @@ use mathlib.Core.Path.{_≡_, refl, sym, ap, _∙_}
 use mathlib.Core.Bool.{Bool, false}
 use mathlib.Core.List.{List, [], _∷_, _++_}
 use lib.ListN.{getD, drop, replicate}
-use Rattle.choice.specs.Choice.{if_then_else_}
+use Rattle.basics.specs.Choice.{if_then_else_}
 use Rattle.modules.specs.Stage.{modulesInRange}
 use Rattle.modules.specs.Masks.{maskOf, masksOf}
 use Rattle.frames.specs.Frame.{totalOf, antennasFields, readFrame}

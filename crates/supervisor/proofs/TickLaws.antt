@@ -4,7 +4,7 @@ use Prim.Native.Nat.{ℕ, _+_, _<_}
 use mathlib.Core.Path.{_≡_, refl}
 use mathlib.Core.Bool.{Bool, true, false, _&&_}
 use lib.Dec.{T, ltb, ltb→lt, eqb}
-use Rattle.choice.proofs.ChoiceLaws.{holds, and-left, and-right, either}
+use Rattle.basics.proofs.ChoiceLaws.{holds, and-left, and-right, either}
 use Rattle.modules.specs.Stage.{modulesInRange}
 use Rattle.supervisor.specs.Range.{judgeTicks, basicTicks, watchInRange, batteryInRange, phaseInRange, inRange}
 use Rattle.supervisor.specs.State.{withControl}

@@ -4,8 +4,8 @@ use Prim.Native.Nat.{ℕ}
 use mathlib.Core.Path.{_≡_, ap, sym, _∙_}
 use mathlib.Core.Bool.{Bool}
 use mathlib.Core.List.{List}
-use Rattle.choice.specs.Unique.{Unique}
-use Rattle.choice.proofs.UniqueLaws.{by-equation}
+use Rattle.basics.specs.Unique.{Unique}
+use Rattle.basics.proofs.UniqueLaws.{by-equation}
 use Rattle.supervisor.specs.State.{modeNumber}
 use Rattle.supervisor.specs.Fresh.{freshState}
 use Rattle.supervisor.specs.Range.{inRange}

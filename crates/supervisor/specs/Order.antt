@@ -3,8 +3,8 @@
 use Prim.Native.Nat.{ℕ}
 use mathlib.Core.Bool.{Bool, true, false, not, _&&_}
 use lib.Dec.{eqb}
-use Rattle.choice.specs.Choice.{if_then_else_, bit}
-use Rattle.choice.specs.Each.{each}
+use Rattle.basics.specs.Choice.{if_then_else_, bit}
+use Rattle.basics.specs.Each.{each}
 use Rattle.modules.specs.declared.power.Module.{Module}
 use Rattle.supervisor.specs.State.{missionFour, withModules, withSerials, withThresholds}
 use Rattle.frames.specs.Serial.{classOf, lastOf, movedTo}

@@ -3,7 +3,7 @@
 use Prim.Native.Nat.{ℕ}
 use mathlib.Core.Bool.{Bool, _&&_, _||_}
 use lib.Dec.{ltb, eqb}
-use Rattle.choice.specs.Choice.{within}
+use Rattle.basics.specs.Choice.{within}
 use Rattle.frames.specs.Frame.{isReading, areThresholds}
 use Rattle.modules.specs.Stage.{modulesInRange}
 use Rattle.supervisor.specs.declared.state.Phase.{Phase}

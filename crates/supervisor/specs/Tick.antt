@@ -3,7 +3,7 @@
 use Prim.Native.Nat.{ℕ, _+_, _-_, _%_}
 use mathlib.Core.Bool.{Bool, true, false, _||_}
 use lib.Dec.{ltb, eqb}
-use Rattle.choice.specs.Choice.{if_then_else_}
+use Rattle.basics.specs.Choice.{if_then_else_}
 use Rattle.modules.specs.Stage.{stageOf, requestedBy}
 use Rattle.supervisor.specs.State.{coreFour, missionFour, withMode, withControl, withBeacon, withModules}
 use Rattle.supervisor.specs.Range.{waitSeconds, settleSeconds, judgeTicks, basicTicks, completeTicks}

@@ -5,8 +5,8 @@ use mathlib.Core.Bool.{_&&_}
 use native.Mathlib.Omega.{arith}
 use lib.ListN.{drop, replicate}
 use borrow.Author.Needs.{needs}
-use Rattle.choice.proofs.EachLaws.{worked, worked-none, worked-turn, worked-all}
-use Rattle.choice.specs.Bytes.{alike}
+use Rattle.basics.proofs.EachLaws.{worked, worked-none, worked-turn, worked-all}
+use Rattle.basics.specs.Bytes.{alike}
 use Rattle.flight.specs.Saving.{modulesPlace, modulesBytes}
 use Rattle.flight.specs.Loading.{moduleAt, blank, modulesIn}
 use Rattle.flight.proofs.ComparedLaws.{modules-turn, modules-end}

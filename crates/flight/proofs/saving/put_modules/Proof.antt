@@ -6,7 +6,7 @@ use native.Mathlib.Omega.{arith}
 use lib.ListN.{length, drop, drop-of-length-le}
 use lib.Seq.{sets}
 use borrow.Author.Needs.{needs}
-use Rattle.choice.proofs.EachLaws.{length-mapped}
+use Rattle.basics.proofs.EachLaws.{length-mapped}
 use Rattle.flight.specs.Saving.{imageBytes, modulesPlace, modulesBytes}
 use Rattle.flight.proofs.SavingLaws.{stored-turn}
 use Rattle.flight.proofs.saving.put_modules.Statement.{statement}

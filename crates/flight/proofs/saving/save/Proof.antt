@@ -3,7 +3,7 @@ use mathlib.Core.Path.{_≡_, ap, _∙_}
 use lib.ListN.{length}
 use lib.Seq.{sets}
 use borrow.Author.Needs.{needs}
-use Rattle.choice.proofs.EachLaws.{length-mapped}
+use Rattle.basics.proofs.EachLaws.{length-mapped}
 use Rattle.flight.specs.Saving.{modulesPlace, modulesBytes}
 use Rattle.flight.proofs.SavingLaws.{stored-state}
 use Rattle.flight.proofs.saving.save.Statement.{statement}

@@ -5,7 +5,7 @@ use mathlib.Core.Path.{_≡_, refl, sym}
 use native.Mathlib.Omega.{arith}
 use lib.ListN.{length, drop, length-drop}
 use borrow.Author.Needs.{needs}
-use Rattle.choice.proofs.EachLaws.{gathered-turn, gathered-none, length-mapped}
+use Rattle.basics.proofs.EachLaws.{gathered-turn, gathered-none, length-mapped}
 use Rattle.modules.specs.Masks.{maskOf, masksOf, withModule}
 use Rattle.modules.proofs.MasksLaws.{masksOf-small}
 use Rattle.modules.proofs.masks.masks_of.Statement.{statement}

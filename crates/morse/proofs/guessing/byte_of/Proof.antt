@@ -2,7 +2,7 @@
 use lib.Dec.{eqb→eq}
 use borrow.Author.Tests.{le-ltb}
 use borrow.Author.Needs.{needs}
-use Rattle.choice.proofs.Tables.{upto}
+use Rattle.basics.proofs.TablesLaws.{upto}
 use Rattle.morse.specs.Guessing.{isByte, byteOf}
 use Rattle.morse.proofs.guessing.byte_of.Statement.{statement}
 use Rattle.morse.proofs.guessing.byte_of.Tie as tie

@@ -3,9 +3,9 @@
 use native.Mathlib.Omega.{arith}
 use borrow.Author.Tests.{ltb-true, eq-eqb, ne-eqb}
 use borrow.Author.Needs.{needs}
-use Rattle.choice.specs.Choice.{within}
+use Rattle.basics.specs.Choice.{within}
 use Rattle.supervisor.specs.Range.{waitSeconds, settleSeconds}
-use Rattle.choice.proofs.ChoiceLaws.{holds, within-low}
+use Rattle.basics.proofs.ChoiceLaws.{holds, within-low}
 use Rattle.supervisor.proofs.state.Phase.tick.Statement.{statement}
 use Rattle.supervisor.proofs.state.Phase.tick.Tie as tie
 

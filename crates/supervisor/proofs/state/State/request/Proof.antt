@@ -4,7 +4,7 @@ use mathlib.Core.Path.{_≡_}
 use native.Mathlib.Omega.{arith}
 use lib.ListN.{length}
 use borrow.Author.Needs.{needs}
-use Rattle.choice.proofs.EachLaws.{length-mapped}
+use Rattle.basics.proofs.EachLaws.{length-mapped}
 use Rattle.supervisor.proofs.OrderLaws.{request-stored, request-past}
 use Rattle.supervisor.proofs.state.State.request.Statement.{statement}
 use Rattle.supervisor.proofs.state.State.request.Tie as tie

@@ -7,7 +7,7 @@ use lib.Dec.{T}
 use types.Run.{OneOf}
 use denote.Enum.Declared
 use borrow.Author.Needs.{needs}
-use Rattle.choice.proofs.ChoiceLaws.{is-true}
+use Rattle.basics.proofs.ChoiceLaws.{is-true}
 use Rattle.supervisor.proofs.TickLaws.{inFlight, inRange-watch, inRange-phase, control-low, beacon-low, stages-beacon, ticked-flight}
 use Rattle.supervisor.specs.Tick.{ticked}
 use Rattle.supervisor.specs.declared.state.Mode.{Mode}

@@ -1,10 +1,10 @@
--- `log::follow::follow` is safe and ends. The invariant: the bytes kept lie within. The measure is the turns left.
+-- `print_log` is safe and ends. The invariant: the bytes kept lie within. The measure is the turns left.
 use mathlib.Core.Path.{_≡_}
 use Prim.Native.Nat.{_≤_}
 use lib.ListN.{length}
 use borrow.Author.Needs.{needs}
-use Rattle.follow.proofs.follow.Statement.{statement}
-use Rattle.follow.proofs.follow.Tie as tie
+use Rattle.stream.proofs.print_log.Statement.{statement}
+use Rattle.stream.proofs.print_log.Tie as tie
 
 abbrev Inv-loop : tie.InvT-loop
 Inv-loop from to bytes₀ room₀ stream₀ turns₀ bytes room stream turns = (stream .unused ≤ 65536) × (length bytes ≡ 65536) × (length room ≡ 65536)
@@ -60,8 +60,8 @@ loop-again c = search needs
 returns-3 : tie.Need-returns-3 Inv-loop μ-loop
 returns-3 c = search needs
 
-pub follow-spec : {M : Type 1} → statement M
-follow-spec =
+pub print-log-spec : {M : Type 1} → statement M
+print-log-spec =
     tie.close
     (tie.spec
     Inv-loop

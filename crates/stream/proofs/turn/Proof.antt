@@ -1,9 +1,9 @@
--- `log::follow::turn` is safe: what it keeps lies within the bytes.
+-- `turn` is safe: what it keeps lies within the bytes.
 use mathlib.Core.Path.{_≡_}
 use native.Mathlib.Omega.{arith}
 use borrow.Author.Needs.{needs}
-use Rattle.follow.proofs.turn.Statement.{statement}
-use Rattle.follow.proofs.turn.Tie as tie
+use Rattle.stream.proofs.turn.Statement.{statement}
+use Rattle.stream.proofs.turn.Tie as tie
 
 sub-fill : tie.Need-sub-fill
 sub-fill c = search needs

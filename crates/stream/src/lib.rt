@@ -138,7 +138,7 @@ fn turn(stream: Stream, from: i32, to: i32, bytes: &mut [u8], room: &mut [u8]) -
 }
 
 // Logs the stream that is read from one descriptor to another, until it ends or a frame is refused.
-pub fn follow(from: i32, to: i32) {
+pub fn print_log(from: i32, to: i32) {
     let header = b"n kind origin serial answer mode requested on failed beacon\n";
     if !io::write_all(to, header) {
         os::fail(b"write");

@@ -1,10 +1,10 @@
--- `log::follow::keep` meets its contract. The invariant: as many bytes are kept as were passed. The measure is what is left of them.
+-- `keep` meets its contract. The invariant: as many bytes are kept as were passed. The measure is what is left of them.
 use mathlib.Core.Path.{_≡_}
 use Prim.Native.Nat.{_+_, _-_, _≤_}
 use lib.ListN.{length}
 use borrow.Author.Needs.{needs}
-use Rattle.follow.proofs.keep.Statement.{statement}
-use Rattle.follow.proofs.keep.Tie as tie
+use Rattle.stream.proofs.keep.Statement.{statement}
+use Rattle.stream.proofs.keep.Tie as tie
 
 abbrev Inv-loop : tie.InvT-loop
 Inv-loop bytes₀ from to i₀ kept₀ bytes i kept = (from + kept ≡ i) × (i ≤ to) × (length bytes ≡ length bytes₀)

@@ -1,12 +1,12 @@
--- `log::follow::fill` meets its contract. The invariant: what is used and written lies within. The measure is the bytes that are left.
+-- `fill` meets its contract. The invariant: what is used and written lies within. The measure is the bytes that are left.
 use mathlib.Core.Path.{_≡_}
 use Prim.Native.Nat.{_-_, _≤_}
 use native.Mathlib.Omega.{arith}
 use lib.ListN.{length}
 use Rattle.log.proofs.EntryLaws.{line-within, last-within}
 use borrow.Author.Needs.{needs}
-use Rattle.follow.proofs.fill.Statement.{statement}
-use Rattle.follow.proofs.fill.Tie as tie
+use Rattle.stream.proofs.fill.Statement.{statement}
+use Rattle.stream.proofs.fill.Tie as tie
 
 abbrev Inv-loop : tie.InvT-loop
 Inv-loop log₀ bytes ended room₀ used₀ written₀ log room used written = (used ≤ length bytes) × (written ≤ length room) × (length room ≡ length room₀)
