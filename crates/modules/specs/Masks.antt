@@ -17,6 +17,7 @@ unfoldable pub maskOf : (Module → Bool) → List Module → ℕ
 maskOf test [] = 0
 maskOf test (m ∷ ms) = below (test m) (maskOf test ms)
 
+-- the masks of the modules requested, on and failed
 unfoldable pub masksOf : List Module → Masks
 masksOf modules =
     record {

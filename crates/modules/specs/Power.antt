@@ -6,6 +6,7 @@ use lib.Dec.{ltb, leb, eqb}
 use Rattle.basics.specs.Choice.{if_then_else_, within}
 use Rattle.modules.specs.declared.power.Power.{Power}
 use Rattle.modules.specs.declared.power.Power.the-variants.{On, Off, Failed}
+use Rattle.modules.specs.declared.power.Module.{Module}
 
 -- the tries that a module has when it goes off
 abbrev pub fullTries : ℕ
@@ -41,6 +42,7 @@ attempted true true = Failed retrySeconds
 abbrev pub failedSwitched : (wanted short : Bool) → ℕ → Power
 failedSwitched wanted short left = if ltb 0 left then Failed (left - 1) else attempted wanted short
 
+-- one second, by what the module is
 unfoldable pub switched : (wanted short : Bool) → Power → Power
 switched wanted short On = onSwitched wanted short
 switched wanted short (Off tries) = offSwitched wanted short tries
@@ -52,12 +54,22 @@ powerInRange On = true
 powerInRange (Off tries) = within 1 fullTries tries
 powerInRange (Failed left) = leb left retrySeconds
 
+-- whether a module is powered
 abbrev pub isOn : Power → Bool
 isOn On = true
 isOn (Off tries) = false
 isOn (Failed left) = false
 
+-- whether it is given up
 abbrev pub isFailed : Power → Bool
 isFailed On = false
 isFailed (Off tries) = false
 isFailed (Failed left) = true
+
+-- a module with another power, or another request
+
+abbrev pub withPower : Power → Module → Module
+withPower power m = record { power = power; requested = m .requested }
+
+abbrev pub withRequest : Bool → Module → Module
+withRequest requested m = record { power = m .power; requested = requested }

@@ -5,23 +5,30 @@ use mathlib.Core.Bool.{Bool, true, _&&_}
 use mathlib.Core.List.{List, [], _∷_}
 use Rattle.basics.specs.Choice.{if_then_else_, bit}
 use Rattle.basics.specs.Each.{each}
-use Rattle.modules.specs.Power.{switched, powerInRange}
+use Rattle.modules.specs.Power.{switched, powerInRange, withPower, withRequest}
 use Rattle.modules.specs.declared.power.Module.{Module}
 
--- a module is wanted if requested and allowed; with its bit of the short mask
-abbrev pub moduleSecond : (allowed shorts : ℕ) → ℕ → Module → Module
-moduleSecond allowed shorts i m = record { power = switched (m .requested && bit i allowed) (bit i shorts) (m .power); requested = m .requested }
+-- a module is wanted if requested and allowed
+abbrev pub isWanted : (allowed : ℕ) → ℕ → Module → Bool
+isWanted allowed i m = m .requested && bit i allowed
 
+-- its second, with its bit of the short mask
+abbrev pub moduleSecond : (allowed shorts : ℕ) → ℕ → Module → Module
+moduleSecond allowed shorts i m = withPower (switched (isWanted allowed i m) (bit i shorts) (m .power)) m
+
+-- all eight through the module stage
 unfoldable pub stageOf : (allowed shorts : ℕ) → List Module → List Module
 stageOf allowed shorts modules = each (moduleSecond allowed shorts) modules
 
 -- the modules of a mask are requested on, or off; the others keep their request
 abbrev pub moduleRequested : (mask : ℕ) (on : Bool) → ℕ → Module → Module
-moduleRequested mask on i m = record { power = m .power; requested = if bit i mask then on else m .requested }
+moduleRequested mask on i m = withRequest (if bit i mask then on else m .requested) m
 
+-- all eight
 unfoldable pub requestedBy : (mask : ℕ) (on : Bool) → List Module → List Module
 requestedBy mask on modules = each (moduleRequested mask on) modules
 
+-- every module's tries or seconds are in their range
 unfoldable pub modulesInRange : List Module → Bool
 modulesInRange [] = true
 modulesInRange (m ∷ ms) = powerInRange (m .power) && modulesInRange ms

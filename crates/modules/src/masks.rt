@@ -13,6 +13,7 @@ pub struct Masks {
     pub failed: u8,
 }
 
+// Whether a module is powered.
 fn is_on(power: Power) -> bool
     ensures { λ r. ⌜ r ≡ isOn power ⌝ }
 {
@@ -23,6 +24,7 @@ fn is_on(power: Power) -> bool
     }
 }
 
+// Whether it is given up.
 fn is_failed(power: Power) -> bool
     ensures { λ r. ⌜ r ≡ isFailed power ⌝ }
 {

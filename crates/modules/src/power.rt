@@ -1,6 +1,6 @@
 // One module: its power, its request, and what a second does to it.
 ghost use mathlib.Core.Path.{_≡_};
-ghost use Rattle.modules.specs.Power.{switched, powerInRange};
+ghost use Rattle.modules.specs.Power.{switched, powerInRange, withPower, withRequest};
 
 // What powers a module.
 pub enum Power {
@@ -18,8 +18,10 @@ pub struct Module {
     pub requested: bool,
 }
 
-const TRIES: u8 = 5;
+// The tries that a module has when it goes off.
+pub const TRIES: u8 = 5;
 
+// The seconds that a failed module waits.
 const RETRY: u16 = 600;
 
 impl Power {
@@ -77,5 +79,25 @@ impl Power {
             Power::Off(tries) => (1 <= tries) & (tries <= TRIES),
             Power::Failed(left) => left <= RETRY,
         }
+    }
+}
+
+impl Module {
+    // The module with another power.
+    pub fn with_power(self, power: Power) -> Module
+        ensures { λ r. ⌜ r ≡ withPower power self ⌝ }
+    {
+        Module {
+            power,
+            requested: self.requested,
+        }
+    }
+
+    // The module with another request.
+    pub fn with_request(self, requested: bool) -> Module
+        ensures { λ r. ⌜ r ≡ withRequest requested self ⌝ }
+    {
+        let power = self.power;
+        Module { power, requested }
     }
 }

@@ -11,6 +11,7 @@ pub fn has(mask: u8, i: usize) -> bool
     if i < 8 { (mask >> i) % 2 == 1 } else { false }
 }
 
+// One of two values, by a test.
 fn chosen(test: bool, yes: bool, no: bool) -> bool
     ensures { λ r. ⌜ r ≡ (if test then yes else no) ⌝ }
 {
@@ -27,10 +28,7 @@ pub fn stage(modules: [Module; 8], allowed: u8, shorts: u8) -> [Module; 8]
         let m = next[i];
         let power = m.power;
         let wanted = m.requested & has(allowed, i);
-        next[i] = Module {
-            power: power.second(wanted, has(shorts, i)),
-            requested: m.requested,
-        };
+        next[i] = m.with_power(power.second(wanted, has(shorts, i)));
         i += 1;
     }
     next
@@ -44,11 +42,7 @@ pub fn request(modules: [Module; 8], mask: u8, on: bool) -> [Module; 8]
     let mut i: usize = 0;
     while i < 8 {
         let m = next[i];
-        let power = m.power;
-        next[i] = Module {
-            power,
-            requested: chosen(has(mask, i), on, m.requested),
-        };
+        next[i] = m.with_request(chosen(has(mask, i), on, m.requested));
         i += 1;
     }
     next

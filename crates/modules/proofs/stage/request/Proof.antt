@@ -30,6 +30,9 @@ has-requires c κs = search needs
 chosen-requires : tie.Need-chosen-requires Inv-loop μ-loop
 chosen-requires c κs = search needs
 
+with-request-requires : tie.Need-with-request-requires Inv-loop μ-loop
+with-request-requires c κs = search needs
+
 mul-next : tie.Need-mul-next Inv-loop μ-loop
 mul-next c = search needs
 
@@ -43,7 +46,13 @@ loop-less : tie.Need-loop-less Inv-loop μ-loop
 loop-less c = search needs
 
 loop-again : tie.Need-loop-again Inv-loop μ-loop
-loop-again c = record { low = omega arith; done = simp (c .chosen .ensures, c .before .has .ensures, c .before .before .before .before .loop .inv .done) (worked-turn _ _ _ _) }
+loop-again c =
+    record {
+      low = omega arith;
+      done =
+          simp (c .with-request .ensures, c .before .chosen .ensures, c .before .before .has .ensures, c .before .before .before .before .before .loop .inv .done)
+          (worked-turn _ _ _ _);
+    }
 
 returns : tie.Need-returns Inv-loop μ-loop
 unfolding requestedBy
@@ -60,6 +69,7 @@ request-spec =
     array-copy-out-m
     has-requires
     chosen-requires
+    with-request-requires
     mul-next
     array-set-from-next
     add-i

@@ -33,6 +33,9 @@ has-requires-2 c κs = search needs
 second-requires : tie.Need-second-requires Inv-loop μ-loop
 second-requires c κs = search needs
 
+with-power-requires : tie.Need-with-power-requires Inv-loop μ-loop
+with-power-requires c κs = search needs
+
 mul-next : tie.Need-mul-next Inv-loop μ-loop
 mul-next c = search needs
 
@@ -46,7 +49,14 @@ loop-less : tie.Need-loop-less Inv-loop μ-loop
 loop-less c = search needs
 
 loop-again : tie.Need-loop-again Inv-loop μ-loop
-loop-again c = record { low = omega arith; done = simp (c .second .ensures, c .before .has2 .ensures, c .before .before .before .has .ensures, c .before .before .before .before .before .before .loop .inv .done) (worked-turn _ _ _ _) }
+loop-again c =
+    let started : tie.After-has Inv-loop μ-loop = c .before .before .before .before in
+    record {
+      low = omega arith;
+      done =
+          simp (c .with-power .ensures, c .before .second .ensures, c .before .before .has2 .ensures, started .has .ensures, started .before .before .before .loop .inv .done)
+          (worked-turn _ _ _ _);
+    }
 
 returns : tie.Need-returns Inv-loop μ-loop
 unfolding stageOf
@@ -64,6 +74,7 @@ stage-spec =
     has-requires
     has-requires-2
     second-requires
+    with-power-requires
     mul-next
     array-set-from-next
     add-i
