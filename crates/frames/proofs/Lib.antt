@@ -1,2 +1,2 @@
-pub mod FrameLaws
+pub mod ReadingLaws
 pub mod Unique

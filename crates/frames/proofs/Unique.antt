@@ -8,15 +8,31 @@ use Rattle.basics.specs.Unique.{Unique}
 use Rattle.basics.proofs.UniqueLaws.{by-equation}
 use Rattle.frames.specs.Answer.{answerNumber}
 use Rattle.frames.specs.Serial.{classOf, lastOf, movedTo}
-use Rattle.frames.specs.Frame.{isReading, areThresholds, totalOf, readFrame}
+use Rattle.frames.specs.Kind.{totalOf}
+use Rattle.frames.specs.Sender.{originNumber}
+use Rattle.frames.specs.Command.{commandKind}
+use Rattle.frames.specs.Frame.{headOf}
+use Rattle.frames.specs.Reading.{isReading, areThresholds, readFrame}
 use Rattle.frames.specs.declared.answer.Answer.{Answer}
-use Rattle.frames.specs.declared.serial.Origin.{Origin}
+use Rattle.frames.specs.declared.sender.Origin.{Origin}
 use Rattle.frames.specs.declared.serial.Class.{Class}
 use Rattle.frames.specs.declared.serial.Serials.{Serials}
-use Rattle.frames.specs.declared.frame.Reading.{Reading}
+use Rattle.frames.specs.declared.command.Command.{Command}
+use Rattle.frames.specs.declared.frame.Frame.{Frame}
+use Rattle.frames.specs.declared.frame.Head.{Head}
+use Rattle.frames.specs.declared.reading.Reading.{Reading}
 
 pub number-unique : (self : Answer) → Unique (λ (r : ℕ). r ≡ answerNumber self)
 number-unique self = by-equation (answerNumber self)
+
+pub origin-number-unique : (self : Origin) → Unique (λ (r : ℕ). r ≡ originNumber self)
+origin-number-unique self = by-equation (originNumber self)
+
+pub kind-unique : (self : Command) → Unique (λ (r : ℕ). r ≡ commandKind self)
+kind-unique self = by-equation (commandKind self)
+
+pub head-unique : (self : Frame) → Unique (λ (r : Head). r ≡ headOf self)
+head-unique self = by-equation (headOf self)
 
 pub class-unique : (self : Serials) (origin : Origin) (serial : ℕ) → Unique (λ (r : Class). r ≡ classOf serial (lastOf origin self))
 class-unique self origin serial = by-equation (classOf serial (lastOf origin self))

@@ -2,17 +2,17 @@
 -- Assumes nothing.
 use Prim.Native.Nat.{ℕ}
 use Rattle.frames.specs.declared.answer.Answer.{Answer}
-use Rattle.frames.specs.declared.answer.Answer.the-variants.{Done, StateOutside, NoRoom, NoBytes, UnknownKind, WrongLength, FieldOutside, NotPermitted, SerialRepeated, SerialStale, IllTimed}
+use Rattle.frames.specs.declared.answer.Answer.the-variants.{Done, BadState, ShortRoom, NoInput, UnknownKind, BadLength, BadField, NotPermitted, Repeat, Stale, NotNow}
 
 abbrev pub answerNumber : Answer → ℕ
 answerNumber Done = 0
-answerNumber StateOutside = 1
-answerNumber NoRoom = 2
-answerNumber NoBytes = 3
+answerNumber BadState = 1
+answerNumber ShortRoom = 2
+answerNumber NoInput = 3
 answerNumber UnknownKind = 4
-answerNumber WrongLength = 5
-answerNumber FieldOutside = 6
+answerNumber BadLength = 5
+answerNumber BadField = 6
 answerNumber NotPermitted = 7
-answerNumber SerialRepeated = 8
-answerNumber SerialStale = 9
-answerNumber IllTimed = 10
+answerNumber Repeat = 8
+answerNumber Stale = 9
+answerNumber NotNow = 10

@@ -3,8 +3,8 @@
 use Prim.Native.Nat.{ℕ, _+_, _-_, _%_}
 use lib.Dec.{eqb, ltb}
 use Rattle.basics.specs.Choice.{if_then_else_}
-use Rattle.frames.specs.declared.serial.Origin.{Origin}
-use Rattle.frames.specs.declared.serial.Origin.the-variants.{Ground, Payload}
+use Rattle.frames.specs.declared.sender.Origin.{Origin}
+use Rattle.frames.specs.declared.sender.Origin.the-variants.{Ground, Payload}
 use Rattle.frames.specs.declared.serial.Class.{Class}
 use Rattle.frames.specs.declared.serial.Class.the-variants.{Repeat, Fresh, Stale}
 use Rattle.frames.specs.declared.serial.Serials.{Serials}

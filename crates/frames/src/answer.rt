@@ -6,25 +6,25 @@ pub enum Answer {
     // 0: done
     Done,
     // 1: the state is outside its ranges
-    StateOutside,
+    BadState,
     // 2: fewer than 11 bytes of reply room
-    NoRoom,
+    ShortRoom,
     // 3: no input bytes
-    NoBytes,
+    NoInput,
     // 4: the kind is not one of those known
     UnknownKind,
     // 5: the input's length is not the kind's total
-    WrongLength,
+    BadLength,
     // 6: a field outside its range, or descend above ascend
-    FieldOutside,
+    BadField,
     // 7: the payload asks what is not its own
     NotPermitted,
     // 8: the serial is a repeat
-    SerialRepeated,
+    Repeat,
     // 9: the serial is stale
-    SerialStale,
+    Stale,
     // 10: "on" for one of the mission four while not in SAFE
-    IllTimed,
+    NotNow,
 }
 
 impl Answer {
@@ -34,16 +34,16 @@ impl Answer {
     {
         match self {
             Answer::Done => 0,
-            Answer::StateOutside => 1,
-            Answer::NoRoom => 2,
-            Answer::NoBytes => 3,
+            Answer::BadState => 1,
+            Answer::ShortRoom => 2,
+            Answer::NoInput => 3,
             Answer::UnknownKind => 4,
-            Answer::WrongLength => 5,
-            Answer::FieldOutside => 6,
+            Answer::BadLength => 5,
+            Answer::BadField => 6,
             Answer::NotPermitted => 7,
-            Answer::SerialRepeated => 8,
-            Answer::SerialStale => 9,
-            Answer::IllTimed => 10,
+            Answer::Repeat => 8,
+            Answer::Stale => 9,
+            Answer::NotNow => 10,
         }
     }
 }

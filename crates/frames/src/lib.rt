@@ -1,4 +1,8 @@
-// Frames as they come in: what the bytes say, who sent them, and why they are refused.
+// Frames as they come in: what the bytes say, who sent them, why they are refused, and how a report names them.
 pub mod answer;
+pub mod command;
 pub mod frame;
+pub mod kind;
+pub mod reading;
+pub mod sender;
 pub mod serial;

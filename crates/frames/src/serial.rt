@@ -1,13 +1,7 @@
 // Serials: an origin's last one, and the class of the next by its distance.
 ghost use mathlib.Core.Path.{_≡_};
 ghost use Rattle.frames.specs.Serial.{classOf, lastOf, movedTo};
-// Who sent a frame.
-pub enum Origin {
-    // 1: ground, through MCS
-    Ground,
-    // 2: the payload
-    Payload,
-}
+use crate::sender::Origin;
 
 // Each origin's last serial.
 pub struct Serials {
@@ -17,10 +11,16 @@ pub struct Serials {
 
 // A serial beside its origin's last.
 pub enum Class {
+    // the last one again
     Repeat,
+    // ahead of it
     Fresh,
+    // behind it
     Stale,
 }
+
+// The distance from which on a serial is stale.
+const STALE_FROM: u16 = 32768;
 
 // The class of a serial, by its distance from the last.
 fn classify(serial: u16, last: u16) -> Class
@@ -29,7 +29,7 @@ fn classify(serial: u16, last: u16) -> Class
     let distance = std::num::wrapping_sub_u16(serial, last);
     if distance == 0 {
         Class::Repeat
-    } else if distance < 32768 {
+    } else if distance < STALE_FROM {
         Class::Fresh
     } else {
         Class::Stale

@@ -1,3 +1,4 @@
+pub mod Groups
 pub mod Power
 pub mod Stage
 pub mod Masks

@@ -1,9 +1,9 @@
 -- `total` meets its contract.
 -- Assumes nothing.
 use borrow.Author.Tests.{ne-eqb}
-use Rattle.frames.specs.Frame.{totalOf}
-use Rattle.frames.proofs.frame.total.Statement.{statement}
-use Rattle.frames.proofs.frame.total.Tie as tie
+use Rattle.frames.specs.Kind.{totalOf}
+use Rattle.frames.proofs.kind.total.Statement.{statement}
+use Rattle.frames.proofs.kind.total.Tie as tie
 
 returns : tie.Need-returns
 unfolding totalOf

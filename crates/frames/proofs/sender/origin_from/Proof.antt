@@ -1,8 +1,8 @@
 -- `origin_from` meets its contract.
 -- Assumes nothing.
 use borrow.Author.Tests.{eq-eqb, ne-eqb}
-use Rattle.frames.proofs.frame.origin_from.Statement.{statement}
-use Rattle.frames.proofs.frame.origin_from.Tie as tie
+use Rattle.frames.proofs.sender.origin_from.Statement.{statement}
+use Rattle.frames.proofs.sender.origin_from.Tie as tie
 
 returns : tie.Need-returns
 returns c = simp (eq-eqb _ _ (c .if1 .taken))

@@ -1,8 +1,8 @@
 -- `are_thresholds` meets its contract.
 -- Assumes nothing.
 use borrow.Author.Needs.{needs}
-use Rattle.frames.proofs.frame.are_thresholds.Statement.{statement}
-use Rattle.frames.proofs.frame.are_thresholds.Tie as tie
+use Rattle.frames.proofs.reading.are_thresholds.Statement.{statement}
+use Rattle.frames.proofs.reading.are_thresholds.Tie as tie
 
 is-reading-requires : tie.Need-is-reading-requires
 is-reading-requires c κs = search needs

@@ -2,9 +2,9 @@
 -- Assumes nothing.
 use borrow.Author.Tests.{le-leb, lt-leb}
 use borrow.Author.Needs.{needs}
-use Rattle.frames.specs.Frame.{antennasFields}
-use Rattle.frames.proofs.frame.antennas.Statement.{statement}
-use Rattle.frames.proofs.frame.antennas.Tie as tie
+use Rattle.frames.specs.Reading.{antennasFields}
+use Rattle.frames.proofs.reading.antennas.Statement.{statement}
+use Rattle.frames.proofs.reading.antennas.Tie as tie
 
 shared-slice-read-deployed : tie.Need-shared-slice-read-deployed
 shared-slice-read-deployed c = search needs

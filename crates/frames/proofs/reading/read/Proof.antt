@@ -6,10 +6,11 @@ use native.Mathlib.Omega.{arith}
 use lib.ListN.{length}
 use borrow.Author.Tests.{eq-eqb, ne-eqb}
 use borrow.Author.Needs.{needs}
-use Rattle.frames.proofs.FrameLaws.{last-total, read-fields}
-use Rattle.frames.specs.Frame.{byteAt, fieldsOf, totalOf, readFrame}
-use Rattle.frames.proofs.frame.read.Statement.{statement}
-use Rattle.frames.proofs.frame.read.Tie as tie
+use Rattle.frames.proofs.ReadingLaws.{last-total, read-fields}
+use Rattle.frames.specs.Kind.{totalOf}
+use Rattle.frames.specs.Reading.{byteAt, fieldsOf, readFrame}
+use Rattle.frames.proofs.reading.read.Statement.{statement}
+use Rattle.frames.proofs.reading.read.Tie as tie
 
 returns : tie.Need-returns
 unfolding readFrame

@@ -1,0 +1,114 @@
+-- Laws of reading: the totals, when the fields of a kind are read, which numbers a refusal has, and what an accepted frame holds.
+-- Assumes nothing.
+use Prim.Native.Nat.{ℕ}
+use native.Mathlib.Omega.{arith}
+use mathlib.Core.Path.{_≡_, refl}
+use mathlib.Core.Bool.{Bool, not, _&&_, false}
+use mathlib.Core.List.{List, [], _∷_}
+use lib.Dec.{T, eqb, leb}
+use lib.ListN.{length}
+use borrow.Author.Tests.{eq-eqb, ne-eqb, eqb-false}
+use Rattle.basics.specs.Choice.{within, word}
+use Rattle.basics.proofs.ChoiceLaws.{is-true, holds, either, decided, and-left, and-right, within-low, within-high}
+use Rattle.frames.specs.Answer.{answerNumber}
+use Rattle.frames.specs.Kind.{totalOf, tickKind, batteryKind, antennasKind, orderKind, thresholdsKind}
+use Rattle.frames.specs.Sender.{groundOrigin, payloadOrigin, isOrigin, originFrom}
+use Rattle.frames.specs.Reading.{byteAt, wordAt, lastModule, payloadModule, isReading, areThresholds, fieldsOf, readFrame}
+use Rattle.frames.specs.Reading.{batteryFields, antennasFields, orderFields, thresholdsFields}
+use Rattle.frames.specs.declared.sender.Sender.{Sender}
+use Rattle.frames.specs.declared.sender.Origin.the-variants.{Ground}
+use Rattle.frames.specs.declared.command.Command.{Command}
+use Rattle.frames.specs.declared.command.Command.the-variants.{Order, Thresholds}
+use Rattle.frames.specs.declared.frame.Frame.{Frame}
+use Rattle.frames.specs.declared.frame.Frame.the-variants as frame
+use Rattle.frames.specs.declared.reading.Reading.{Reading}
+use Rattle.frames.specs.declared.reading.Reading.the-variants.{Refused, Accepted}
+
+-- a kind that has a total and is none of the first four is the fifth
+pub last-total :
+    (kind : ℕ) → (kind ≡ tickKind → ⊥) → (kind ≡ batteryKind → ⊥) → (kind ≡ antennasKind → ⊥) → (kind ≡ orderKind → ⊥) →
+    (totalOf kind ≡ 0 → ⊥) → totalOf kind ≡ totalOf thresholdsKind
+unfolding totalOf
+last-total kind a b c d known =
+    simp (ne-eqb kind tickKind a, ne-eqb kind batteryKind b, ne-eqb kind antennasKind c, ne-eqb kind orderKind d)
+    (decided (λ (n : ℕ). n ≡ 8) (eqb kind thresholdsKind) (λ e. refl)
+    (λ e. absurd (known (simp (ne-eqb kind tickKind a, ne-eqb kind batteryKind b, ne-eqb kind antennasKind c, ne-eqb kind orderKind d, e)))))
+
+-- bytes that pass checks 3 to 5 are read by their kind's fields
+pub read-fields :
+    (bytes : List ℕ) → (length bytes ≡ 0 → ⊥) → (totalOf (byteAt 0 bytes) ≡ 0 → ⊥) → length bytes ≡ totalOf (byteAt 0 bytes) →
+    readFrame bytes ≡ fieldsOf (byteAt 0 bytes) bytes
+unfolding readFrame
+read-fields bytes some known whole =
+    simp (ne-eqb (length bytes) 0 some, ne-eqb (totalOf (byteAt 0 bytes)) 0 known, eq-eqb (length bytes) (totalOf (byteAt 0 bytes)) whole)
+
+-- the fields of a command are in their ranges, and thresholds are ground's: those of the payload are never read
+abbrev pub FitsCommand : Sender → Command → Type 0
+FitsCommand sender (Order which on) = Unit {0}
+FitsCommand sender (Thresholds ascend descend) = record { fair : T (areThresholds ascend descend); ground : sender .origin ≡ Ground }
+
+-- the fields of a frame
+abbrev pub Fits : Frame → Type 0
+Fits (frame.Tick shorts) = Unit {0}
+Fits (frame.Battery tension) = T (isReading tension)
+Fits (frame.Antennas deployed) = Unit {0}
+Fits (frame.Command sender command) = FitsCommand sender command
+
+-- what is refused has one of the answers 3 to 7, what is accepted has its fields in range
+abbrev pub Sound : Reading → Type 0
+Sound (Refused answer) = T (within 3 7 (answerNumber answer))
+Sound (Accepted f) = Fits f
+
+battery-sound : (bytes : List ℕ) → Sound (batteryFields bytes)
+unfolding batteryFields
+battery-sound bytes = decided Sound (isReading (wordAt 1 bytes)) (holds (isReading (wordAt 1 bytes))) (λ e. tt)
+
+antennas-sound : (bytes : List ℕ) → Sound (antennasFields bytes)
+unfolding antennasFields
+antennas-sound bytes = either Sound (leb (byteAt 1 bytes) 1) tt tt
+
+order-sound : (bytes : List ℕ) → Sound (orderFields bytes)
+unfolding orderFields
+order-sound bytes =
+    either Sound (isOrigin (byteAt 1 bytes) && leb (byteAt 4 bytes) lastModule && leb (byteAt 5 bytes) 1)
+    (either Sound (eqb (byteAt 1 bytes) payloadOrigin && not (eqb (byteAt 4 bytes) payloadModule)) tt tt) tt
+
+-- an origin that is not the payload's is ground's
+origin-ground : (byte : ℕ) → T (isOrigin byte) → eqb byte payloadOrigin ≡ false → originFrom byte ≡ Ground
+origin-ground byte h e =
+    let low : byte ≡ groundOrigin =
+    omega (arith, within-low groundOrigin payloadOrigin byte h, within-high groundOrigin payloadOrigin byte h, eqb-false byte payloadOrigin e) in
+    simp (eq-eqb byte groundOrigin low)
+
+thresholds-sound : (bytes : List ℕ) → Sound (thresholdsFields bytes)
+unfolding thresholdsFields
+thresholds-sound bytes =
+    let origin : ℕ = byteAt 1 bytes in
+    let fair : Bool = areThresholds (wordAt 4 bytes) (wordAt 6 bytes) in
+    decided Sound (isOrigin origin && fair)
+    (λ e. decided Sound (eqb origin payloadOrigin) (λ p. tt)
+    (λ p. record {
+      fair = and-right (isOrigin origin) fair (holds (isOrigin origin && fair) e);
+      ground = origin-ground origin (and-left (isOrigin origin) fair (holds (isOrigin origin && fair) e)) p;
+    }))
+    (λ e. tt)
+
+fields-sound : (kind : ℕ) (bytes : List ℕ) → Sound (fieldsOf kind bytes)
+fields-sound kind bytes =
+    either Sound (eqb kind tickKind) tt
+    (either Sound (eqb kind batteryKind) (battery-sound bytes)
+    (either Sound (eqb kind antennasKind) (antennas-sound bytes)
+    (either Sound (eqb kind orderKind) (order-sound bytes) (thresholds-sound bytes))))
+
+pub read-sound : (bytes : List ℕ) → Sound (readFrame bytes)
+unfolding readFrame
+read-sound bytes =
+    either Sound (eqb (length bytes) 0) tt
+    (either Sound (eqb (totalOf (byteAt 0 bytes)) 0) tt
+    (either Sound (eqb (length bytes) (totalOf (byteAt 0 bytes))) (fields-sound (byteAt 0 bytes) bytes) tt))
+
+-- a battery frame in range is read as such
+pub battery-read :
+    (high low : ℕ) → T (isReading (word high low)) → readFrame (batteryKind ∷ high ∷ low ∷ []) ≡ Accepted (frame.Battery (word high low))
+unfolding readFrame totalOf batteryFields
+battery-read high low r = rw (is-true (isReading (word high low)) r)

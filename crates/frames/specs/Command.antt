@@ -1,0 +1,11 @@
+-- Commands: what has a sender.
+-- Assumes nothing.
+use Prim.Native.Nat.{ℕ}
+use Rattle.frames.specs.Kind.{orderKind, thresholdsKind}
+use Rattle.frames.specs.declared.command.Command.{Command}
+use Rattle.frames.specs.declared.command.Command.the-variants.{Order, Thresholds}
+
+-- the kind of a command
+abbrev pub commandKind : Command → ℕ
+commandKind (Order which on) = orderKind
+commandKind (Thresholds ascend descend) = thresholdsKind

@@ -1,0 +1,39 @@
+-- The kinds of frames: their numbers, and their total lengths.
+-- Assumes nothing.
+use Prim.Native.Nat.{ℕ}
+use lib.Dec.{eqb}
+use Rattle.basics.specs.Choice.{if_then_else_}
+
+-- the kinds that are read
+
+abbrev pub tickKind : ℕ
+tickKind = 1
+
+abbrev pub batteryKind : ℕ
+batteryKind = 2
+
+abbrev pub antennasKind : ℕ
+antennasKind = 3
+
+abbrev pub orderKind : ℕ
+orderKind = 4
+
+abbrev pub thresholdsKind : ℕ
+thresholdsKind = 5
+
+-- the kind of a report; it is only written
+abbrev pub reportKind : ℕ
+reportKind = 0x81
+
+-- its total
+abbrev pub reportBytes : ℕ
+reportBytes = 11
+
+-- the total of each kind that is read; an unknown kind has none
+unfoldable pub totalOf : ℕ → ℕ
+totalOf kind =
+    if eqb kind tickKind then 2 else
+    if eqb kind batteryKind then 3 else
+    if eqb kind antennasKind then 2 else
+    if eqb kind orderKind then 6 else
+    if eqb kind thresholdsKind then 8 else 0

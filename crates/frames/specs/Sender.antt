@@ -1,0 +1,28 @@
+-- Who sends a command: origin is 1 (ground, through MCS) or 2 (the payload).
+-- Assumes nothing.
+use Prim.Native.Nat.{ℕ}
+use mathlib.Core.Bool.{Bool}
+use lib.Dec.{eqb}
+use Rattle.basics.specs.Choice.{if_then_else_, within}
+use Rattle.frames.specs.declared.sender.Origin.{Origin}
+use Rattle.frames.specs.declared.sender.Origin.the-variants.{Ground, Payload}
+
+-- the numbers of the two origins
+
+abbrev pub groundOrigin : ℕ
+groundOrigin = 1
+
+abbrev pub payloadOrigin : ℕ
+payloadOrigin = 2
+
+-- a byte that is one of them
+abbrev pub isOrigin : ℕ → Bool
+isOrigin byte = within groundOrigin payloadOrigin byte
+
+-- from an origin to its number, and back
+abbrev pub originNumber : Origin → ℕ
+originNumber Ground = groundOrigin
+originNumber Payload = payloadOrigin
+
+abbrev pub originFrom : ℕ → Origin
+originFrom byte = if eqb byte groundOrigin then Ground else Payload

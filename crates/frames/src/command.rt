@@ -1,0 +1,28 @@
+// What a sender may command.
+ghost use mathlib.Core.Path.{_≡_};
+ghost use Rattle.frames.specs.Command.{commandKind};
+use crate::kind::ORDER;
+use crate::kind::THRESHOLDS;
+
+// A command that passed checks 3 to 7.
+pub enum Command {
+    // a module, by its number, is to be requested on or off
+    Order { which: u8, on: bool },
+    // both thresholds, in millivolts; read from ground alone
+    Thresholds { ascend: u16, descend: u16 },
+}
+
+impl Command {
+    // The number of its kind.
+    pub fn kind(self) -> u8
+        ensures { λ r. ⌜ r ≡ commandKind self ⌝ }
+    {
+        match self {
+            Command::Order { which: _, on: _ } => ORDER,
+            Command::Thresholds {
+                ascend: _,
+                descend: _,
+            } => THRESHOLDS,
+        }
+    }
+}
