@@ -1,8 +1,9 @@
--- All eight modules by their numbers: the module stage, requests set by a mask, the ranges of check 1.
+-- All eight modules by their numbers: the module stage, requests set by a mask or a number, the ranges of check 1.
 -- Assumes nothing.
 use Prim.Native.Nat.{ℕ}
 use mathlib.Core.Bool.{Bool, true, _&&_}
 use mathlib.Core.List.{List, [], _∷_}
+use lib.Dec.{eqb}
 use Rattle.basics.specs.Choice.{if_then_else_, bit}
 use Rattle.basics.specs.Each.{each}
 use Rattle.modules.specs.Power.{switched, powerInRange, withPower, withRequest}
@@ -27,6 +28,14 @@ moduleRequested mask on i m = withRequest (if bit i mask then on else m .request
 -- all eight
 unfoldable pub requestedBy : (mask : ℕ) (on : Bool) → List Module → List Module
 requestedBy mask on modules = each (moduleRequested mask on) modules
+
+-- one module, by its number, is requested on or off; the others keep their request
+abbrev pub moduleAsked : (which : ℕ) (on : Bool) → ℕ → Module → Module
+moduleAsked which on i m = withRequest (if eqb i which then on else m .requested) m
+
+-- all eight; no module has a number from 8 on
+unfoldable pub requestedOne : (which : ℕ) (on : Bool) → List Module → List Module
+requestedOne which on modules = each (moduleAsked which on) modules
 
 -- every module's tries or seconds are in their range
 unfoldable pub modulesInRange : List Module → Bool

@@ -1,7 +1,7 @@
-// All eight modules: the module stage of a tick, requests set by a mask, and the ranges of check 1.
+// All eight modules: the module stage of a tick, requests set by a mask or a number, and the ranges of check 1.
 ghost use mathlib.Core.Path.{_≡_};
 ghost use Rattle.basics.specs.Choice.{if_then_else_, bit};
-ghost use Rattle.modules.specs.Stage.{stageOf, requestedBy, modulesInRange};
+ghost use Rattle.modules.specs.Stage.{stageOf, requestedBy, requestedOne, modulesInRange};
 use crate::power::Module;
 
 // Whether module i is in a mask: its bit i. No mask has a module from 8 on.
@@ -45,6 +45,20 @@ pub fn request(modules: [Module; 8], mask: u8, on: bool) -> [Module; 8]
         next[i] = m.with_request(chosen(has(mask, i), on, m.requested));
         i += 1;
     }
+    next
+}
+
+// The modules with the request of one of them set; there is no module from 8 on.
+pub fn request_one(modules: [Module; 8], which: u8, on: bool) -> [Module; 8]
+    ensures { λ r. ⌜ r ≡ requestedOne which on modules ⌝ }
+{
+    let i = which as usize;
+    if 8 <= i {
+        return modules;
+    }
+    let mut next = modules;
+    let m = next[i];
+    next[i] = m.with_request(on);
     next
 }
 

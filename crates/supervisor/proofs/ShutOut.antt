@@ -7,24 +7,28 @@ use mathlib.Core.Bool.{Bool, false}
 use mathlib.Core.List.{List, [], _∷_, _++_}
 use lib.ListN.{getD, drop, replicate}
 use Rattle.basics.specs.Choice.{if_then_else_}
-use Rattle.modules.specs.Stage.{modulesInRange}
+use Rattle.basics.specs.Each.{each, eachFrom}
+use Rattle.basics.specs.Outcome.{Outcome, outcome}
+use Rattle.modules.specs.Stage.{requestedBy, modulesInRange}
 use Rattle.modules.specs.Masks.{maskOf, masksOf}
-use Rattle.frames.specs.Frame.{totalOf, antennasFields, readFrame}
+use Rattle.frames.specs.Kind.{reportBytes, totalOf}
+use Rattle.frames.specs.Reading.{antennasFields, readFrame}
 use Rattle.supervisor.specs.Fresh.{freshState}
 use Rattle.supervisor.specs.State.{withMode}
 use Rattle.supervisor.specs.Range.{inRange}
 use Rattle.supervisor.specs.Tick.{ticked}
 use Rattle.supervisor.specs.Act.{actOf}
-use Rattle.supervisor.specs.Report.{reportBytes, reportOf}
-use Rattle.supervisor.specs.Step.{Left, stepOf}
+use Rattle.supervisor.specs.Report.{reportOf}
+use Rattle.supervisor.specs.Step.{stepOf}
 use Rattle.supervisor.specs.declared.state.Phase.the-variants.{Waiting, Settling}
 use Rattle.supervisor.specs.declared.state.Mode.{Mode}
 use Rattle.supervisor.specs.declared.state.Mode.the-variants.{DeployWait, Recovery, Safe}
 use Rattle.supervisor.specs.declared.state.State.{State}
+use Rattle.supervisor.specs.declared.step.Stepped.{Stepped}
 
 -- a supervisor, as a contract sees it
 abbrev Supervisor : Type 0
-Supervisor = State → (input room : List ℕ) → Left
+Supervisor = State → (input room : List ℕ) → Outcome Stepped
 
 -- it does not meet the contract of `step`
 abbrev pub ShutOut : Supervisor → Type 0
@@ -32,27 +36,26 @@ ShutOut wrong = ((s : State) (input room : List ℕ) → wrong s input room ≡ 
 
 -- it works every frame, and writes the same report for each
 abbrev pub constantReport : List ℕ → Supervisor
-constantReport report s input room =
-    record { answer = stepOf s input room .answer; state = stepOf s input room .state; room = report ++ drop reportBytes room }
+constantReport report s input room = outcome (stepOf s input room .result) (report ++ drop reportBytes room)
 
 -- it works the frames of states that pass a test, such as the fresh one, and then only reports
 abbrev pub onlyReports : (worksIn : State → Bool) → Supervisor
 onlyReports worksIn s input room =
     if worksIn s then stepOf s input room
-    else record { answer = stepOf s input room .answer; state = s; room = stepOf s input room .room }
+    else outcome (record { answer = stepOf s input room .result .answer; state = s }) (stepOf s input room .room)
 
 room : List ℕ
 room = replicate 11 0
 
-kindOf : Left → ℕ
-kindOf left = getD (left .room) 1 0
+kindOf : Outcome Stepped → ℕ
+kindOf o = getD (o .room) 1 0
 
 tickKind-told : kindOf (stepOf freshState (1 ∷ 0 ∷ []) room) ≡ 1
-unfolding room kindOf stepOf freshState inRange modulesInRange readFrame totalOf actOf ticked reportOf masksOf maskOf
+unfolding room kindOf stepOf freshState requestedBy each eachFrom inRange modulesInRange readFrame totalOf actOf ticked reportOf masksOf maskOf
 tickKind-told = refl
 
 antennasKind-told : kindOf (stepOf freshState (3 ∷ 1 ∷ []) room) ≡ 3
-unfolding room kindOf stepOf freshState inRange modulesInRange readFrame totalOf antennasFields actOf reportOf masksOf maskOf
+unfolding room kindOf stepOf freshState requestedBy each eachFrom inRange modulesInRange readFrame totalOf antennasFields actOf reportOf masksOf maskOf
 antennasKind-told = refl
 
 -- a tick and an antennas frame have reports of different kinds
@@ -73,14 +76,14 @@ waitedOf (DeployWait (Settling seconds)) = 0
 waitedOf Recovery = 0
 waitedOf Safe = 0
 
-two-waited : waitedOf (stepOf waiting (1 ∷ 0 ∷ []) room .state .watch .mode) ≡ 2
-unfolding room waitedOf stepOf freshState inRange modulesInRange readFrame totalOf actOf ticked
+two-waited : waitedOf (stepOf waiting (1 ∷ 0 ∷ []) room .result .state .watch .mode) ≡ 2
+unfolding room waitedOf stepOf freshState requestedBy each eachFrom inRange modulesInRange readFrame totalOf actOf ticked
 two-waited = refl
 
 -- the second tick moves the state too
 pub only-reports : (worksIn : State → Bool) → worksIn waiting ≡ false → ShutOut (onlyReports worksIn)
 unfolding waitedOf
 only-reports worksIn idle meets =
-    let same : waiting ≡ stepOf waiting (1 ∷ 0 ∷ []) room .state = ap (λ (l : Left). l .state) (rw idle at (meets waiting (1 ∷ 0 ∷ []) room)) in
+    let same : waiting ≡ stepOf waiting (1 ∷ 0 ∷ []) room .result .state = ap (λ (o : Outcome Stepped). o .result .state) (rw idle at (meets waiting (1 ∷ 0 ∷ []) room)) in
     let one : _≡_ {A = ℕ} 1 2 = ap (λ (s : State). waitedOf (s .watch .mode)) same ∙ two-waited in
     omega arith

@@ -1,79 +1,80 @@
--- Laws of a tick outside DEPLOY_WAIT: the counts it may rely on, and its stages.
+-- A tick by its cases: a second of DEPLOY_WAIT, or the three stages; and what it leaves.
 -- Assumes nothing.
-use Prim.Native.Nat.{ℕ, _+_, _<_}
-use mathlib.Core.Path.{_≡_, refl}
-use mathlib.Core.Bool.{Bool, true, false, _&&_}
-use lib.Dec.{T, ltb, ltb→lt, eqb}
-use Rattle.basics.proofs.ChoiceLaws.{holds, and-left, and-right, either}
-use Rattle.modules.specs.Stage.{modulesInRange}
-use Rattle.supervisor.specs.Range.{judgeTicks, basicTicks, watchInRange, batteryInRange, phaseInRange, inRange}
-use Rattle.supervisor.specs.State.{withControl}
-use Rattle.supervisor.specs.Tick.{crossingOf, crossed, controlled, moduleStage, beaconStage, tickedIn, ticked}
+use Prim.Native.Nat.{ℕ}
+use mathlib.Core.Path.{_≡_, refl, sym, _∙_}
+use mathlib.Core.Bool.{Bool, true, false, true≢false}
+use Rattle.frames.specs.declared.answer.Answer.the-variants.{Done}
+use Rattle.supervisor.specs.State.{isDeployWait, withMode}
+use Rattle.supervisor.specs.Acted.{done}
+use Rattle.supervisor.specs.Deploy.{phaseTicked}
+use Rattle.supervisor.specs.Due.{beaconStage}
+use Rattle.supervisor.specs.Tick.{beforeModules, moduleStage, stages, ticked}
 use Rattle.supervisor.specs.declared.state.Phase.{Phase}
 use Rattle.supervisor.specs.declared.state.Mode.{Mode}
 use Rattle.supervisor.specs.declared.state.Mode.the-variants.{DeployWait, Recovery, Safe}
 use Rattle.supervisor.specs.declared.state.State.{State}
-use Rattle.supervisor.specs.declared.tick.Crossing.{Crossing}
-use Rattle.supervisor.specs.declared.tick.Crossing.the-variants.{Level, Upward, Downward}
+use Rattle.supervisor.proofs.BeforeModulesLaws.{before-serials, before-beacon, before-flies, before-eight}
+use Rattle.supervisor.proofs.ModuleLaws.{Eight, stage-eight}
 
--- RECOVERY or SAFE
-abbrev pub inFlight : Mode → Bool
-inFlight (DeployWait phase) = false
-inFlight Recovery = true
-inFlight Safe = true
-
--- the watch of a state in range
-pub inRange-watch : (s : State) → inRange s ≡ true → T (watchInRange (s .watch .mode) (s .watch .control) (s .watch .beacon))
-unfolding inRange
-inRange-watch s h =
-    let watch : Bool = watchInRange (s .watch .mode) (s .watch .control) (s .watch .beacon) in
-    and-left watch (batteryInRange (s .battery))
-    (and-left (watch && batteryInRange (s .battery)) (modulesInRange (s .modules)) (holds (inRange s) h))
-
--- the phase of a state in range
-pub inRange-phase : (phase : Phase) (control beacon : ℕ) → T (watchInRange (DeployWait phase) control beacon) → T (phaseInRange phase)
-inRange-phase phase control beacon h =
-    and-left (phaseInRange phase) (eqb control 0) (and-left (phaseInRange phase && eqb control 0) (eqb beacon 0) h)
-
--- the counts, in flight
-both-low : (control beacon : ℕ) → T (ltb control judgeTicks && ltb beacon basicTicks) → (control < judgeTicks) × (beacon < basicTicks)
-both-low control beacon h =
-    (ltb→lt control judgeTicks (and-left (ltb control judgeTicks) (ltb beacon basicTicks) h), ltb→lt beacon basicTicks (and-right (ltb control judgeTicks) (ltb beacon basicTicks) h))
-
-counts-low : (mode : Mode) (control beacon : ℕ) → T (inFlight mode) → T (watchInRange mode control beacon) → (control < judgeTicks) × (beacon < basicTicks)
-counts-low (DeployWait phase) control beacon f h = absurd f
-counts-low Recovery control beacon f h = both-low control beacon h
-counts-low Safe control beacon f h = both-low control beacon h
-
-pub control-low : (s : State) → inRange s ≡ true → T (inFlight (s .watch .mode)) → s .watch .control < judgeTicks
-control-low s h f = counts-low (s .watch .mode) (s .watch .control) (s .watch .beacon) f (inRange-watch s h) .0
-
-pub beacon-low : (s : State) → inRange s ≡ true → T (inFlight (s .watch .mode)) → s .watch .beacon < basicTicks
-beacon-low s h f = counts-low (s .watch .mode) (s .watch .control) (s .watch .beacon) f (inRange-watch s h) .1
-
--- control leaves the beacon count
-crossed-beacon : (crossing : Crossing) (s : State) → crossed crossing s .watch .beacon ≡ s .watch .beacon
-crossed-beacon Level s = refl
-crossed-beacon Upward s = refl
-crossed-beacon Downward s = refl
-
-controlled-beacon : (s : State) → controlled s .watch .beacon ≡ s .watch .beacon
-unfolding controlled
-controlled-beacon s =
-    either (λ (t : State). t .watch .beacon ≡ s .watch .beacon) (eqb (s .watch .control + 1) judgeTicks)
-    (crossed-beacon (crossingOf (s .watch .mode) (s .battery)) (withControl 0 s)) refl
-
--- so do control and the modules
-pub stages-beacon : (shorts : ℕ) (s : State) → moduleStage shorts (controlled s) .watch .beacon ≡ s .watch .beacon
+-- what the beacon stage finds: the beacon count as before the tick
+pub staged-beacon : (shorts : ℕ) (s : State) → moduleStage shorts (beforeModules s) .watch .beacon ≡ s .watch .beacon
 unfolding moduleStage
-stages-beacon shorts s = controlled-beacon s
+staged-beacon shorts s = before-beacon s
 
--- in flight the three stages run
-tickedIn-flight : (mode : Mode) → T (inFlight mode) → (shorts : ℕ) (s : State) → beaconStage (moduleStage shorts (controlled s)) ≡ tickedIn mode shorts s
-tickedIn-flight (DeployWait phase) f shorts s = absurd f
-tickedIn-flight Recovery f shorts s = refl
-tickedIn-flight Safe f shorts s = refl
+pub data Ticks (shorts : ℕ) (s : State) : Type 0 where
+  waits : (phase : Phase) → s .watch .mode ≡ DeployWait phase → ticked shorts s ≡ done (withMode (phaseTicked (s .antennas) phase) s) → Ticks shorts s
+  runs : isDeployWait (s .watch .mode) ≡ false → ticked shorts s ≡ stages shorts s → Ticks shorts s
 
-pub ticked-flight : (shorts : ℕ) (s : State) → T (inFlight (s .watch .mode)) → beaconStage (moduleStage shorts (controlled s)) ≡ ticked shorts s
-unfolding ticked
-ticked-flight shorts s f = tickedIn-flight (s .watch .mode) f shorts s
+module _ (shorts : ℕ) (s : State) where
+  by-mode : (m : Mode) → s .watch .mode ≡ m → Ticks shorts s
+  unfolding ticked
+  by-mode (DeployWait phase) e = waits phase e (rw e)
+  by-mode Recovery e = runs (rw e) (rw e)
+  by-mode Safe e = runs (rw e) (rw e)
+
+  pub ticks : Ticks shorts s
+  ticks = by-mode (s .watch .mode) refl
+
+  stages-by : isDeployWait (s .watch .mode) ≡ false → Ticks shorts s → stages shorts s ≡ ticked shorts s
+  stages-by e (waits phase m w) = absurd (true≢false (rw m at e))
+  stages-by e (runs f w) = sym w
+
+  -- outside DEPLOY_WAIT the three stages run
+  pub ticked-stages : isDeployWait (s .watch .mode) ≡ false → stages shorts s ≡ ticked shorts s
+  ticked-stages e = stages-by e ticks
+
+  -- a tick is always done
+  done-by : Ticks shorts s → ticked shorts s .answer ≡ Done
+  unfolding beaconStage
+  done-by (waits phase e w) = rw w
+  done-by (runs e w) = rw w
+
+  pub ticked-done : ticked shorts s .answer ≡ Done
+  ticked-done = done-by ticks
+
+  -- it moves no serial
+  serials-by : Ticks shorts s → ticked shorts s .state .serials ≡ s .serials
+  unfolding beaconStage moduleStage
+  serials-by (waits phase e w) = rw w
+  serials-by (runs e w) = rw w (before-serials s)
+
+  pub ticked-serials : ticked shorts s .state .serials ≡ s .serials
+  ticked-serials = serials-by ticks
+
+  -- it stays outside DEPLOY_WAIT
+  flies-by : isDeployWait (s .watch .mode) ≡ false → Ticks shorts s → isDeployWait (ticked shorts s .state .watch .mode) ≡ false
+  unfolding beaconStage moduleStage
+  flies-by e (waits phase m w) = absurd (true≢false (rw m at e))
+  flies-by e (runs f w) = rw w (before-flies s e)
+
+  pub ticked-flies : isDeployWait (s .watch .mode) ≡ false → isDeployWait (ticked shorts s .state .watch .mode) ≡ false
+  ticked-flies e = flies-by e ticks
+
+  -- it leaves eight modules
+  eight-by : Eight s → Ticks shorts s → Eight (ticked shorts s .state)
+  unfolding beaconStage
+  eight-by n (waits phase e w) = rw w n
+  eight-by n (runs e w) = rw w (stage-eight _ (before-eight s n) shorts)
+
+  pub ticked-eight : Eight s → Eight (ticked shorts s .state)
+  ticked-eight n = eight-by n ticks

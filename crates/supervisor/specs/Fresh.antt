@@ -1,24 +1,20 @@
 -- The fresh start.
 -- Assumes nothing.
 use Prim.Native.Nat.{ℕ}
-use mathlib.Core.Bool.{Bool, true, false}
-use mathlib.Core.List.{List, [], _∷_}
-use Rattle.modules.specs.Power.{fullTries}
-use Rattle.modules.specs.declared.power.Power.the-variants.{Off}
+use mathlib.Core.Bool.{true, false}
+use mathlib.Core.List.{List}
+use lib.ListN.{replicate}
+use Rattle.modules.specs.Groups.{moduleCount, coreFour}
+use Rattle.modules.specs.Stage.{requestedBy}
 use Rattle.modules.specs.declared.power.Module.{Module}
+use Rattle.supervisor.specs.State.{offModule}
 use Rattle.supervisor.specs.declared.state.Phase.the-variants.{Waiting}
 use Rattle.supervisor.specs.declared.state.Mode.the-variants.{DeployWait}
 use Rattle.supervisor.specs.declared.state.State.{State}
 
--- every module off with 5 tries
-abbrev pub offRequested : Bool → Module
-offRequested requested = record { power = Off fullTries; requested = requested }
-
--- core four (0, 1, 2, 5) requested on, mission four requested off
+-- every module off with 5 tries, core four requested on, mission four requested off
 abbrev pub freshModules : List Module
-freshModules =
-    offRequested true ∷ offRequested true ∷ offRequested true ∷ offRequested false
-    ∷ offRequested false ∷ offRequested true ∷ offRequested false ∷ offRequested false ∷ []
+freshModules = requestedBy coreFour true (replicate moduleCount offModule)
 
 -- the thresholds at the start
 abbrev pub freshAscend : ℕ
@@ -27,7 +23,8 @@ freshAscend = 7400
 abbrev pub freshDescend : ℕ
 freshDescend = 7000
 
--- DEPLOY_WAIT, waited 0 seconds, antennas folded, tension 0, ascend 7,400, descend 7,000, both counts 0, both last serials 0
+-- DEPLOY_WAIT, waited 0 seconds, antennas folded, tension 0, ascend 7,400, descend 7,000, both counts 0,
+-- both last serials 0
 unfoldable pub freshState : State
 freshState =
     record {

@@ -2,8 +2,12 @@ pub mod State
 pub mod Fresh
 pub mod Range
 pub mod Acted
+pub mod Deploy
+pub mod Control
+pub mod Due
 pub mod Tick
-pub mod Order
+pub mod Command
 pub mod Act
 pub mod Report
 pub mod Step
+pub mod History

@@ -4,7 +4,7 @@ use Prim.Native.Nat.{ℕ}
 use mathlib.Core.Bool.{Bool, _&&_, _||_}
 use lib.Dec.{ltb, eqb}
 use Rattle.basics.specs.Choice.{within}
-use Rattle.frames.specs.Frame.{isReading, areThresholds}
+use Rattle.frames.specs.Reading.{isReading, areThresholds}
 use Rattle.modules.specs.Stage.{modulesInRange}
 use Rattle.supervisor.specs.declared.state.Phase.{Phase}
 use Rattle.supervisor.specs.declared.state.Phase.the-variants.{Waiting, Settling}
@@ -49,4 +49,6 @@ watchInRange Safe control beacon = ltb control judgeTicks && ltb beacon basicTic
 
 -- check 1 passes
 unfoldable pub inRange : State → Bool
-inRange s = watchInRange (s .watch .mode) (s .watch .control) (s .watch .beacon) && batteryInRange (s .battery) && modulesInRange (s .modules)
+inRange s =
+    watchInRange (s .watch .mode) (s .watch .control) (s .watch .beacon)
+    && batteryInRange (s .battery) && modulesInRange (s .modules)

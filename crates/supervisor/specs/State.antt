@@ -1,8 +1,11 @@
--- The state: modes by number, the groups of modules, and the state with one part changed.
+-- The state: modes by number, a module by its number, and the state with one part changed.
 -- Assumes nothing.
 use Prim.Native.Nat.{ℕ}
-use mathlib.Core.Bool.{Bool}
+use mathlib.Core.Bool.{Bool, true, false}
 use mathlib.Core.List.{List}
+use lib.ListN.{getD}
+use Rattle.modules.specs.Power.{fullTries}
+use Rattle.modules.specs.declared.power.Power.the-variants.{Off}
 use Rattle.modules.specs.declared.power.Module.{Module}
 use Rattle.supervisor.specs.declared.state.Mode.{Mode}
 use Rattle.supervisor.specs.declared.state.Mode.the-variants.{DeployWait, Recovery, Safe}
@@ -17,44 +20,68 @@ modeNumber (DeployWait phase) = 0
 modeNumber Recovery = 1
 modeNumber Safe = 2
 
--- the core four are 0, 1, 2, 5
-abbrev pub coreFour : ℕ
-coreFour = 0x27
+-- the mode is DEPLOY_WAIT; is SAFE
+abbrev pub isDeployWait : Mode → Bool
+isDeployWait (DeployWait phase) = true
+isDeployWait Recovery = false
+isDeployWait Safe = false
 
--- the mission four are 3, 4, 6, 7
-abbrev pub missionFour : ℕ
-missionFour = 0xD8
+abbrev pub isSafe : Mode → Bool
+isSafe (DeployWait phase) = false
+isSafe Recovery = false
+isSafe Safe = true
+
+abbrev pub inDeployWait : State → Bool
+inDeployWait s = isDeployWait (s .watch .mode)
+
+-- a module that is off with 5 tries, and not requested
+abbrev pub offModule : Module
+offModule = record { power = Off fullTries; requested = false }
+
+-- module i of a state
+abbrev pub moduleAt : ℕ → State → Module
+moduleAt i s = getD (s .modules) i offModule
 
 -- the state with another watch, battery, serials, antennas, modules
 
 abbrev pub withWatch : Watch → State → State
-withWatch watch s = record { watch = watch; antennas = s .antennas; battery = s .battery; serials = s .serials; modules = s .modules }
+withWatch watch s =
+    record { watch = watch; antennas = s .antennas; battery = s .battery; serials = s .serials; modules = s .modules }
 
 abbrev pub withAntennas : Bool → State → State
-withAntennas deployed s = record { watch = s .watch; antennas = deployed; battery = s .battery; serials = s .serials; modules = s .modules }
+withAntennas deployed s =
+    record { watch = s .watch; antennas = deployed; battery = s .battery; serials = s .serials; modules = s .modules }
 
 abbrev pub withBattery : Battery → State → State
-withBattery battery s = record { watch = s .watch; antennas = s .antennas; battery = battery; serials = s .serials; modules = s .modules }
+withBattery battery s =
+    record { watch = s .watch; antennas = s .antennas; battery = battery; serials = s .serials; modules = s .modules }
 
 abbrev pub withSerials : Serials → State → State
-withSerials serials s = record { watch = s .watch; antennas = s .antennas; battery = s .battery; serials = serials; modules = s .modules }
+withSerials serials s =
+    record { watch = s .watch; antennas = s .antennas; battery = s .battery; serials = serials; modules = s .modules }
 
 abbrev pub withModules : List Module → State → State
-withModules modules s = record { watch = s .watch; antennas = s .antennas; battery = s .battery; serials = s .serials; modules = modules }
+withModules modules s =
+    record { watch = s .watch; antennas = s .antennas; battery = s .battery; serials = s .serials; modules = modules }
 
 -- and with one number or the mode alone
 
 abbrev pub withMode : Mode → State → State
-withMode mode s = withWatch (record { mode = mode; control = s .watch .control; beacon = s .watch .beacon }) s
+withMode mode s =
+    withWatch (record { mode = mode; control = s .watch .control; beacon = s .watch .beacon }) s
 
 abbrev pub withControl : ℕ → State → State
-withControl count s = withWatch (record { mode = s .watch .mode; control = count; beacon = s .watch .beacon }) s
+withControl count s =
+    withWatch (record { mode = s .watch .mode; control = count; beacon = s .watch .beacon }) s
 
 abbrev pub withBeacon : ℕ → State → State
-withBeacon count s = withWatch (record { mode = s .watch .mode; control = s .watch .control; beacon = count }) s
+withBeacon count s =
+    withWatch (record { mode = s .watch .mode; control = s .watch .control; beacon = count }) s
 
 abbrev pub withTension : ℕ → State → State
-withTension tension s = withBattery (record { tension = tension; ascend = s .battery .ascend; descend = s .battery .descend }) s
+withTension tension s =
+    withBattery (record { tension = tension; ascend = s .battery .ascend; descend = s .battery .descend }) s
 
 abbrev pub withThresholds : (ascend descend : ℕ) → State → State
-withThresholds ascend descend s = withBattery (record { tension = s .battery .tension; ascend = ascend; descend = descend }) s
+withThresholds ascend descend s =
+    withBattery (record { tension = s .battery .tension; ascend = ascend; descend = descend }) s

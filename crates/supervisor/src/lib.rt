@@ -1,9 +1,16 @@
 // The supervisor: a state and a frame in, the next state, one answer and at most one report out.
 // The walk of a frame: step, then frames (what the bytes say), then act (what it does), then report (what is written).
-pub mod act;
-pub mod order;
+// What act calls: tick (deploy, or control, the module stage and due), news, command.
+mod act;
+mod acted;
+mod command;
+mod control;
+mod deploy;
+mod due;
+pub mod fresh;
+mod news;
 pub mod range;
-pub mod report;
+mod report;
 pub mod state;
 pub mod step;
-pub mod tick;
+mod tick;

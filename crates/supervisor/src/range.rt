@@ -6,10 +6,26 @@ use crate::state::Mode;
 use crate::state::Phase;
 use crate::state::State;
 use crate::state::Watch;
-use frames::frame::are_thresholds;
-use frames::frame::is_reading;
+use frames::reading::are_thresholds;
+use frames::reading::is_reading;
+
+// The seconds after which waiting for the antennas ends.
+pub(crate) const WAIT_SECONDS: u32 = 86400;
+
+// The seconds of settling.
+pub(crate) const SETTLE_SECONDS: u16 = 900;
+
+// The ticks from one judgement of the mode to the next.
+pub(crate) const JUDGE_TICKS: u8 = 30;
+
+// The ticks from one basic beacon to the next.
+pub(crate) const BASIC_TICKS: u16 = 300;
+
+// The ticks from one complete beacon to the next.
+pub(crate) const COMPLETE_TICKS: u16 = 60;
 
 impl Battery {
+    // Whether the tension and the thresholds are in range.
     fn in_range(self) -> bool
         ensures { λ r. ⌜ r ≡ batteryInRange self ⌝ }
     {
@@ -18,17 +34,19 @@ impl Battery {
 }
 
 impl Phase {
+    // Whether the seconds are in range.
     fn in_range(self) -> bool
         ensures { λ r. ⌜ r ≡ phaseInRange self ⌝ }
     {
         match self {
-            Phase::Waiting(waited) => waited < 86400,
-            Phase::Settling(left) => (1 <= left) & (left <= 900),
+            Phase::Waiting(waited) => waited < WAIT_SECONDS,
+            Phase::Settling(left) => (1 <= left) & (left <= SETTLE_SECONDS),
         }
     }
 }
 
 impl Watch {
+    // Whether the phase and both counts are in range.
     fn in_range(self) -> bool
         ensures { λ r. ⌜ r ≡ watchInRange (self .mode) (self .control) (self .beacon) ⌝ }
     {
@@ -37,8 +55,8 @@ impl Watch {
         let beacon = self.beacon;
         match mode {
             Mode::DeployWait(phase) => phase.in_range() & (control == 0) & (beacon == 0),
-            Mode::Recovery => (control < 30) & (beacon < 300),
-            Mode::Safe => (control < 30) & (beacon < 300),
+            Mode::Recovery => (control < JUDGE_TICKS) & (beacon < BASIC_TICKS),
+            Mode::Safe => (control < JUDGE_TICKS) & (beacon < BASIC_TICKS),
         }
     }
 }

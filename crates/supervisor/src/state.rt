@@ -1,10 +1,8 @@
-// The supervisor's state, and the fresh one.
+// The supervisor's state.
 ghost use mathlib.Core.Path.{_≡_};
-ghost use Rattle.supervisor.specs.State.{modeNumber};
-ghost use Rattle.supervisor.specs.Fresh.{freshState, offRequested};
+ghost use Rattle.supervisor.specs.State.{modeNumber, isSafe, withMode, withModules};
 use frames::serial::Serials;
 use modules::power::Module;
-use modules::power::Power;
 
 // The deploy phase, had in DEPLOY_WAIT and in no other mode.
 pub enum Phase {
@@ -35,6 +33,7 @@ pub struct Battery {
     pub descend: u16,
 }
 
+// All that the board remembers from one frame to the next.
 pub struct State {
     pub watch: Watch,
     // whether the latest report has the antennas deployed
@@ -55,40 +54,38 @@ impl Mode {
             Mode::Safe => 2,
         }
     }
-}
 
-// A module that is off with 5 tries.
-fn off(requested: bool) -> Module
-    ensures { λ r. ⌜ r ≡ offRequested requested ⌝ }
-{
-    Module {
-        power: Power::Off(5),
-        requested,
+    // Whether this is SAFE.
+    pub(crate) fn is_safe(self) -> bool
+        ensures { λ r. ⌜ r ≡ isSafe self ⌝ }
+    {
+        match self {
+            Mode::DeployWait(_) => false,
+            Mode::Recovery => false,
+            Mode::Safe => true,
+        }
     }
 }
 
-// The state at the start of a flight.
-pub fn fresh() -> State
-    ensures { λ r. ⌜ r ≡ freshState ⌝ }
-{
-    let core = off(true);
-    let mission = off(false);
-    State {
-        watch: Watch {
-            mode: Mode::DeployWait(Phase::Waiting(0)),
-            control: 0,
-            beacon: 0,
-        },
-        antennas: false,
-        battery: Battery {
-            tension: 0,
-            ascend: 7400,
-            descend: 7000,
-        },
-        serials: Serials {
-            ground: 0,
-            payload: 0,
-        },
-        modules: [core, core, core, mission, mission, core, mission, mission],
+impl State {
+    // The state in another mode.
+    pub(crate) fn with_mode(mut self, mode: Mode) -> State
+        ensures { λ r. ⌜ r ≡ withMode mode self ⌝ }
+    {
+        let watch = Watch {
+            mode,
+            control: self.watch.control,
+            beacon: self.watch.beacon,
+        };
+        self.watch = watch;
+        self
+    }
+
+    // The state with other modules.
+    pub(crate) fn with_modules(mut self, modules: [Module; 8]) -> State
+        ensures { λ r. ⌜ r ≡ withModules modules self ⌝ }
+    {
+        self.modules = modules;
+        self
     }
 }

@@ -1,12 +1,14 @@
 // One frame, with a state and a room for its report.
 ghost use mathlib.Core.Path.{_≡_};
-ghost use Rattle.supervisor.specs.Step.{left, stepOf};
+ghost use Rattle.basics.specs.Outcome.{outcome};
+ghost use Rattle.supervisor.specs.Step.{stepOf};
 use crate::act::act;
 use crate::report::write;
 use crate::state::State;
 use frames::answer::Answer;
-use frames::frame::Reading;
-use frames::frame::read;
+use frames::kind::REPORT_BYTES;
+use frames::reading::Reading;
+use frames::reading::read;
 
 // The answer, and the next state.
 pub struct Stepped {
@@ -17,17 +19,17 @@ pub struct Stepped {
 // Takes one frame. At answers 0, 8, 9 and 10 a report fills the first 11 bytes of the room;
 // at any other answer the state is the same and the room untouched.
 pub fn step(state: State, input: &[u8], room: &mut [u8]) -> Stepped
-    ensures { λ r. ⌜ left r (now (room .exit)) ≡ stepOf state (now (input .entry)) (now (room .entry)) ⌝ }
+    ensures { λ r. ⌜ outcome r (now (room .exit)) ≡ stepOf state (now (input .entry)) (now (room .entry)) ⌝ }
 {
     if !state.in_range() {
         return Stepped {
-            answer: Answer::StateOutside,
+            answer: Answer::BadState,
             state,
         };
     }
-    if room.len() < 11 {
+    if room.len() < REPORT_BYTES {
         return Stepped {
-            answer: Answer::NoRoom,
+            answer: Answer::ShortRoom,
             state,
         };
     }

@@ -9,8 +9,8 @@ use Rattle.supervisor.specs.Report.{reportOf}
 use Rattle.supervisor.proofs.report.write.Statement.{statement}
 use Rattle.supervisor.proofs.report.write.Tie as tie
 
-head-of-requires : tie.Need-head-of-requires
-head-of-requires c κs = search needs
+head-requires : tie.Need-head-requires
+head-requires c κs = search needs
 
 masks-of-requires : tie.Need-masks-of-requires
 masks-of-requires c κs = search needs
@@ -57,8 +57,8 @@ slice-write-room-9 c = simp length-set (omega arith)
 slice-write-room-10 : tie.Need-slice-write-room-10
 slice-write-room-10 c = simp length-set (omega arith)
 
-due-number-requires : tie.Need-due-number-requires
-due-number-requires c κs = search needs
+number-requires-3 : tie.Need-number-requires-3
+number-requires-3 c κs = search needs
 
 slice-write-room-11 : tie.Need-slice-write-room-11
 slice-write-room-11 c = simp length-set (omega arith)
@@ -68,13 +68,16 @@ same-length c = simp length-set
 
 returns : tie.Need-returns
 unfolding reportOf
-returns c = simp (c .due-number .ensures, c .before .number2 .ensures, c .before .before .number .ensures, c .before .before .before .before .before .masks-of .ensures, c .before .before .before .before .before .before .before .before .before .head-of .ensures) (sets-eq (reportOf (c .before .before .before .before .before .before .before .before .before .before .before .args .frame) (c .before .before .before .before .before .before .before .before .before .before .before .args .acted)) (now (c .before .before .before .before .before .before .before .before .before .before .before .args .room)) 0 (c .before .before .before .before .before .before .before .before .before .before .before .pre))
+returns c =
+    let start : tie.Start = c .before .before .before .before .before .before .before .before .before .before .before in
+    simp (c .number3 .ensures, c .before .number2 .ensures, c .before .before .number .ensures, c .before .before .before .before .before .masks-of .ensures, c .before .before .before .before .before .before .before .before .before .head .ensures)
+    (sets-eq (reportOf (start .args .frame) (start .args .acted)) (now (start .args .room)) 0 (start .pre))
 
 pub write-spec : {M : Type 1} → statement M
 write-spec =
     tie.close
     (tie.spec
-    head-of-requires
+    head-requires
     masks-of-requires
     slice-write-room
     slice-write-room-2
@@ -90,7 +93,7 @@ write-spec =
     slice-write-room-8
     slice-write-room-9
     slice-write-room-10
-    due-number-requires
+    number-requires-3
     slice-write-room-11
     same-length
     returns)

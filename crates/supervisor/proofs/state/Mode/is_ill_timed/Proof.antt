@@ -1,7 +1,7 @@
 -- `Mode::is_ill_timed` meets its contract.
 -- Assumes nothing.
 use borrow.Author.Needs.{needs}
-use Rattle.supervisor.specs.Order.{isIllTimed}
+use Rattle.supervisor.specs.Command.{isIllTimed}
 use Rattle.supervisor.proofs.state.Mode.is_ill_timed.Statement.{statement}
 use Rattle.supervisor.proofs.state.Mode.is_ill_timed.Tie as tie
 

@@ -2,7 +2,7 @@
 -- Assumes nothing.
 use borrow.Author.Tests.{eq-eqb, ne-eqb}
 use borrow.Author.Needs.{needs}
-use Rattle.supervisor.specs.Tick.{controlled}
+use Rattle.supervisor.specs.Control.{controlled}
 use Rattle.supervisor.proofs.state.State.control.Statement.{statement}
 use Rattle.supervisor.proofs.state.State.control.Tie as tie
 

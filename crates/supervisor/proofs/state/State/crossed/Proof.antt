@@ -7,8 +7,15 @@ use Rattle.supervisor.proofs.state.State.crossed.Tie as tie
 request-requires : tie.Need-request-requires
 request-requires c κs = search needs
 
+with-mode-requires : tie.Need-with-mode-requires
+with-mode-requires c κs = search needs
+
+with-modules-requires : tie.Need-with-modules-requires
+with-modules-requires c κs = search needs
+
 returns : tie.Need-returns
-returns c = simp (c .request .ensures)
+returns c = simp (c .with-modules .ensures, c .before .with-mode .ensures, c .before .before .request .ensures)
 
 pub crossed-spec : {M : Type 1} → statement M
-crossed-spec = tie.close (tie.spec request-requires returns)
+crossed-spec =
+    tie.close (tie.spec request-requires with-mode-requires with-modules-requires returns)

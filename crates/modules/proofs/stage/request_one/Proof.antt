@@ -1,0 +1,47 @@
+-- `request_one` meets its contract.
+-- Assumes nothing.
+use mathlib.Core.Path.{_≡_}
+use mathlib.Core.Bool.{false}
+use native.Mathlib.Omega.{arith}
+use lib.ListN.{length}
+use Rattle.basics.proofs.EachLaws.{length-mapped}
+use Rattle.modules.specs.declared.power.Power.the-variants.{On}
+use Rattle.modules.proofs.StageLaws.{request-stored, request-past}
+use borrow.Author.Needs.{needs}
+use Rattle.modules.proofs.stage.request_one.Statement.{statement}
+use Rattle.modules.proofs.stage.request_one.Tie as tie
+
+returns : tie.Need-returns
+returns c =
+    let eight : length (c .before .args .modules) ≡ 8 = search (needs, length-mapped) in
+    request-past (c .before .args .which) (c .before .args .on) (c .before .args .modules) (record { power = On; requested = false }) (omega arith)
+
+mul-m : tie.Need-mul-m
+mul-m c = search needs
+
+array-copy-out-m : tie.Need-array-copy-out-m
+array-copy-out-m c = search needs
+
+with-request-requires : tie.Need-with-request-requires
+with-request-requires c κs = search needs
+
+mul-next : tie.Need-mul-next
+mul-next c = search needs
+
+array-set-from-next : tie.Need-array-set-from-next
+array-set-from-next c = search needs
+
+returns-2 : tie.Need-returns-2
+returns-2 c = simp (c .with-request .ensures) (request-stored (c .before .before .before .args .which) (c .before .before .before .args .on) (c .before .before .before .args .modules) _)
+
+pub request-one-spec : {M : Type 1} → statement M
+request-one-spec =
+    tie.close
+    (tie.spec
+    returns
+    mul-m
+    array-copy-out-m
+    with-request-requires
+    mul-next
+    array-set-from-next
+    returns-2)

@@ -1,0 +1,69 @@
+-- Laws of the state that the module stage finds: what the stages before it leave, and what they may change.
+-- Assumes nothing.
+use Prim.Native.Nat.{ℕ, _<_}
+use mathlib.Core.Path.{_≡_, refl, ap, _∙_}
+use mathlib.Core.Bool.{Bool, true, false, true≢false}
+use lib.Dec.{T}
+use Rattle.modules.specs.Groups.{moduleCount, coreFour, missionFour, isMission}
+use Rattle.supervisor.specs.State.{isDeployWait, moduleAt, withControl}
+use Rattle.supervisor.specs.Control.{controlled}
+use Rattle.supervisor.specs.Tick.{beforeModules}
+use Rattle.supervisor.specs.declared.state.Mode.{Mode}
+use Rattle.supervisor.specs.declared.state.Mode.the-variants.{Recovery, Safe}
+use Rattle.supervisor.specs.declared.state.State.{State}
+use Rattle.supervisor.proofs.ControlLaws.{Controls, level, upward, downward, controls}
+use Rattle.supervisor.proofs.ModuleLaws.{Eight, crossed-eight, at-crossed}
+
+-- what control leaves, and so what the module stage finds
+module _ (s : State) where
+  serials-by : Controls s → controlled s .serials ≡ s .serials
+  serials-by (level count low none w) = rw w
+  serials-by (upward j e t w) = rw w
+  serials-by (downward j e t w) = rw w
+
+  -- the serials
+  pub before-serials : beforeModules s .serials ≡ s .serials
+  unfolding beforeModules
+  before-serials = serials-by (controls s)
+
+  beacon-by : Controls s → controlled s .watch .beacon ≡ s .watch .beacon
+  beacon-by (level count low none w) = rw w
+  beacon-by (upward j e t w) = rw w
+  beacon-by (downward j e t w) = rw w
+
+  -- the beacon count
+  pub before-beacon : beforeModules s .watch .beacon ≡ s .watch .beacon
+  unfolding beforeModules
+  before-beacon = beacon-by (controls s)
+
+  flies-by : isDeployWait (s .watch .mode) ≡ false → Controls s → isDeployWait (controlled s .watch .mode) ≡ false
+  flies-by e (level count low none w) = rw w e
+  flies-by e (upward j m t w) = rw w refl
+  flies-by e (downward j m t w) = rw w refl
+
+  -- outside DEPLOY_WAIT it stays outside
+  pub before-flies : isDeployWait (s .watch .mode) ≡ false → isDeployWait (beforeModules s .watch .mode) ≡ false
+  unfolding beforeModules
+  before-flies e = flies-by e (controls s)
+
+  module _ (eight : Eight s) where
+    eight-by : Controls s → Eight (controlled s)
+    eight-by (level count low none w) = rw w eight
+    eight-by (upward j e t w) = rw w (crossed-eight (withControl 0 s) eight Safe coreFour true)
+    eight-by (downward j e t w) = rw w (crossed-eight (withControl 0 s) eight Recovery missionFour false)
+
+    -- eight modules
+    pub before-eight : Eight (beforeModules s)
+    unfolding beforeModules
+    before-eight = eight-by (controls s)
+
+    module _ (i : ℕ) (low : i < moduleCount) where
+      power-by : Controls s → moduleAt i (controlled s) .power ≡ moduleAt i s .power
+      power-by (level count below none w) = rw w
+      power-by (upward j e t w) = rw w (ap (λ m. m .power) (at-crossed (withControl 0 s) eight i low Safe coreFour true))
+      power-by (downward j e t w) = rw w (ap (λ m. m .power) (at-crossed (withControl 0 s) eight i low Recovery missionFour false))
+
+      -- each module's power
+      pub before-power : moduleAt i (beforeModules s) .power ≡ moduleAt i s .power
+      unfolding beforeModules
+      before-power = power-by (controls s)

@@ -1,0 +1,87 @@
+-- Laws of module i of a state: what the module stage, a crossing and an order make of it; the mission four by their number.
+-- Assumes nothing.
+use Prim.Native.Nat.{ℕ, _+_, _<_}
+use native.Mathlib.Omega.{arith}
+use mathlib.Core.Path.{_≡_, refl, sym, _∙_}
+use mathlib.Core.Bool.{Bool, true, false, not, true≢false}
+use lib.ListN.{length}
+use lib.Dec.{T, lit<, leb}
+use borrow.Author.Tests.{leb-true, leb-false}
+use Rattle.basics.specs.Choice.{if_then_else_, bit}
+use Rattle.basics.proofs.ChoiceLaws.{is-true}
+use Rattle.basics.proofs.EachLaws.{at-each, length-each}
+use Rattle.basics.proofs.BitLaws.{bit-past}
+use Rattle.basics.proofs.TablesLaws.{upto}
+use Rattle.modules.specs.Groups.{moduleCount, coreFour, missionFour, isMission}
+use Rattle.modules.specs.Stage.{stageOf, requestedBy, requestedOne, moduleSecond, moduleRequested, moduleAsked}
+use Rattle.supervisor.specs.State.{isSafe, moduleAt}
+use Rattle.supervisor.specs.Control.{crossedTo}
+use Rattle.supervisor.specs.Tick.{moduleStage, allowedIn}
+use Rattle.supervisor.specs.Command.{requestSet}
+use Rattle.supervisor.specs.declared.state.Mode.{Mode}
+use Rattle.supervisor.specs.declared.state.Mode.the-variants.{DeployWait, Recovery, Safe}
+use Rattle.supervisor.specs.declared.state.State.{State}
+
+-- eight modules
+abbrev pub Eight : State → Type 0
+Eight s = length (s .modules) ≡ moduleCount
+
+module _ (s : State) (eight : Eight s) where
+  pub stage-eight : (shorts : ℕ) → Eight (moduleStage shorts s)
+  unfolding moduleStage stageOf
+  stage-eight shorts = length-each _ (s .modules) ∙ eight
+
+  pub crossed-eight : (mode : Mode) (mask : ℕ) (on : Bool) → Eight (crossedTo mode mask on s)
+  unfolding requestedBy
+  crossed-eight mode mask on = length-each _ (s .modules) ∙ eight
+
+  pub asked-eight : (which : ℕ) (on : Bool) → Eight (requestSet which on s)
+  unfolding requestSet requestedOne
+  asked-eight which on = length-each _ (s .modules) ∙ eight
+
+  -- module i after the stage, a crossing, an order
+  module _ (i : ℕ) (low : i < moduleCount) where
+    pub at-stage : (shorts : ℕ) → moduleAt i (moduleStage shorts s) ≡ moduleSecond (allowedIn (s .watch .mode)) shorts i (moduleAt i s)
+    unfolding moduleStage stageOf
+    at-stage shorts = at-each (moduleSecond (allowedIn (s .watch .mode)) shorts) (s .modules) i _ (omega arith)
+
+    pub at-crossed : (mode : Mode) (mask : ℕ) (on : Bool) → moduleAt i (crossedTo mode mask on s) ≡ moduleRequested mask on i (moduleAt i s)
+    unfolding requestedBy
+    at-crossed mode mask on = at-each (moduleRequested mask on) (s .modules) i _ (omega arith)
+
+    pub at-asked : (which : ℕ) (on : Bool) → moduleAt i (requestSet which on s) ≡ moduleAsked which on i (moduleAt i s)
+    unfolding requestSet requestedOne
+    at-asked which on = at-each (moduleAsked which on) (s .modules) i _ (omega arith)
+
+-- the mission four are among the eight
+pub mission-low : (i : ℕ) → isMission i ≡ true → i < moduleCount
+mission-low i e = by (leb moduleCount i) refl
+  where
+    by : (t : Bool) → leb moduleCount i ≡ t → i < moduleCount
+    by true t = absurd (true≢false (sym e ∙ bit-past moduleCount missionFour i (lit< tt) (leb-true moduleCount i t)))
+    by false t = leb-false moduleCount i t
+
+-- every module is one of the core four or of the mission four; both together are all
+pub equal : (a b : Bool) → T (if a then b else not b) → a ≡ b
+equal true true h = refl
+equal true false h = absurd h
+equal false true h = absurd h
+equal false false h = refl
+
+module _ (i : ℕ) (low : i < moduleCount) where
+  pub core-or-mission : bit i coreFour ≡ not (isMission i)
+  core-or-mission =
+      equal (bit i coreFour) (not (isMission i))
+      (upto (λ k. if bit k coreFour then not (isMission k) else not (not (isMission k))) moduleCount tt i low)
+
+  all-allowed : bit i (coreFour + missionFour) ≡ true
+  all-allowed = is-true (bit i (coreFour + missionFour)) (upto (λ k. bit k (coreFour + missionFour)) moduleCount tt i low)
+
+  none-allowed : bit i 0 ≡ false
+  none-allowed = equal (bit i 0) false (upto (λ k. if bit k 0 then false else true) moduleCount tt i low)
+
+  -- mission modules are allowed in SAFE only
+  pub mission-allowed : isMission i ≡ true → (m : Mode) → bit i (allowedIn m) ≡ isSafe m
+  mission-allowed e (DeployWait phase) = none-allowed
+  mission-allowed e Recovery = rw e at core-or-mission
+  mission-allowed e Safe = all-allowed

@@ -1,0 +1,16 @@
+-- `fresh` meets its contract.
+-- Assumes nothing.
+use Rattle.supervisor.specs.Fresh.{freshState}
+use borrow.Author.Needs.{needs}
+use Rattle.supervisor.proofs.fresh.fresh.Statement.{statement}
+use Rattle.supervisor.proofs.fresh.fresh.Tie as tie
+
+request-requires : tie.Need-request-requires
+request-requires c κs = search needs
+
+returns : tie.Need-returns
+unfolding freshState
+returns c = simp (c .request .ensures)
+
+pub fresh-spec : {M : Type 1} → statement M
+fresh-spec = tie.close (tie.spec request-requires returns)

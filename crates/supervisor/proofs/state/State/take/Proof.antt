@@ -1,0 +1,34 @@
+-- `State::take` meets its contract.
+-- Assumes nothing.
+use borrow.Author.Needs.{needs}
+use Rattle.supervisor.proofs.state.State.take.Statement.{statement}
+use Rattle.supervisor.proofs.state.State.take.Tie as tie
+
+enum-known-command : tie.Need-enum-known-command
+enum-known-command c = search needs
+
+order-requires : tie.Need-order-requires
+order-requires c κs = search needs
+
+enum-known-command-2 : tie.Need-enum-known-command-2
+enum-known-command-2 c = search needs
+
+thresholds-requires : tie.Need-thresholds-requires
+thresholds-requires c κs = search needs
+
+returns : tie.Need-returns
+returns c = simp (c .before .before .command .given .1, c .order .ensures)
+
+returns-2 : tie.Need-returns-2
+returns-2 c = simp (c .before .before .command2 .given .1, c .thresholds .ensures)
+
+pub take-spec : {M : Type 1} → statement M
+take-spec =
+    tie.close
+    (tie.spec
+    enum-known-command
+    order-requires
+    enum-known-command-2
+    thresholds-requires
+    returns
+    returns-2)

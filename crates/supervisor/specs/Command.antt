@@ -1,0 +1,58 @@
+-- Commands: their serials, judged once for all, and what each does once it is taken.
+-- Assumes nothing.
+use Prim.Native.Nat.{ℕ}
+use mathlib.Core.Bool.{Bool, not, _&&_}
+use Rattle.basics.specs.Choice.{if_then_else_}
+use Rattle.modules.specs.Groups.{isMission}
+use Rattle.modules.specs.Stage.{requestedOne}
+use Rattle.frames.specs.Serial.{classOf, lastOf, movedTo}
+use Rattle.frames.specs.declared.answer.Answer.the-variants as answer
+use Rattle.frames.specs.declared.sender.Sender.{Sender}
+use Rattle.frames.specs.declared.serial.Class.{Class}
+use Rattle.frames.specs.declared.serial.Class.the-variants.{Repeat, Fresh, Stale}
+use Rattle.frames.specs.declared.command.Command.{Command}
+use Rattle.frames.specs.declared.command.Command.the-variants.{Order, Thresholds}
+use Rattle.supervisor.specs.State.{isSafe, withModules, withSerials, withThresholds}
+use Rattle.supervisor.specs.Acted.{silent, done}
+use Rattle.supervisor.specs.declared.state.Mode.{Mode}
+use Rattle.supervisor.specs.declared.state.State.{State}
+use Rattle.supervisor.specs.declared.acted.Acted.{Acted}
+
+-- "on" for one of the mission four while not in SAFE
+unfoldable pub isIllTimed : (which : ℕ) (on : Bool) → Mode → Bool
+isIllTimed which on mode = on && isMission which && not (isSafe mode)
+
+-- an order sets the module's request
+unfoldable pub requestSet : (which : ℕ) (on : Bool) → State → State
+requestSet which on s = withModules (requestedOne which on (s .modules)) s
+
+-- an order: ill-timed, or done
+abbrev pub orderTaken : (which : ℕ) (on : Bool) → State → Acted
+orderTaken which on s =
+    if isIllTimed which on (s .watch .mode) then silent answer.NotNow s else done (requestSet which on s)
+
+-- a thresholds frame stores both
+abbrev pub thresholdsTaken : (ascend descend : ℕ) → State → Acted
+thresholdsTaken ascend descend s = done (withThresholds ascend descend s)
+
+-- a command, by what it is; thresholds of the payload are never read
+abbrev pub taken : Command → State → Acted
+taken (Order which on) s = orderTaken which on s
+taken (Thresholds ascend descend) s = thresholdsTaken ascend descend s
+
+-- the last serial of the sender's origin is the sender's
+abbrev pub serialUsed : Sender → State → State
+serialUsed sender s = withSerials (movedTo (sender .origin) (sender .serial) (s .serials)) s
+
+-- a repeat and a stale serial move nothing; a fresh one becomes the last serial, and the command is taken
+abbrev pub byClass : Class → Sender → Command → State → Acted
+byClass Repeat sender command s = silent answer.Repeat s
+byClass Stale sender command s = silent answer.Stale s
+byClass Fresh sender command s = taken command (serialUsed sender s)
+
+-- the class of a sender's serial
+abbrev pub classIn : State → Sender → Class
+classIn s sender = classOf (sender .serial) (lastOf (sender .origin) (s .serials))
+
+unfoldable pub bySerial : Sender → Command → State → Acted
+bySerial sender command s = byClass (classIn s sender) sender command s

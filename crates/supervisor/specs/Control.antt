@@ -1,0 +1,43 @@
+-- The control stage of a tick.
+-- Assumes nothing.
+use Prim.Native.Nat.{ℕ, _+_}
+use mathlib.Core.Bool.{Bool, true, false}
+use lib.Dec.{ltb, eqb}
+use Rattle.basics.specs.Choice.{if_then_else_}
+use Rattle.modules.specs.Groups.{coreFour, missionFour}
+use Rattle.modules.specs.Stage.{requestedBy}
+use Rattle.supervisor.specs.State.{withMode, withControl, withModules}
+use Rattle.supervisor.specs.Range.{judgeTicks}
+use Rattle.supervisor.specs.declared.state.Mode.{Mode}
+use Rattle.supervisor.specs.declared.state.Mode.the-variants.{DeployWait, Recovery, Safe}
+use Rattle.supervisor.specs.declared.state.Battery.{Battery}
+use Rattle.supervisor.specs.declared.state.State.{State}
+use Rattle.supervisor.specs.declared.control.Crossing.{Crossing}
+use Rattle.supervisor.specs.declared.control.Crossing.the-variants.{Level, Upward, Downward}
+
+-- in RECOVERY with tension above ascend, upward; in SAFE with tension below descend, downward; equality crosses nothing
+abbrev pub crossingOf : Mode → Battery → Crossing
+crossingOf (DeployWait phase) battery = Level
+crossingOf Recovery battery = if ltb (battery .ascend) (battery .tension) then Upward else Level
+crossingOf Safe battery = if ltb (battery .tension) (battery .descend) then Downward else Level
+
+-- the state in another mode, with the modules of a mask requested on or off
+abbrev pub crossedTo : Mode → (mask : ℕ) → (on : Bool) → State → State
+crossedTo mode mask on s = withModules (requestedBy mask on (s .modules)) (withMode mode s)
+
+-- upward: SAFE, and the core four are requested on; downward: RECOVERY, and the mission four are requested off
+abbrev pub crossed : Crossing → State → State
+crossed Level s = s
+crossed Upward s = crossedTo Safe coreFour true s
+crossed Downward s = crossedTo Recovery missionFour false s
+
+-- at 30 the count returns to 0 and the mode is judged
+abbrev pub controlledAt : ℕ → State → State
+controlledAt count s =
+    if eqb count judgeTicks
+    then crossed (crossingOf (s .watch .mode) (s .battery)) (withControl 0 s)
+    else withControl count s
+
+-- the count grows by 1
+unfoldable pub controlled : State → State
+controlled s = controlledAt (s .watch .control + 1) s

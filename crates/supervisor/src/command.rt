@@ -1,0 +1,75 @@
+// What a command does: its serial is judged, once for every command, and then it is taken.
+// No command switches a module or changes the mode.
+ghost use mathlib.Core.Path.{_≡_};
+ghost use Rattle.supervisor.specs.Command.{isIllTimed, orderTaken, thresholdsTaken, taken, bySerial};
+use crate::acted::Acted;
+use crate::acted::silent;
+use crate::state::Mode;
+use crate::state::State;
+use frames::answer::Answer;
+use frames::command::Command;
+use frames::sender::Sender;
+use frames::serial::Class;
+use modules::groups::MISSION;
+
+impl Mode {
+    // "On" for one of the mission four while not in SAFE.
+    fn is_ill_timed(self, which: u8, on: bool) -> bool
+        ensures { λ r. ⌜ r ≡ isIllTimed which on self ⌝ }
+    {
+        on & modules::stage::has(MISSION, which as usize) & !self.is_safe()
+    }
+}
+
+impl State {
+    // An order: 10, or the module's request is set.
+    fn order(mut self, which: u8, on: bool) -> Acted
+        ensures { λ r. ⌜ r ≡ orderTaken which on self ⌝ }
+    {
+        let watch = self.watch;
+        let mode = watch.mode;
+        if mode.is_ill_timed(which, on) {
+            return silent(Answer::NotNow, self);
+        }
+        let modules = self.modules;
+        let asked = modules::stage::request_one(modules, which, on);
+        self = self.with_modules(asked);
+        silent(Answer::Done, self)
+    }
+
+    // Thresholds: both are stored.
+    fn thresholds(mut self, ascend: u16, descend: u16) -> Acted
+        ensures { λ r. ⌜ r ≡ thresholdsTaken ascend descend self ⌝ }
+    {
+        self.battery.ascend = ascend;
+        self.battery.descend = descend;
+        silent(Answer::Done, self)
+    }
+
+    // A command whose serial is fresh, by what it is.
+    fn take(self, command: Command) -> Acted
+        ensures { λ r. ⌜ r ≡ taken command self ⌝ }
+    {
+        match command {
+            Command::Order { which, on } => self.order(which, on),
+            Command::Thresholds { ascend, descend } => self.thresholds(ascend, descend),
+        }
+    }
+
+    // 8 or 9 by the serial; a fresh one is used up, and the command is taken.
+    pub(crate) fn command(mut self, sender: Sender, command: Command) -> Acted
+        ensures { λ r. ⌜ r ≡ bySerial sender command self ⌝ }
+    {
+        let origin = sender.origin;
+        let serial = sender.serial;
+        match self.serials.class(origin, serial) {
+            Class::Repeat => silent(Answer::Repeat, self),
+            Class::Stale => silent(Answer::Stale, self),
+            Class::Fresh => {
+                let serials = self.serials.moved(origin, serial);
+                self.serials = serials;
+                self.take(command)
+            }
+        }
+    }
+}

@@ -1,0 +1,74 @@
+// The control stage of a tick: the mode is judged by the battery.
+ghost use mathlib.Core.Path.{_≡_};
+ghost use Prim.Native.Nat.{_<_};
+ghost use Rattle.supervisor.specs.Range.{judgeTicks};
+ghost use Rattle.supervisor.specs.Control.{crossingOf, crossedTo, controlled};
+use crate::range::JUDGE_TICKS;
+use crate::state::Battery;
+use crate::state::Mode;
+use crate::state::State;
+use modules::groups::CORE;
+use modules::groups::MISSION;
+
+// How a judged mode crosses.
+pub(crate) enum Crossing {
+    // it stays
+    Level,
+    // from RECOVERY to SAFE
+    Upward,
+    // from SAFE to RECOVERY
+    Downward,
+}
+
+impl Mode {
+    // How this mode crosses, judged by the battery. Equality crosses nothing.
+    fn crossing(self, battery: Battery) -> Crossing
+        ensures { λ r. ⌜ r ≡ crossingOf self battery ⌝ }
+    {
+        match self {
+            Mode::DeployWait(_) => Crossing::Level,
+            Mode::Recovery => if battery.ascend < battery.tension {
+                Crossing::Upward
+            } else {
+                Crossing::Level
+            },
+            Mode::Safe => if battery.tension < battery.descend {
+                Crossing::Downward
+            } else {
+                Crossing::Level
+            },
+        }
+    }
+}
+
+impl State {
+    // The state in another mode, with the modules of a mask requested on or off.
+    fn crossed(self, mode: Mode, mask: u8, on: bool) -> State
+        ensures { λ r. ⌜ r ≡ crossedTo mode mask on self ⌝ }
+    {
+        let modules = self.modules;
+        let asked = modules::stage::request(modules, mask, on);
+        let moved = self.with_mode(mode);
+        moved.with_modules(asked)
+    }
+
+    // Control.
+    pub(crate) fn control(mut self) -> State
+        requires { ⌜ self .watch .control < judgeTicks ⌝ }
+        ensures { λ r. ⌜ r ≡ controlled self ⌝ }
+    {
+        let count = self.watch.control + 1;
+        if count != JUDGE_TICKS {
+            self.watch.control = count;
+            return self;
+        }
+        self.watch.control = 0;
+        let watch = self.watch;
+        let mode = watch.mode;
+        match mode.crossing(self.battery) {
+            Crossing::Level => self,
+            Crossing::Upward => self.crossed(Mode::Safe, CORE, true),
+            Crossing::Downward => self.crossed(Mode::Recovery, MISSION, false),
+        }
+    }
+}
