@@ -1,15 +1,20 @@
--- Laws of the requests: setting one module's request is one store.
+-- Laws of all eight modules: setting one module's request is one store; the stage and the requests keep the ranges of check 1.
 -- Assumes nothing.
-use Prim.Native.Nat.{ℕ, _≤_}
+use Prim.Native.Nat.{ℕ, suc, _≤_}
 use mathlib.Core.Path.{_≡_, refl, sym, ap, _∙_}
 use mathlib.Core.Bool.{Bool}
-use mathlib.Core.List.{List}
+use mathlib.Core.List.{List, [], _∷_}
+use lib.Dec.{T}
 use lib.ListN.{length, getD, set}
 use lib.Seq.{set-out}
 use borrow.Author.Tests.{ne-eqb, eq-eqb}
+use Rattle.basics.specs.Choice.{bit}
+use Rattle.basics.specs.Each.{each, eachFrom}
+use Rattle.basics.proofs.ChoiceLaws.{and-left, and-right, and-both}
 use Rattle.basics.proofs.EachLaws.{each-one}
-use Rattle.modules.specs.Power.{withRequest}
-use Rattle.modules.specs.Stage.{moduleAsked, requestedOne}
+use Rattle.modules.specs.Power.{powerInRange, withRequest}
+use Rattle.modules.specs.Stage.{isWanted, moduleSecond, stageOf, moduleRequested, requestedBy, moduleAsked, requestedOne, modulesInRange}
+use Rattle.modules.proofs.PowerLaws.{switched-in-range}
 use Rattle.modules.specs.declared.power.Module.{Module}
 
 module _ (which : ℕ) (on : Bool) where
@@ -27,3 +32,30 @@ module _ (which : ℕ) (on : Bool) where
   pub request-past : (ms : List Module) (d : Module) → length ms ≤ which → ms ≡ requestedOne which on ms
   unfolding requestedOne
   request-past ms d h = sym (set-out ms which _ h) ∙ each-one (moduleAsked which on) which ms d others
+
+-- a rule that keeps each module's tries and seconds in range keeps all
+module _ (f : ℕ → Module → Module) (keeps : (i : ℕ) (m : Module) → T (powerInRange (m .power)) → T (powerInRange (f i m .power))) where
+  from-in-range : (k : ℕ) (ms : List Module) → T (modulesInRange ms) → T (modulesInRange (eachFrom f k ms))
+  unfolding modulesInRange eachFrom
+  from-in-range k [] h = tt
+  from-in-range k (m ∷ ms) h =
+      and-both (powerInRange (f k m .power)) (modulesInRange (eachFrom f (suc k) ms))
+      (keeps k m (and-left (powerInRange (m .power)) (modulesInRange ms) h))
+      (from-in-range (suc k) ms (and-right (powerInRange (m .power)) (modulesInRange ms) h))
+
+  each-in-range : (ms : List Module) → T (modulesInRange ms) → T (modulesInRange (each f ms))
+  unfolding each
+  each-in-range ms h = from-in-range 0 ms h
+
+pub stage-in-range : (allowed shorts : ℕ) (ms : List Module) → T (modulesInRange ms) → T (modulesInRange (stageOf allowed shorts ms))
+unfolding stageOf
+stage-in-range allowed shorts ms h =
+    each-in-range (moduleSecond allowed shorts) (λ i m p. switched-in-range (isWanted allowed i m) (bit i shorts) (m .power) p) ms h
+
+pub requested-in-range : (mask : ℕ) (on : Bool) (ms : List Module) → T (modulesInRange ms) → T (modulesInRange (requestedBy mask on ms))
+unfolding requestedBy
+requested-in-range mask on ms h = each-in-range (moduleRequested mask on) (λ i m p. p) ms h
+
+pub asked-in-range : (which : ℕ) (on : Bool) (ms : List Module) → T (modulesInRange ms) → T (modulesInRange (requestedOne which on ms))
+unfolding requestedOne
+asked-in-range which on ms h = each-in-range (moduleAsked which on) (λ i m p. p) ms h

@@ -3,6 +3,13 @@ pub mod ControlLaws
 pub mod ModuleLaws
 pub mod FreshLaws
 pub mod BeforeModulesLaws
+pub mod DueLaws
 pub mod TickLaws
+pub mod ActLaws
+pub mod CommandLaws
+pub mod SerialLaws
+pub mod RangeKept
+pub mod HistoryLaws
+pub mod SwitchLaws
 pub mod Unique
 pub mod ShutOut

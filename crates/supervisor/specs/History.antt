@@ -33,10 +33,6 @@ called s c = stepOf s (c .input) (c .room)
 abbrev pub answered : State → Call → ℕ
 answered s c = answerNumber (called s c .result .answer)
 
--- the state that it leaves
-abbrev pub stepped : State → Call → State
-stepped s c = called s c .result .state
-
 -- it is done: answered 0
 abbrev pub isDone : (answer : ℕ) → Bool
 isDone answer = eqb answer (answerNumber Done)
@@ -48,7 +44,7 @@ isTaken answer = isDone answer || eqb answer (answerNumber NotNow)
 -- the state after a history of calls
 abbrev pub after : State → List Call → State
 after s [] = s
-after s (c ∷ cs) = after (stepped s c) cs
+after s (c ∷ cs) = after (called s c .result .state) cs
 
 -- room for the report, and for every report of a history
 abbrev pub HasRoom : Call → Type 0
@@ -65,4 +61,4 @@ doneTick s c = isTick (aboutOf c) && isDone (answered s c)
 -- how many calls of a history were done ticks
 abbrev pub doneTicks : State → List Call → ℕ
 doneTicks s [] = 0
-doneTicks s (c ∷ cs) = (if doneTick s c then 1 else 0) + doneTicks (stepped s c) cs
+doneTicks s (c ∷ cs) = (if doneTick s c then 1 else 0) + doneTicks (called s c .result .state) cs

@@ -20,17 +20,23 @@ modeNumber (DeployWait phase) = 0
 modeNumber Recovery = 1
 modeNumber Safe = 2
 
--- the mode is DEPLOY_WAIT; is SAFE
+-- the mode is DEPLOY_WAIT; is RECOVERY; is SAFE
 abbrev pub isDeployWait : Mode → Bool
 isDeployWait (DeployWait phase) = true
 isDeployWait Recovery = false
 isDeployWait Safe = false
+
+abbrev pub isRecovery : Mode → Bool
+isRecovery (DeployWait phase) = false
+isRecovery Recovery = true
+isRecovery Safe = false
 
 abbrev pub isSafe : Mode → Bool
 isSafe (DeployWait phase) = false
 isSafe Recovery = false
 isSafe Safe = true
 
+-- of a state
 abbrev pub inDeployWait : State → Bool
 inDeployWait s = isDeployWait (s .watch .mode)
 

@@ -1,0 +1,62 @@
+-- What every frame other than a tick keeps, from what each of the five things that such a frame may do keeps.
+-- Assumes nothing.
+use Prim.Native.Nat.{ℕ}
+use mathlib.Core.Path.{_≡_, refl}
+use mathlib.Core.Bool.{Bool, false, true≢false}
+use lib.Dec.{T}
+use Rattle.basics.proofs.ChoiceLaws.{decided}
+use Rattle.frames.specs.Reading.{isReading, areThresholds}
+use Rattle.frames.specs.About.{about, isTick}
+use Rattle.frames.specs.declared.sender.Sender.{Sender}
+use Rattle.frames.specs.declared.serial.Class.{Class}
+use Rattle.frames.specs.declared.serial.Class.the-variants.{Repeat, Fresh, Stale}
+use Rattle.frames.specs.declared.command.Command.{Command}
+use Rattle.frames.specs.declared.command.Command.the-variants.{Order, Thresholds}
+use Rattle.frames.specs.declared.frame.Frame.{Frame}
+use Rattle.frames.specs.declared.frame.Frame.the-variants as frame
+use Rattle.frames.specs.declared.reading.Reading.the-variants.{Accepted}
+use Rattle.frames.proofs.ReadingLaws.{Fits, FitsCommand}
+use Rattle.supervisor.specs.State.{withTension, withAntennas, withThresholds}
+use Rattle.supervisor.specs.Command.{isIllTimed, requestSet, taken, serialUsed, byClass, classIn, bySerial}
+use Rattle.supervisor.specs.Act.{actOf}
+use Rattle.supervisor.specs.declared.acted.Acted.{Acted}
+use Rattle.supervisor.specs.declared.state.State.{State}
+
+-- a tension, an antennas report, a serial, a request, thresholds: each keeps P
+abbrev pub Still : (State → Type 0) → Type 0
+Still P =
+    record {
+      tension : (millivolts : ℕ) → T (isReading millivolts) → (s : State) → P s → P (withTension millivolts s);
+      antennas : (deployed : Bool) (s : State) → P s → P (withAntennas deployed s);
+      serial : (sender : Sender) (s : State) → P s → P (serialUsed sender s);
+      request : (which : ℕ) (on : Bool) (s : State) → isIllTimed which on (s .watch .mode) ≡ false → P s → P (requestSet which on s);
+      thresholds : (ascend descend : ℕ) → T (areThresholds ascend descend) → (s : State) → P s → P (withThresholds ascend descend s);
+    }
+
+module _ (P : State → Type 0) (still : Still P) where
+  taken-still : (sender : Sender) (command : Command) → FitsCommand sender command → (s : State) → P s → P (taken command s .state)
+  taken-still sender (Order which on) fits s p =
+      decided (λ (a : Acted). P (a .state)) (isIllTimed which on (s .watch .mode)) (λ e. p) (λ e. still .request which on s e p)
+  taken-still sender (Thresholds ascend descend) fits s p = still .thresholds ascend descend (fits .fair) s p
+
+  class-still :
+      (class : Class) (sender : Sender) (command : Command) → FitsCommand sender command → (s : State) → P s →
+      P (byClass class sender command s .state)
+  class-still Repeat sender command fits s p = p
+  class-still Stale sender command fits s p = p
+  class-still Fresh sender command fits s p = taken-still sender command fits (serialUsed sender s) (still .serial sender s p)
+
+  pub act-still : (f : Frame) → Fits f → isTick (about (Accepted f)) ≡ false → (s : State) → P s → P (actOf f s .state)
+  unfolding actOf bySerial
+  act-still (frame.Tick shorts) fits e s p = absurd (true≢false e)
+  act-still (frame.Battery tension) fits e s p = still .tension tension fits s p
+  act-still (frame.Antennas deployed) fits e s p = still .antennas deployed s p
+  act-still (frame.Command sender command) fits e s p = class-still (classIn s sender) sender command fits s p
+
+-- a frame other than a tick leaves the mode and both counts
+pub watch-still : (f : Frame) → Fits f → isTick (about (Accepted f)) ≡ false → (s : State) → actOf f s .state .watch ≡ s .watch
+unfolding requestSet
+watch-still f fits e s =
+    act-still (λ t. t .watch ≡ s .watch)
+    (record { tension = λ n r t h. h; antennas = λ d t h. h; serial = λ o t h. h; request = λ n on t i h. h; thresholds = λ a d r t h. h })
+    f fits e s refl

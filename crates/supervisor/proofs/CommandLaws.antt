@@ -1,0 +1,100 @@
+-- Laws of commands: a frame is news, and done; or a command that is a repeat, stale or taken, by its origin's last serial.
+-- Assumes nothing.
+use Prim.Native.Nat.{ℕ}
+use native.Mathlib.Omega.{arith}
+use mathlib.Core.Path.{_≡_, refl, ap}
+use mathlib.Core.Bool.{Bool, true, false, _||_}
+use mathlib.Core.List.{[], _∷_}
+use mathlib.Core.Logic.{_⊎_, inl, inr, ⊎-elim}
+use lib.Dec.{T, eqb, eqb→eq}
+use Rattle.basics.specs.Choice.{if_then_else_, within}
+use Rattle.basics.proofs.ChoiceLaws.{either}
+use Rattle.frames.specs.Answer.{answerNumber}
+use Rattle.frames.specs.Serial.{movedTo}
+use Rattle.frames.specs.About.{about, sameOrigin, serialFrom}
+use Rattle.frames.specs.declared.answer.Answer.the-variants.{Done, NotNow}
+use Rattle.frames.specs.declared.sender.Origin.{Origin}
+use Rattle.frames.specs.declared.sender.Origin.the-variants.{Ground, Payload}
+use Rattle.frames.specs.declared.sender.Sender.{Sender}
+use Rattle.frames.specs.declared.serial.Class.{Class}
+use Rattle.frames.specs.declared.serial.Class.the-variants.{Repeat, Fresh, Stale}
+use Rattle.frames.specs.declared.command.Command.{Command}
+use Rattle.frames.specs.declared.command.Command.the-variants.{Order, Thresholds}
+use Rattle.frames.specs.declared.frame.Frame.{Frame}
+use Rattle.frames.specs.declared.frame.Frame.the-variants as frame
+use Rattle.frames.specs.declared.reading.Reading.the-variants.{Accepted}
+use Rattle.supervisor.specs.Acted.{silent, done}
+use Rattle.supervisor.specs.Command.{isIllTimed, requestSet, taken, serialUsed, byClass, classIn, bySerial}
+use Rattle.supervisor.specs.Act.{actOf}
+use Rattle.supervisor.specs.History.{isTaken}
+use Rattle.supervisor.specs.declared.acted.Acted.{Acted}
+use Rattle.supervisor.specs.declared.state.State.{State}
+use Rattle.supervisor.proofs.TickLaws.{ticked-done, ticked-serials}
+
+-- what comes of a command, by the class of its serial; at 10 the serial alone moves
+abbrev pub Judged : Class → Sender → State → Acted → Type 0
+Judged Repeat sender s a = (answerNumber (a .answer) ≡ 8) × (a .state ≡ s)
+Judged Stale sender s a = (answerNumber (a .answer) ≡ 9) × (a .state ≡ s)
+Judged Fresh sender s a =
+    record {
+      taken : T (isTaken (answerNumber (a .answer)));
+      serials : a .state .serials ≡ movedTo (sender .origin) (sender .serial) (s .serials);
+      ill : answerNumber (a .answer) ≡ 10 → a .state ≡ serialUsed sender s;
+    }
+
+-- news bears no serial, is done and moves none; a command bears its sender's, and is judged by it
+pub data Answers (f : Frame) (s : State) (a : Acted) : Type 0 where
+  news : ((origin : Origin) → serialFrom origin (about (Accepted f)) ≡ []) → a .answer ≡ Done → a .state .serials ≡ s .serials → Answers f s a
+  judged :
+      (sender : Sender) →
+      ((origin : Origin) → serialFrom origin (about (Accepted f)) ≡ (if sameOrigin origin (sender .origin) then sender .serial ∷ [] else [])) →
+      Judged (classIn s sender) sender s a → Answers f s a
+
+pub own-serial : (origin : Origin) (serial : ℕ) → (if sameOrigin origin origin then serial ∷ [] else []) ≡ serial ∷ []
+own-serial Ground serial = refl
+own-serial Payload serial = refl
+
+not-ten : _≡_ {A = ℕ} 0 10 → ⊥
+not-ten e = omega arith
+
+-- what a fresh serial leads to, command by command
+taken-judged : (command : Command) (sender : Sender) (s t : State) → t ≡ serialUsed sender s → Judged Fresh sender s (taken command t)
+unfolding requestSet
+taken-judged (Order which on) sender s t e =
+    either (Judged Fresh sender s) (isIllTimed which on (t .watch .mode)) {x = silent NotNow t} {y = done (requestSet which on t)}
+    (record { taken = tt; serials = ap (λ r. r .serials) e; ill = λ ten. e })
+    (record { taken = tt; serials = ap (λ r. r .serials) e; ill = λ ten. absurd (not-ten ten) })
+taken-judged (Thresholds ascend descend) sender s t e = record { taken = tt; serials = ap (λ r. r .serials) e; ill = λ ten. absurd (not-ten ten) }
+
+class-judged : (class : Class) (sender : Sender) (command : Command) (s : State) → Judged class sender s (byClass class sender command s)
+class-judged Repeat sender command s = (refl, refl)
+class-judged Stale sender command s = (refl, refl)
+class-judged Fresh sender command s = taken-judged command sender s (serialUsed sender s) refl
+
+pub act-answers : (f : Frame) (s : State) → Answers f s (actOf f s)
+unfolding actOf bySerial
+act-answers (frame.Tick shorts) s = news (λ origin. refl) (ticked-done shorts s) (ticked-serials shorts s)
+act-answers (frame.Battery tension) s = news (λ origin. refl) refl refl
+act-answers (frame.Antennas deployed) s = news (λ origin. refl) refl refl
+act-answers (frame.Command sender command) s = judged sender (λ origin. refl) (class-judged (classIn s sender) sender command s)
+
+-- what is taken is answered 0 or 10
+pub zero-or-ten : (n : ℕ) → T (isTaken n) → (n ≡ 0) ⊎ (n ≡ 10)
+zero-or-ten n t = by (eqb n 0) (eqb n 10) (eqb→eq n 0) (eqb→eq n 10) t
+  where
+    by : (a b : Bool) → (T a → n ≡ 0) → (T b → n ≡ 10) → T (a || b) → (n ≡ 0) ⊎ (n ≡ 10)
+    by true b f g h = inl (f tt)
+    by false b f g h = inr (g h)
+
+taken-unrefused : (n : ℕ) → T (isTaken n) → within 1 7 n ≡ false
+taken-unrefused n t = ⊎-elim (λ (e : n ≡ 0). rw e) (λ (e : n ≡ 10). rw e) (zero-or-ten n t)
+
+judged-unrefused : (class : Class) (sender : Sender) (s : State) (a : Acted) → Judged class sender s a → within 1 7 (answerNumber (a .answer)) ≡ false
+judged-unrefused Repeat sender s a d = rw (d .0)
+judged-unrefused Stale sender s a d = rw (d .0)
+judged-unrefused Fresh sender s a d = taken-unrefused (answerNumber (a .answer)) (d .taken)
+
+-- a frame that is worked is answered 0, 8, 9 or 10
+pub unrefused : (f : Frame) (s : State) (a : Acted) → Answers f s a → within 1 7 (answerNumber (a .answer)) ≡ false
+unrefused f s a (news b e k) = rw e
+unrefused f s a (judged sender b d) = judged-unrefused (classIn s sender) sender s a d

@@ -1,0 +1,158 @@
+-- Every frame keeps the state in range.
+-- Assumes nothing.
+use Prim.Native.Nat.{ℕ, _+_, _-_}
+use native.Mathlib.Omega.{arith}
+use mathlib.Core.Path.{_≡_, refl}
+use mathlib.Core.Bool.{Bool, true, false, _||_, true≢false}
+use lib.Dec.{T, eqb, lit<, ltb→lt, lt→ltb}
+use borrow.Author.Tests.{eqb-false}
+use Rattle.basics.proofs.ChoiceLaws.{and-left, and-right, and-both, or-right, within-high, within-of, decided}
+use Rattle.modules.specs.Groups.{coreFour, missionFour}
+use Rattle.modules.specs.Stage.{modulesInRange}
+use Rattle.modules.proofs.StageLaws.{stage-in-range, requested-in-range, asked-in-range}
+use Rattle.frames.specs.Reading.{isReading, areThresholds}
+use Rattle.frames.specs.About.{about, isTick}
+use Rattle.frames.specs.declared.frame.Frame.{Frame}
+use Rattle.frames.specs.declared.reading.Reading.the-variants.{Accepted}
+use Rattle.frames.proofs.ReadingLaws.{Fits}
+use Rattle.supervisor.specs.State.{isDeployWait, withControl}
+use Rattle.supervisor.specs.Range.{inRange, watchInRange, phaseInRange, batteryInRange, waitSeconds, settleSeconds}
+use Rattle.supervisor.specs.Deploy.{phaseTicked}
+use Rattle.supervisor.specs.Control.{controlled, crossedTo}
+use Rattle.supervisor.specs.Due.{beaconStage}
+use Rattle.supervisor.specs.Tick.{allowedIn, beforeModules, moduleStage, ticked}
+use Rattle.supervisor.specs.Command.{requestSet}
+use Rattle.supervisor.specs.Act.{actOf}
+use Rattle.supervisor.specs.declared.state.Phase.{Phase}
+use Rattle.supervisor.specs.declared.state.Phase.the-variants.{Waiting, Settling}
+use Rattle.supervisor.specs.declared.state.Mode.{Mode}
+use Rattle.supervisor.specs.declared.state.Mode.the-variants.{DeployWait, Recovery, Safe}
+use Rattle.supervisor.specs.declared.state.Battery.{Battery}
+use Rattle.supervisor.specs.declared.state.State.{State}
+use Rattle.supervisor.proofs.RangeLaws.{Valid, parts, whole, phase-in-range, counts-zero, phase-watch, Low, low-tested, counts-watch, counts-of}
+use Rattle.supervisor.proofs.ControlLaws.{Controls, level, upward, downward, controls}
+use Rattle.supervisor.proofs.DueLaws.{count-low}
+use Rattle.supervisor.proofs.TickLaws.{Ticks, waits, runs, ticks}
+use Rattle.supervisor.proofs.ActLaws.{Still, act-still}
+
+-- outside DEPLOY_WAIT, and in range
+abbrev Running : State → Type 0
+Running s =
+    record {
+      flies : isDeployWait (s .watch .mode) ≡ false;
+      low : Low (s .watch .control) (s .watch .beacon);
+      battery : T (batteryInRange (s .battery));
+      modules : T (modulesInRange (s .modules));
+    }
+
+-- control
+crossed-running : (m : Mode) (mask : ℕ) (on : Bool) (s : State) → isDeployWait m ≡ false → Running s → Running (crossedTo m mask on (withControl 0 s))
+crossed-running m mask on s e v =
+    record {
+      flies = e;
+      low = record { control = lit< tt; beacon = v .low .beacon };
+      battery = v .battery;
+      modules = requested-in-range mask on (s .modules) (v .modules);
+    }
+
+controlled-running : (s : State) → Running s → Controls s → Running (controlled s)
+controlled-running s v (level count low none w) =
+    rw w (record { flies = v .flies; low = record { control = low (v .low .control); beacon = v .low .beacon }; battery = v .battery; modules = v .modules })
+controlled-running s v (upward j e t w) = rw w (crossed-running Safe coreFour true s refl v)
+controlled-running s v (downward j e t w) = rw w (crossed-running Recovery missionFour false s refl v)
+
+before-running : (s : State) → Running s → Running (beforeModules s)
+unfolding beforeModules
+before-running s v = controlled-running s v (controls s)
+
+-- modules
+stage-running : (shorts : ℕ) (s : State) → Running s → Running (moduleStage shorts s)
+unfolding moduleStage
+stage-running shorts s v =
+    record {
+      flies = v .flies;
+      low = v .low;
+      battery = v .battery;
+      modules = stage-in-range (allowedIn (s .watch .mode)) shorts (s .modules) (v .modules);
+    }
+
+-- beacon
+beacon-valid : (s : State) → Running s → Valid (beaconStage s .state)
+unfolding beaconStage
+beacon-valid s v =
+    record {
+      watch =
+          counts-watch (s .watch .mode) (s .watch .control) _ (v .flies)
+          (record { control = v .low .control; beacon = count-low (s .watch .mode) (s .watch .beacon + 1) (v .flies) (omega arith) });
+      battery = v .battery;
+      modules = v .modules;
+    }
+
+-- in DEPLOY_WAIT
+or-false : (a b : Bool) → a || b ≡ false → b ≡ false
+or-false true b e = absurd (true≢false e)
+or-false false b e = e
+
+phase-valid :
+    (antennas : Bool) (p : Phase) (c b : ℕ) → T (phaseInRange p) → (c ≡ 0) × (b ≡ 0) → T (watchInRange (phaseTicked antennas p) c b)
+phase-valid antennas (Waiting waited) c b h z =
+    decided (λ (m : Mode). T (watchInRange m c b)) (antennas || eqb (waited + 1) waitSeconds)
+    (λ e. phase-watch (Settling settleSeconds) c b tt z)
+    (λ e. phase-watch (Waiting (waited + 1)) c b (omega (arith, ltb→lt, lt→ltb, eqb-false (waited + 1) waitSeconds (or-false antennas _ e))) z)
+phase-valid antennas (Settling left) c b h z =
+    decided (λ (m : Mode). T (watchInRange m c b)) (eqb (left - 1) 0)
+    (λ e. low-tested c b (record { control = omega arith; beacon = omega arith }))
+    (λ e. phase-watch (Settling (left - 1)) c b
+    (within-of 1 settleSeconds (left - 1) (omega (arith, eqb-false (left - 1) 0 e)) (omega (arith, within-high 1 settleSeconds left h))) z)
+
+-- a tick
+by-ticks : (shorts : ℕ) (s : State) → T (inRange s) → Ticks shorts s → Valid (ticked shorts s .state)
+by-ticks shorts s h (waits phase e w) =
+    let v : Valid s = parts s h in
+    let c : ℕ = s .watch .control in
+    let b : ℕ = s .watch .beacon in
+    let watch : T (watchInRange (DeployWait phase) c b) = rw e at (v .watch) in
+    rw w
+    (record {
+      watch = phase-valid (s .antennas) phase c b (phase-in-range phase c b watch) (counts-zero phase c b watch);
+      battery = v .battery;
+      modules = v .modules;
+    })
+by-ticks shorts s h (runs e w) =
+    let v : Valid s = parts s h in
+    rw w
+    (beacon-valid (moduleStage shorts (beforeModules s))
+    (stage-running shorts (beforeModules s)
+    (before-running s (record { flies = e; low = counts-of s h e; battery = v .battery; modules = v .modules }))))
+
+pub ticked-in-range : (shorts : ℕ) (s : State) → T (inRange s) → T (inRange (ticked shorts s .state))
+ticked-in-range shorts s h = whole (ticked shorts s .state) (by-ticks shorts s h (ticks shorts s))
+
+-- any other frame: another tension, or other thresholds, in range
+tension-valid :
+    (millivolts : ℕ) (b : Battery) → T (isReading millivolts) → T (batteryInRange b) →
+    T (batteryInRange (record { tension = millivolts; ascend = b .ascend; descend = b .descend }))
+tension-valid millivolts b r h =
+    let limits : T (areThresholds (b .ascend) (b .descend)) = search (and-right) in
+    and-both (eqb millivolts 0 || isReading millivolts) (areThresholds (b .ascend) (b .descend)) (or-right (eqb millivolts 0) (isReading millivolts) r) limits
+
+thresholds-valid :
+    (ascend descend : ℕ) (b : Battery) → T (areThresholds ascend descend) → T (batteryInRange b) →
+    T (batteryInRange (record { tension = b .tension; ascend = ascend; descend = descend }))
+thresholds-valid ascend descend b r h =
+    let reading : T (eqb (b .tension) 0 || isReading (b .tension)) = search (and-left) in
+    and-both (eqb (b .tension) 0 || isReading (b .tension)) (areThresholds ascend descend) reading r
+
+valid-still : Still Valid
+unfolding requestSet
+valid-still =
+    record {
+      tension = λ millivolts r s v. record { watch = v .watch; battery = tension-valid millivolts (s .battery) r (v .battery); modules = v .modules };
+      antennas = λ deployed s v. v;
+      serial = λ sender s v. v;
+      request = λ which on s e v. record { watch = v .watch; battery = v .battery; modules = asked-in-range which on (s .modules) (v .modules) };
+      thresholds = λ ascend descend r s v. record { watch = v .watch; battery = thresholds-valid ascend descend (s .battery) r (v .battery); modules = v .modules };
+    }
+
+pub act-in-range : (f : Frame) → Fits f → isTick (about (Accepted f)) ≡ false → (s : State) → T (inRange s) → T (inRange (actOf f s .state))
+act-in-range f fits e s h = whole (actOf f s .state) (act-still Valid valid-still f fits e s (parts s h))
