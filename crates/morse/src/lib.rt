@@ -1,5 +1,6 @@
 // Beacon text in telegraph units and back: the signs and the timing of ITU-R M.1677-1.
 // `fault_of` says whether a text may be keyed, `key` keys it, and `read` reads a keying back.
+pub mod answers;
 mod guessing;
 pub mod keying;
 pub mod reading;

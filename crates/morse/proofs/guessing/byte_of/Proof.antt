@@ -16,8 +16,8 @@ array-read-result c = search needs
 returns : tie.Need-returns
 returns c =
     let table = c .before .table in
-    let tree = c .before .before .args .tree in
-    eqb→eq _ _ (upto (isByte (table .result)) 64 (table .ensures) tree (c .if1 .taken))
+    let node = c .before .before .args .node in
+    eqb→eq _ _ (upto (isByte (table .result)) 64 (table .ensures) node (c .if1 .taken))
 
 returns-2 : tie.Need-returns-2
 unfolding byteOf

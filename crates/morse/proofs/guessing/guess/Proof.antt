@@ -7,8 +7,8 @@ use native.Mathlib.Omega.{arith}
 use lib.ListN.{length, getD, drop, drop-of-length-le}
 use lib.Seq.{sets}
 use borrow.Author.Needs.{needs}
-use Rattle.morse.specs.Guessing.{nextEar, hear, heard}
-use Rattle.morse.proofs.GuessingLaws.{length-hear, sets-hear, spoken-most, heard-none, heard-some}
+use Rattle.morse.specs.Guessing.{nextEar, hear, guessOf}
+use Rattle.morse.proofs.GuessingLaws.{length-hear, sets-hear, spoken-most, guess-none, guess-some}
 use Rattle.morse.proofs.guessing.guess.Statement.{statement}
 use Rattle.morse.proofs.guessing.guess.Tie as tie
 
@@ -17,18 +17,18 @@ Inv-loop units text₀ ear₀ at₀ i₀ text ear at i =
     (i ≤ length units)
     × (at ≤ 2 * i)
     × (length text ≡ length text₀)
-    × (at + length (hear ear (drop i units)) ≡ length (heard units))
-    × (sets text at (hear ear (drop i units)) ≡ sets text₀ 0 (heard units))
+    × (at + length (hear ear (drop i units)) ≡ length (guessOf units))
+    × (sets text at (hear ear (drop i units)) ≡ sets text₀ 0 (guessOf units))
 
 abbrev μ-loop : tie.MeasureT-loop
 μ-loop units text₀ ear₀ at₀ i₀ text ear at i = length units - i
 
 returns : tie.Need-returns Inv-loop μ-loop
-returns c = rw (heard-none (c .before .before .before .args .units .now) (c .if1 .taken)) (refl, refl)
+returns c = rw (guess-none (c .before .before .before .args .units .now) (c .if1 .taken)) (refl, refl)
 
 loop-holds : tie.Need-loop-holds Inv-loop μ-loop
 loop-holds c =
-    let e = heard-some (c .before .before .before .args .units .now) (c .if1 .left) in
+    let e = guess-some (c .before .before .before .args .units .now) (c .if1 .left) in
     (search needs, search needs, refl, rw e (omega arith), rw e)
 
 shared-slice-read-unit : tie.Need-shared-slice-read-unit Inv-loop μ-loop

@@ -23,9 +23,8 @@ same-length c = search needs
 
 returns-2 : tie.Need-returns-2
 returns-2 c =
-    let a = c .before .before .before .before .before .before .before .before .before .before .args in
     let p = c .before .before .put-text2 .ensures in
-    cc (key-stored (unitsOf (a .text .now)) (a .units .now) (omega arith))
+    key-stored _ _ p (omega arith)
 
 pub key-fair-spec : {M : Type 1} → statement M
 key-fair-spec =

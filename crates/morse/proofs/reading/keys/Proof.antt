@@ -8,7 +8,7 @@ use lib.ListN.{replicate}
 use borrow.Author.Needs.{needs}
 use Rattle.morse.specs.Units.{unitsOf}
 use Rattle.morse.proofs.TextsLaws.{fair}
-use Rattle.morse.proofs.UnitsLaws.{units-most}
+use Rattle.morse.proofs.UnitsLaws.{mostUnits, units-most}
 use Rattle.morse.proofs.ReadingLaws.{front}
 use Rattle.morse.proofs.reading.keys.Statement.{statement}
 use Rattle.morse.proofs.reading.keys.Tie as tie
@@ -52,7 +52,7 @@ returns-2 c =
     let passes = sym (c .before .before .before .before .before .before .before .before .fault-of .ensures) ∙ c .before .before .before .before .before .before .enum-told .given .1 in
     let f = fair t passes in
     let g = c .before .before .before .before .put-text in
-    let again = front {n = g .result - 0} (unitsOf t) (replicate 1408 0) (omega arith) (g .ensures .1) (omega (arith, units-most t)) in (
+    let again = front {n = g .result - 0} (unitsOf t) (replicate mostUnits 0) (omega arith) (g .ensures .1) (omega (arith, units-most t)) in (
       λ e. record { passes = passes; same = sym again ∙ c .same .ensures .0 e },
       λ k. c .same .ensures .1 (again ∙ k .same),
     )

@@ -5,7 +5,7 @@ use Prim.Native.Nat.{_-_}
 use native.Mathlib.Omega.{arith}
 use lib.ListN.{replicate}
 use borrow.Author.Needs.{needs}
-use Rattle.morse.specs.Guessing.{heard}
+use Rattle.morse.specs.Guessing.{guessOf}
 use Rattle.morse.proofs.TextsLaws.{fair}
 use Rattle.morse.proofs.ReadingLaws.{front, read-none, read-short, read-copied}
 use Rattle.morse.proofs.reading.read.Statement.{statement}
@@ -36,7 +36,7 @@ returns-2 : tie.Need-returns-2
 returns-2 c =
     let u = c .before .before .before .before .before .before .before .before .before .before .before .args .units .now in
     let g = c .before .before .before .before .before .before .before .guess in
-    let text = front {n = g .result - 0} (heard u) (replicate 64 0) (omega arith) (g .ensures .1) (omega arith) in
+    let text = front {n = g .result - 0} (guessOf u) (replicate 64 0) (omega arith) (g .ensures .1) (omega arith) in
     read-short _ _ (rw text at (c .before .before .keys .ensures .0 (c .before .if2 .taken))) (omega arith)
 
 sub-copy : tie.Need-sub-copy
@@ -58,7 +58,7 @@ returns-3 : tie.Need-returns-3
 returns-3 c =
     let u = c .before .before .before .before .before .before .before .before .before .before .before .before .before .before .before .before .before .args .units .now in
     let g = c .before .before .before .before .before .before .before .before .before .before .before .before .before .guess in
-    let text = front {n = g .result - 0} (heard u) (replicate 64 0) (omega arith) (g .ensures .1) (omega arith) in
+    let text = front {n = g .result - 0} (guessOf u) (replicate 64 0) (omega arith) (g .ensures .1) (omega arith) in
     let copy = c .before .before .copy .ensures in
     read-copied _ _ _ text (copy .0) (copy .1) (c .before .before .before .before .before .before .before .before .keys .ensures .0 (c .before .before .before .before .before .before .before .if2 .taken)) (rw text (omega arith))
 
@@ -66,7 +66,7 @@ returns-4 : tie.Need-returns-4
 returns-4 c =
     let u = c .before .before .before .before .before .before .before .before .before .before .args .units .now in
     let g = c .before .before .before .before .before .before .guess in
-    let text = front {n = g .result - 0} (heard u) (replicate 64 0) (omega arith) (g .ensures .1) (omega arith) in
+    let text = front {n = g .result - 0} (guessOf u) (replicate 64 0) (omega arith) (g .ensures .1) (omega arith) in
     read-none _ _ (λ k. true≢false (sym (c .before .keys .ensures .1 (rw text k)) ∙ c .if2 .left))
 
 pub read-spec : {M : Type 1} → statement M
