@@ -90,7 +90,8 @@ HearsRest t = (word : Bool) (node : ℕ) → T (allKnown t) → T (spacedAfter w
 
 hear-byte : (c : ℕ) (t : List ℕ) (word b : Bool) (node : ℕ) → isSpace c ≡ b
     → T ((b || signed (signOf c)) && allKnown t) → T (not (word && b) && spacedAfter b t) → HearsRest t
-    → hear (ear node 0) (signUnits (gapOf word) (signOf c) ++ unitsAfter (gapOf b) t) ≡ byteOf node ∷ withSpace word (c ∷ t)
+    → hear (ear node 0) (signUnits (gapOf word) (signOf c) ++ unitsAfter (gapOf b) t)
+    ≡ byteOf node ∷ withSpace word (c ∷ t)
 unfolding signs signOf
 hear-byte c t true true node e k s rest = absurd s
 hear-byte c t false true node e k s rest =

@@ -29,11 +29,15 @@ pub entry-right : (table : List Sign) (k : ℕ) → T (allBelow (isSign table) e
     → marksOf (getD table k noSign) ≡ signOf (entryByte k)
 entry-right table k t h = same-marks-eq _ _ (upto (isSign table) entries t k h)
 
+-- a byte is a letter or a figure, or has no sign
+abbrev named : ℕ → List Mark → Bool
+named k ms = isLetter k || isFigure k || not (signed ms)
+
 -- a byte that is no letter and no figure has no sign
 pub no-sign : (c : ℕ) → isLetter c ≡ false → isFigure c ≡ false → signOf c ≡ []
 unfolding signs signOf
 no-sign c l f =
-    unsigned (signOf c) (rw (l, f) at (everywhere [] (λ k ms. isLetter k || isFigure k || not (signed ms)) signs tt past c))
+    unsigned (signOf c) (rw (l, f) at (everywhere [] named signs tt past c))
   where
     past : (k : ℕ) → T (isLetter k || isFigure k || true)
     past k = always (isLetter k) (isFigure k)

@@ -85,7 +85,8 @@ mostUnits = mostOfByte * longest - betweenSigns
 -- a byte's units with the gap after them: a test over the table of signs
 byte-most : (c : ℕ) → length (signUnits 0 (signOf c)) + gapAfter c ≤ mostOfByte
 unfolding signs signOf
-byte-most c = leb→le _ _ (everywhere [] (λ k ms. leb (length (signUnits 0 ms) + gapAfter k) mostOfByte) signs tt past c)
+byte-most c =
+    leb→le _ _ (everywhere [] (λ k ms. leb (length (signUnits 0 ms) + gapAfter k) mostOfByte) signs tt past c)
   where
     past : (k : ℕ) → T (leb (0 + gapAfter k) mostOfByte)
     past k = either (λ (g : ℕ). T (leb (0 + g) mostOfByte)) (isSpace k) tt tt

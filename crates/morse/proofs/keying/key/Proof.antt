@@ -14,7 +14,8 @@ enum-told : tie.Need-enum-told
 enum-told c = search needs
 
 key-fair-requires : tie.Need-key-fair-requires
-key-fair-requires c κs = fair _ (sym (c .before .before .before .fault-of .ensures) ∙ c .before .enum-told .given .1) .short
+key-fair-requires c κs =
+    fair _ (sym (c .before .before .before .fault-of .ensures) ∙ c .before .enum-told .given .1) .short
 
 enum-told-2 : tie.Need-enum-told-2
 enum-told-2 c = search needs
@@ -31,7 +32,8 @@ same-length c = search needs
 returns : tie.Need-returns
 returns c =
     let f = c .before .before .before .before .before .before .fault-of in
-    c .before .before .key-fair .ensures ∙ key-by _ _ Nothing (f .ensures) (c .before .before .before .before .enum-told .given .1)
+    let nothing = c .before .before .before .before .enum-told .given .1 in
+    c .before .before .key-fair .ensures ∙ key-by _ _ Nothing (f .ensures) nothing
 
 returns-2 : tie.Need-returns-2
 returns-2 c = key-by _ _ TextTooLong (c .before .before .fault-of .ensures) (c .enum-told2 .given .1)

@@ -53,9 +53,10 @@ returns-2 : tie.Need-returns-2
 returns-2 c =
     let b = c .before .before .before .before .args .c in
     let r = figure-ends b (c .before .if2 .taken) in
-    let e : entryByte (b - 48 + letterCount) ≡ b = simp (le-ltb (b - 48 + letterCount) letterCount (omega arith)) (omega arith) in
+    let k = b - 48 + letterCount in
+    let e : entryByte k ≡ b = simp (le-ltb k letterCount (omega arith)) (omega arith) in
     let t = c .before .before .before .table in
-    entry-right (t .result) (b - 48 + letterCount) (t .ensures) (omega arith) ∙ ap signOf e
+    entry-right (t .result) k (t .ensures) (omega arith) ∙ ap signOf e
 
 returns-3 : tie.Need-returns-3
 unfolding marksOf
