@@ -53,12 +53,12 @@ module _ (t : List ℕ) (seen : Seen) (e : seen ≡ seenIn t)
       let known : allKnown t ≡ true = sym (ap (λ s. s .known) e) ∙ k in
       simp (le-ltb longest (length t) short, known, b)
 
-  -- the same, by what the walk has seen
-  abbrev spacedBy : (double : Bool) → Bool
-  spacedBy double = isSpace (getD t 0 0) || isSpace (getD t (length t - 1) 0) || double
+  -- a space first or last, or what a walk has seen doubled
+  abbrev badBy : Bool → Bool
+  badBy double = isSpace (getD t 0 0) || isSpace (getD t (length t - 1) 0) || double
 
-  pub fault-seen : spacedBy (seen .doubled) ≡ bad → (if bad then BadSpace else Nothing) ≡ faultOf t
-  fault-seen b = fault-spacing (ap (λ s. spacedBy (s .doubled)) (sym e) ∙ b)
+  pub fault-seen : badBy (seen .doubled) ≡ bad → (if bad then BadSpace else Nothing) ≡ faultOf t
+  fault-seen b = fault-spacing (ap (λ s. badBy (s .doubled)) (sym e) ∙ b)
 
 pub empty-spaced : (t : List ℕ) → length t ≡ 0 → badlySpaced t ≡ false
 empty-spaced [] h = refl

@@ -11,7 +11,7 @@ use Rattle.morse.specs.Signs.{Mark, dot, dash, signs, signed}
 use Rattle.morse.specs.Texts.{space}
 use Rattle.morse.specs.Units.{betweenSigns, betweenWords}
 
--- the node after a mark is begun, as a dot
+-- the node after a mark is begun, as a dot; it stays a byte
 abbrev pub begun : ℕ → ℕ
 begun node = node % 128 * 2
 

@@ -44,6 +44,7 @@ fn byte_of(node: u8) -> u8
 }
 
 // What is heard after one more unit: a mark made longer, a mark begun, or a sign begun by its first mark.
+// A node stays a byte, whatever the units.
 fn next(ear: Ear, unit: u8) -> Ear
     ensures { λ r. ⌜ r ≡ nextEar ear unit ⌝ }
 {
