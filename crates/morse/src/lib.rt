@@ -14,3 +14,4 @@ pub use reading::Heard;
 pub use reading::read;
 pub use texts::Fault;
 pub use texts::fault_of;
+pub use units::MOST_UNITS;

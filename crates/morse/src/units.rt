@@ -25,7 +25,7 @@ pub(crate) const BETWEEN_WORDS: usize = 7;
 const BYTE_UNITS: usize = 22;
 
 // The most units of a text, 1405: nothing follows the last sign. It is the header's EMS_UNITS_BYTES.
-pub(crate) const MOST_UNITS: usize = BYTE_UNITS * LONGEST - BETWEEN_SIGNS;
+pub const MOST_UNITS: usize = BYTE_UNITS * LONGEST - BETWEEN_SIGNS;
 
 // Stores v at a place of the room, and nothing where the room has no such place.
 pub(crate) fn put(room: &mut [u8], at: usize, v: u8)
