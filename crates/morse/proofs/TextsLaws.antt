@@ -13,11 +13,12 @@ use borrow.Author.Tests.{lt-ltb, le-ltb, ltb-false}
 use Rattle.basics.specs.Choice.{if_then_else_}
 use Rattle.morse.specs.declared.signs.Sign.{Sign}
 use Rattle.morse.specs.declared.texts.Fault.{Fault}
-use Rattle.morse.specs.declared.texts.Fault.the-variants.{Nothing, TooLong, OutsideAlphabet, BadSpacing}
+use Rattle.morse.specs.declared.texts.Fault.the-variants.{Nothing, TextTooLong, NotKeyable, BadSpace}
 use Rattle.morse.specs.declared.texts.Seen.{Seen}
 use Rattle.morse.specs.Signs.{signed}
 use Rattle.morse.specs.SignTable.{unpack, marksOf}
-use Rattle.morse.specs.Texts.{longest, isSpace, known, allKnown, doubled, badlySpaced, faultOf, faultNumber, seenIn}
+use Rattle.morse.specs.Texts.{longest, isSpace, known, allKnown, doubled, badlySpaced}
+use Rattle.morse.specs.Texts.{faultOf, faultNumber, seenIn}
 
 -- a sign has marks where it says so
 pub signed-len : (s : Sign) → ltb 0 (s .len) ≡ signed (marksOf s)
@@ -36,23 +37,28 @@ module _ (t : List ℕ) (i : ℕ) (h : i < length t) where
   pub known-step : allKnown (drop i t) ≡ (known (getD t i 0) && allKnown (drop (i + 1) t))
   known-step = rw (add-one, drop-cons t i 0)
 
-  pub doubled-step : (before : ℕ) → doubledAfter before (drop i t) ≡ (isSpace before && isSpace (getD t i 0) || doubledAfter (getD t i 0) (drop (i + 1) t))
+  pub doubled-step : (before : ℕ) → doubledAfter before (drop i t)
+      ≡ (isSpace before && isSpace (getD t i 0) || doubledAfter (getD t i 0) (drop (i + 1) t))
   doubled-step before = rw (add-one, drop-cons t i 0)
 
 pub doubled-end : (before : ℕ) → doubledAfter before [] ≡ false
 doubled-end before = or-false (isSpace before && false) ∙ and-false (isSpace before)
 
 -- where the first two refusals do not apply, the spacing decides
-module _ (t : List ℕ) (seen : Seen) (e : seen ≡ seenIn t) (short : length t ≤ longest) (k : seen .known ≡ true) (bad : Bool) where
-  pub fault-spacing : badlySpaced t ≡ bad → (if bad then BadSpacing else Nothing) ≡ faultOf t
+module _ (t : List ℕ) (seen : Seen) (e : seen ≡ seenIn t)
+    (short : length t ≤ longest) (k : seen .known ≡ true) (bad : Bool) where
+  pub fault-spacing : badlySpaced t ≡ bad → (if bad then BadSpace else Nothing) ≡ faultOf t
   unfolding faultOf
   fault-spacing b =
       let known : allKnown t ≡ true = sym (ap (λ s. s .known) e) ∙ k in
       simp (le-ltb longest (length t) short, known, b)
 
-  -- the same, by what the walk has seen
-  pub fault-seen : (isSpace (getD t 0 0) || isSpace (getD t (length t - 1) 0) || seen .doubled) ≡ bad → (if bad then BadSpacing else Nothing) ≡ faultOf t
-  fault-seen b = fault-spacing (ap (λ s. isSpace (getD t 0 0) || isSpace (getD t (length t - 1) 0) || s .doubled) (sym e) ∙ b)
+  -- a space first or last, or what a walk has seen doubled
+  abbrev badBy : Bool → Bool
+  badBy double = isSpace (getD t 0 0) || isSpace (getD t (length t - 1) 0) || double
+
+  pub fault-seen : badBy (seen .doubled) ≡ bad → (if bad then BadSpace else Nothing) ≡ faultOf t
+  fault-seen b = fault-spacing (ap (λ s. badBy (s .doubled)) (sym e) ∙ b)
 
 pub empty-spaced : (t : List ℕ) → length t ≡ 0 → badlySpaced t ≡ false
 empty-spaced [] h = refl
@@ -68,8 +74,10 @@ pub fair : (t : List ℕ) → faultOf t ≡ Nothing → Fair t
 unfolding faultOf
 fair t e = by-tests (ltb longest (length t)) refl (allKnown t) refl (badlySpaced t) refl e
   where
-    by-tests : (a : Bool) → ltb longest (length t) ≡ a → (b : Bool) → allKnown t ≡ b → (c : Bool) → badlySpaced t ≡ c
-        → (if a then TooLong else if not b then OutsideAlphabet else if c then BadSpacing else Nothing) ≡ Nothing → Fair t
+    by-tests : (a : Bool) → ltb longest (length t) ≡ a → (b : Bool) → allKnown t ≡ b
+        → (c : Bool) → badlySpaced t ≡ c
+        → (if a then TextTooLong else if not b then NotKeyable else if c then BadSpace else Nothing) ≡ Nothing
+        → Fair t
     by-tests true p b q c r z = absurd (omega (arith, ap faultNumber z))
     by-tests false p false q c r z = absurd (omega (arith, ap faultNumber z))
     by-tests false p true q true r z = absurd (omega (arith, ap faultNumber z))
@@ -78,6 +86,6 @@ fair t e = by-tests (ltb longest (length t)) refl (allKnown t) refl (badlySpaced
 -- the fault whose number is 0
 pub is-fair : (f : Fault) → eqb (faultNumber f) 0 ≡ true → f ≡ Nothing
 is-fair Nothing e = refl
-is-fair TooLong e = absurd (false≢true e)
-is-fair OutsideAlphabet e = absurd (false≢true e)
-is-fair BadSpacing e = absurd (false≢true e)
+is-fair TextTooLong e = absurd (false≢true e)
+is-fair NotKeyable e = absurd (false≢true e)
+is-fair BadSpace e = absurd (false≢true e)

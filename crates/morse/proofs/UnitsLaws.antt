@@ -13,15 +13,19 @@ use Rattle.basics.proofs.ChoiceLaws.{either}
 use Rattle.basics.proofs.Stores.{sets-append}
 use Rattle.morse.specs.Signs.{Mark, signs, signOf}
 use Rattle.morse.specs.SignTable.{markOf, unpack}
-use Rattle.morse.specs.Texts.{isSpace}
-use Rattle.morse.specs.Units.{span, signUnits, gapAfter, unitsAfter, unitsOf}
+use Rattle.morse.specs.Texts.{longest, isSpace}
+use Rattle.morse.specs.Units.{span, betweenSigns, signUnits, gapAfter, unitsAfter, unitsOf}
 use Rattle.morse.proofs.Everywhere.{everywhere}
 
 -- one store off a run that ends at a place
-pub run-step : (end v i : ℕ) (room : List ℕ) → i < end → sets room i (replicate (end - i) v) ≡ sets (set room i v) (i + 1) (replicate (end - (i + 1)) v)
+pub run-step : (end v i : ℕ) (room : List ℕ) → i < end
+    → sets room i (replicate (end - i) v) ≡ sets (set room i v) (i + 1) (replicate (end - (i + 1)) v)
 run-step end v i room h = let e : end - i ≡ suc (end - (i + 1)) = omega arith in rw (e, add-one)
 
 -- a mark's span, by its bit
+abbrev bitSpan : ℕ → ℕ
+bitSpan bits = 1 + 2 * (bits % 2)
+
 span-bit : (b : ℕ) → b < 2 → span (markOf b) ≡ 1 + 2 * b
 span-bit zero h = refl
 span-bit (suc zero) h = refl
@@ -29,45 +33,83 @@ span-bit (suc (suc b)) h = absurd (omega arith)
 
 -- one mark off a sign
 module _ (n bits gap : ℕ) (h : 0 < n) where
-  mark-step : signUnits gap (unpack n bits) ≡ replicate gap 0 ++ (replicate (1 + 2 * (bits % 2)) 1 ++ signUnits 1 (unpack (n - 1) (bits / 2)))
+  mark-step : signUnits gap (unpack n bits)
+      ≡ replicate gap 0 ++ (replicate (bitSpan bits) 1 ++ signUnits 1 (unpack (n - 1) (bits / 2)))
   mark-step = by-count n h
     where
-      by-count : (m : ℕ) → 0 < m → signUnits gap (unpack m bits) ≡ replicate gap 0 ++ (replicate (1 + 2 * (bits % 2)) 1 ++ signUnits 1 (unpack (m - 1) (bits / 2)))
+      by-count : (m : ℕ) → 0 < m → signUnits gap (unpack m bits)
+          ≡ replicate gap 0 ++ (replicate (bitSpan bits) 1 ++ signUnits 1 (unpack (m - 1) (bits / 2)))
       by-count zero p = absurd (not-suc-le-zero p)
-      by-count (suc m) p = let e : span (markOf (bits % 2)) ≡ 1 + 2 * (bits % 2) = span-bit (bits % 2) (omega arith) in rw (e, sub-one)
+      by-count (suc m) p =
+          let e : span (markOf (bits % 2)) ≡ bitSpan bits = span-bit (bits % 2) (omega arith) in
+          rw (e, sub-one)
 
-  pub length-sign : length (signUnits gap (unpack n bits)) ≡ gap + (1 + 2 * (bits % 2) + length (signUnits 1 (unpack (n - 1) (bits / 2))))
+  pub length-sign : length (signUnits gap (unpack n bits))
+      ≡ gap + (bitSpan bits + length (signUnits 1 (unpack (n - 1) (bits / 2))))
   length-sign = rw mark-step (simp (length-append, length-replicate))
 
-  pub sets-sign : (room : List ℕ) (i : ℕ) → sets room i (signUnits gap (unpack n bits)) ≡ sets (sets (sets room i (replicate gap 0)) (i + gap) (replicate (1 + 2 * (bits % 2)) 1)) (i + gap + (1 + 2 * (bits % 2))) (signUnits 1 (unpack (n - 1) (bits / 2)))
+  pub sets-sign : (room : List ℕ) (i : ℕ) → sets room i (signUnits gap (unpack n bits))
+      ≡ sets
+      (sets (sets room i (replicate gap 0)) (i + gap) (replicate (bitSpan bits) 1))
+      (i + gap + bitSpan bits)
+      (signUnits 1 (unpack (n - 1) (bits / 2)))
   sets-sign room i = rw mark-step (simp (sets-append, length-replicate))
+
+-- the units of byte i of a text after a gap, and those of the rest of the text
+abbrev byteUnits : (t : List ℕ) (i gap : ℕ) → List ℕ
+byteUnits t i gap = signUnits gap (signOf (getD t i 0))
+
+abbrev restUnits : (t : List ℕ) (i : ℕ) → List ℕ
+restUnits t i = unitsAfter (gapAfter (getD t i 0)) (drop (i + 1) t)
 
 -- one byte off the rest of a text
 module _ (t : List ℕ) (i gap : ℕ) (h : i < length t) where
-  byte-step : unitsAfter gap (drop i t) ≡ signUnits gap (signOf (getD t i 0)) ++ unitsAfter (gapAfter (getD t i 0)) (drop (i + 1) t)
+  byte-step : unitsAfter gap (drop i t) ≡ byteUnits t i gap ++ restUnits t i
   byte-step = rw (add-one, drop-cons t i 0)
 
-  pub length-text : length (unitsAfter gap (drop i t)) ≡ length (signUnits gap (signOf (getD t i 0))) + length (unitsAfter (gapAfter (getD t i 0)) (drop (i + 1) t))
+  pub length-text : length (unitsAfter gap (drop i t)) ≡ length (byteUnits t i gap) + length (restUnits t i)
   length-text = ap length byte-step ∙ simp length-append
 
-  pub sets-text : (room : List ℕ) (k : ℕ) → sets room k (unitsAfter gap (drop i t)) ≡ sets (sets room k (signUnits gap (signOf (getD t i 0)))) (k + length (signUnits gap (signOf (getD t i 0)))) (unitsAfter (gapAfter (getD t i 0)) (drop (i + 1) t))
+  pub sets-text : (room : List ℕ) (k : ℕ) → sets room k (unitsAfter gap (drop i t))
+      ≡ sets (sets room k (byteUnits t i gap)) (k + length (byteUnits t i gap)) (restUnits t i)
   sets-text room k = ap (sets room k) byte-step ∙ simp sets-append
 
--- a byte's units with the gap after them: at most 22, by a test over the table of signs
-most : (c : ℕ) → length (signUnits 0 (signOf c)) + gapAfter c ≤ 22
+-- the most units of a byte: the 19 of the longest sign, that of 0, and the gap of 3 after it
+abbrev pub mostOfByte : ℕ
+mostOfByte = 22
+
+-- the most units of a text: nothing follows the last sign
+abbrev pub mostUnits : ℕ
+mostUnits = mostOfByte * longest - betweenSigns
+
+-- a byte's units with the gap after them: a test over the table of signs
+byte-most : (c : ℕ) → length (signUnits 0 (signOf c)) + gapAfter c ≤ mostOfByte
 unfolding signs signOf
-most c = leb→le _ _ (everywhere [] (λ k ms. leb (length (signUnits 0 ms) + gapAfter k) 22) signs tt (λ k. either (λ (g : ℕ). T (leb (0 + g) 22)) (isSpace k) tt tt) c)
+byte-most c =
+    leb→le _ _ (everywhere [] (λ k ms. leb (length (signUnits 0 ms) + gapAfter k) mostOfByte) signs tt past c)
+  where
+    past : (k : ℕ) → T (leb (0 + gapAfter k) mostOfByte)
+    past k = either (λ (g : ℕ). T (leb (0 + g) mostOfByte)) (isSpace k) tt tt
 
-after-gap : (gap : ℕ) (ms : List Mark) → length (signUnits gap ms) ≤ gap + length (signUnits 0 ms)
-after-gap gap [] = zero-le
-after-gap gap (m ∷ ms) = simp (length-append, length-replicate) (omega arith)
+gap-least : (c : ℕ) → betweenSigns ≤ gapAfter c
+gap-least c = either (λ (g : ℕ). betweenSigns ≤ g) (isSpace c) (omega arith) (omega arith)
 
-pub units-after-most : (t : List ℕ) (gap : ℕ) → length (unitsAfter gap t) ≤ gap + 22 * length t
+sign-most : (gap : ℕ) (ms : List Mark) → length (signUnits gap ms) ≤ gap + length (signUnits 0 ms)
+sign-most gap [] = zero-le
+sign-most gap (m ∷ ms) = simp (length-append, length-replicate) (omega arith)
+
+-- nothing follows the last sign: the gap that is due after it is not counted
+pub units-after-most : (t : List ℕ) (gap : ℕ)
+    → length (unitsAfter gap t) ≤ gap + (mostOfByte * length t - betweenSigns)
 units-after-most [] gap = zero-le
-units-after-most (c ∷ t) gap =
-    simp (length-append (signUnits gap (signOf c))) (omega (arith, after-gap gap (signOf c), most c, units-after-most t (gapAfter c)))
+units-after-most (c ∷ []) gap =
+    simp (length-append (signUnits gap (signOf c)))
+    (omega (arith, sign-most gap (signOf c), byte-most c, gap-least c))
+units-after-most (c ∷ d ∷ t) gap =
+    simp (length-append (signUnits gap (signOf c)))
+    (omega (arith, sign-most gap (signOf c), byte-most c, units-after-most (d ∷ t) (gapAfter c)))
 
--- a text of n bytes has at most 22 n units
-pub units-most : (t : List ℕ) → length (unitsOf t) ≤ 22 * length t
+-- a text of n bytes has at most 22 n - 3 units
+pub units-most : (t : List ℕ) → length (unitsOf t) ≤ mostOfByte * length t - betweenSigns
 unfolding unitsOf
 units-most t = omega (arith, units-after-most t 0)

@@ -1,43 +1,27 @@
--- The page's numbers of the refusals, what an answer gives by number, and what a call leaves in a room.
+-- The page's numbers of what keying and reading answer, under the header's names.
 -- Assumes nothing.
 use Prim.Native.Nat.{ℕ}
-use mathlib.Core.List.{List, _++_}
-use lib.ListN.{length, drop}
 
+-- done by the rules
 abbrev pub done : ℕ
 done = 0
 
-abbrev pub tooLong : ℕ
-tooLong = 11
+-- a text over 64 bytes
+abbrev pub textTooLong : ℕ
+textTooLong = 11
 
-abbrev pub outsideAlphabet : ℕ
-outsideAlphabet = 12
+-- a byte that is not A to Z, 0 to 9 or a space
+abbrev pub notKeyable : ℕ
+notKeyable = 12
 
-abbrev pub badSpacing : ℕ
-badSpacing = 13
+-- a space first, last or doubled
+abbrev pub badSpace : ℕ
+badSpace = 13
 
+-- a room shorter than the result
 abbrev pub noRoom : ℕ
 noRoom = 14
 
+-- units that are not exactly the keying of a text
 abbrev pub notAKeying : ℕ
 notAKeying = 15
-
--- an answer in the page's terms: its number, and the count that it returns
-pub record Reply : Type 0 where
-  pub number : ℕ
-  pub count : ℕ
-
-abbrev pub reply : (number count : ℕ) → Reply
-reply number count = record { number = number; count = count }
-
--- a call's answer and the full later content of the room that it was lent
-pub record Outcome (Answer : Type 0) : Type 0 where
-  pub answer : Answer
-  pub room : List ℕ
-
-abbrev pub outcome : {Answer : Type 0} → Answer → List ℕ → Outcome Answer
-outcome answer room = record { answer = answer; room = room }
-
--- bytes written into the front of a room: those past them stay
-abbrev pub written : (bytes room : List ℕ) → List ℕ
-written bytes room = bytes ++ drop (length bytes) room

@@ -1,5 +1,5 @@
--- The reader's guess at a text. No promise speaks of it: what is guessed is keyed again and compared, and these definitions
--- say only what the guessing code does, so that one theorem can say that it is right. Assumes nothing.
+-- The reader's guess at a text. No promise speaks of it: what is guessed is keyed again and compared, and these
+-- definitions say only what the guessing code does, so that one theorem can say that it is right. Assumes nothing.
 use Prim.Native.Nat.{ℕ, suc, _+_, _*_, _/_, _%_}
 use mathlib.Core.Bool.{Bool, _&&_}
 use mathlib.Core.List.{List, [], _∷_, _++_}
@@ -11,58 +11,67 @@ use Rattle.morse.specs.Signs.{Mark, dot, dash, signs, signed}
 use Rattle.morse.specs.Texts.{space}
 use Rattle.morse.specs.Units.{betweenSigns, betweenWords}
 
--- a mark begun, as a dot, and a mark made longer
+-- the node after a mark is begun, as a dot; it stays a byte
 abbrev pub begun : ℕ → ℕ
-begun tree = tree % 128 * 2
+begun node = node % 128 * 2
 
+-- the node after a mark is made longer
 abbrev pub longer : ℕ → ℕ
-longer tree = tree / 2 * 2 + 1
+longer node = node / 2 * 2 + 1
 
--- the number of a sign: 1, then doubled for each mark, and one more for a dash
+-- the node of a sign in the tree of marks, from 1 on: doubled for each mark, and one more for a dash
 abbrev pub climb : ℕ → List Mark → ℕ
-climb tree [] = tree
-climb tree (dot ∷ ms) = climb (begun tree) ms
-climb tree (dash ∷ ms) = climb (begun tree + 1) ms
+climb node [] = node
+climb node (dot ∷ ms) = climb (begun node) ms
+climb node (dash ∷ ms) = climb (begun node + 1) ms
+
+-- the nodes of signs of up to five marks are below it
+abbrev pub nodes : ℕ
+nodes = 64
 
 -- `_`, which is not of the alphabet
 abbrev pub noByte : ℕ
 noByte = 95
 
--- the byte whose sign has this number, among the signs of the bytes from k on, or no byte
-abbrev pub find : (tree k : ℕ) → List (List Mark) → ℕ
-find tree k [] = noByte
-find tree k (s ∷ ss) = if signed s && eqb (climb 1 s) tree then k else find tree (suc k) ss
+-- the byte whose sign has this node, among the signs of the bytes from k on, or no byte
+abbrev pub byteAmong : (node k : ℕ) → List (List Mark) → ℕ
+byteAmong node k [] = noByte
+byteAmong node k (s ∷ ss) = if signed s && eqb (climb 1 s) node then k else byteAmong node (suc k) ss
 
+-- the byte whose sign has this node, or no byte
 unfoldable pub byteOf : ℕ → ℕ
-byteOf tree = if ltb tree 64 then find tree 0 signs else noByte
+byteOf node = if ltb node nodes then byteAmong node 0 signs else noByte
 
--- the rule of the code's table at entry k
+-- the rule of the code's table of bytes at entry k
 abbrev pub isByte : List ℕ → ℕ → Bool
 isByte table k = eqb (getD table k 0) (byteOf k)
 
-abbrev pub ear : (tree up : ℕ) → Ear
-ear tree up = record { tree = tree; up = up }
+-- what is heard so far: the node of the sign at hand, and the gap since the key was last down
+abbrev pub ear : (node gap : ℕ) → Ear
+ear node gap = record { node = node; gap = gap }
 
 -- what is heard after one more unit
 abbrev pub nextEar : Ear → ℕ → Ear
 nextEar e unit =
-    if eqb unit 0 then (if ltb (e .up) betweenWords then ear (e .tree) (e .up + 1) else ear (e .tree) (e .up))
-    else if eqb (e .up) 0 then ear (longer (e .tree)) 0
-    else if ltb (e .up) betweenSigns then ear (begun (e .tree)) 0
+    if eqb unit 0 then (if ltb (e .gap) betweenWords then ear (e .node) (e .gap + 1) else ear (e .node) (e .gap))
+    else if eqb (e .gap) 0 then ear (longer (e .node)) 0
+    else if ltb (e .gap) betweenSigns then ear (begun (e .node)) 0
     else ear 2 0
 
 -- what a unit tells to be over: a sign, or a sign and a word
 abbrev pub spoken : Ear → ℕ → List ℕ
 spoken e unit =
     if eqb unit 0 then []
-    else if ltb (e .up) betweenSigns then []
-    else if ltb (e .up) betweenWords then byteOf (e .tree) ∷ []
-    else byteOf (e .tree) ∷ space ∷ []
+    else if ltb (e .gap) betweenSigns then []
+    else if ltb (e .gap) betweenWords then byteOf (e .node) ∷ []
+    else byteOf (e .node) ∷ space ∷ []
 
+-- what is guessed of the units that are left
 abbrev pub hear : Ear → List ℕ → List ℕ
-hear e [] = byteOf (e .tree) ∷ []
+hear e [] = byteOf (e .node) ∷ []
 hear e (u ∷ us) = spoken e u ++ hear (nextEar e u) us
 
-unfoldable pub heard : List ℕ → List ℕ
-heard [] = []
-heard (u ∷ us) = hear (ear 1 1) (u ∷ us)
+-- the guess
+unfoldable pub guessOf : List ℕ → List ℕ
+guessOf [] = []
+guessOf (u ∷ us) = hear (ear 1 1) (u ∷ us)

@@ -2,20 +2,22 @@
 -- Assumes nothing.
 use Prim.Native.Nat.{ℕ}
 use mathlib.Core.Path.{_≡_}
+use mathlib.Core.Bool.{Bool, true}
 use mathlib.Core.List.{List}
 use lib.Dec.{ltb}
 use lib.ListN.{length}
 use Rattle.basics.specs.Choice.{if_then_else_}
+use Rattle.basics.specs.Outcome.{Outcome, outcome, written, Reply, reply}
 use Rattle.morse.specs.declared.reading.Heard.{Heard}
-use Rattle.morse.specs.declared.reading.Heard.the-variants.{Text, NotAKeying, NoRoom}
+use Rattle.morse.specs.declared.reading.Heard.the-variants.{Done, NotAKeying, NoRoom}
 use Rattle.morse.specs.declared.texts.Fault.the-variants.{Nothing}
-use Rattle.morse.specs.Answers.{Reply, reply, Outcome, outcome, written, done, noRoom, notAKeying}
+use Rattle.morse.specs.Answers.{done, noRoom, notAKeying}
 use Rattle.morse.specs.Texts.{faultOf}
 use Rattle.morse.specs.Units.{unitsOf}
 
 -- the page's number and the count of each answer
 abbrev pub readReply : Heard → Reply
-readReply (Text n) = reply done n
+readReply (Done n) = reply done n
 readReply NotAKeying = reply notAKeying 0
 readReply NoRoom = reply noRoom 0
 
@@ -24,13 +26,17 @@ pub record Keys (text units : List ℕ) : Type 0 where
   pub passes : faultOf text ≡ Nothing
   pub same : unitsOf text ≡ units
 
+-- a test that tells whether a fact holds
+abbrev pub Tells : Bool → Type 0 → Type 0
+Tells test Fact = (test ≡ true → Fact) × (Fact → test ≡ true)
+
 -- a text into a room: 14 if it is shorter, else the text is written, and its length returned
 unfoldable pub readText : (text room : List ℕ) → Outcome Heard
 readText text room =
     if ltb (length room) (length text) then outcome NoRoom room
-    else outcome (Text (length text)) (written text room)
+    else outcome (Done (length text)) (written text room)
 
--- reading units into a room: the text of which they are the keying, or, where there is none, 15 with the room untouched
+-- reading units into a room: the text of which they are the keying, or, where there is none, 15 and the room untouched
 pub record Read (units room : List ℕ) (after : Outcome Heard) : Type 0 where
   pub told : (text : List ℕ) → Keys text units → after ≡ readText text room
   pub refused : ((text : List ℕ) → Keys text units → ⊥) → after ≡ outcome NotAKeying room

@@ -7,18 +7,20 @@ use lib.Dec.{eqb, ltb}
 use lib.ListN.{length, getD}
 use Rattle.basics.specs.Choice.{if_then_else_}
 use Rattle.morse.specs.declared.texts.Fault.{Fault}
-use Rattle.morse.specs.declared.texts.Fault.the-variants.{Nothing, TooLong, OutsideAlphabet, BadSpacing}
+use Rattle.morse.specs.declared.texts.Fault.the-variants.{Nothing, TextTooLong, NotKeyable, BadSpace}
 use Rattle.morse.specs.declared.texts.Seen.{Seen}
-use Rattle.morse.specs.Answers.{done, tooLong, outsideAlphabet, badSpacing}
+use Rattle.morse.specs.Answers.{done, textTooLong, notKeyable, badSpace}
 use Rattle.morse.specs.Signs.{signOf, signed}
 
 -- the most bytes
 abbrev pub longest : ℕ
 longest = 64
 
+-- what stands between two words
 abbrev pub space : ℕ
 space = 32
 
+-- whether a byte is a space
 abbrev pub isSpace : ℕ → Bool
 isSpace c = eqb c space
 
@@ -26,6 +28,7 @@ isSpace c = eqb c space
 abbrev pub known : ℕ → Bool
 known c = isSpace c || signed (signOf c)
 
+-- all bytes are of the alphabet
 abbrev pub allKnown : List ℕ → Bool
 allKnown [] = true
 allKnown (c ∷ t) = known c && allKnown t
@@ -42,17 +45,17 @@ badlySpaced t = isSpace (getD t 0 0) || isSpace (getD t (length t - 1) 0) || dou
 -- why a text may not be keyed: the first that applies
 unfoldable pub faultOf : List ℕ → Fault
 faultOf t =
-    if ltb longest (length t) then TooLong
-    else if not (allKnown t) then OutsideAlphabet
-    else if badlySpaced t then BadSpacing
+    if ltb longest (length t) then TextTooLong
+    else if not (allKnown t) then NotKeyable
+    else if badlySpaced t then BadSpace
     else Nothing
 
 -- the page's number of a fault
 abbrev pub faultNumber : Fault → ℕ
 faultNumber Nothing = done
-faultNumber TooLong = tooLong
-faultNumber OutsideAlphabet = outsideAlphabet
-faultNumber BadSpacing = badSpacing
+faultNumber TextTooLong = textTooLong
+faultNumber NotKeyable = notKeyable
+faultNumber BadSpace = badSpace
 
 -- what the code's walk through a text finds
 abbrev pub seenIn : List ℕ → Seen

@@ -1,16 +1,19 @@
 -- The units of a text: 1 for key down, 0 for up. Dot 1, dash 3, gap inside a sign 1, between signs 3, between words 7.
 -- Assumes nothing.
-use Prim.Native.Nat.{ℕ}
+use Prim.Native.Nat.{ℕ, _+_}
+use mathlib.Core.Path.{_≡_}
 use mathlib.Core.List.{List, [], _∷_, _++_}
-use lib.ListN.{replicate}
+use lib.ListN.{length, replicate}
+use lib.Seq.{sets}
 use Rattle.basics.specs.Choice.{if_then_else_}
 use Rattle.morse.specs.Signs.{Mark, dot, dash, signOf}
 use Rattle.morse.specs.Texts.{isSpace}
 
--- n units of key up, and of key down
+-- n units of key up
 abbrev pub up : ℕ → List ℕ
 up n = replicate n 0
 
+-- n units of key down
 abbrev pub down : ℕ → List ℕ
 down n = replicate n 1
 
@@ -19,13 +22,15 @@ abbrev pub span : Mark → ℕ
 span dot = 1
 span dash = 3
 
--- the gaps
+-- the gap between two marks of a sign
 abbrev pub insideSign : ℕ
 insideSign = 1
 
+-- the gap between two signs
 abbrev pub betweenSigns : ℕ
 betweenSigns = 3
 
+-- the gap between two words
 abbrev pub betweenWords : ℕ
 betweenWords = 7
 
@@ -43,6 +48,10 @@ abbrev pub unitsAfter : (gap : ℕ) → List ℕ → List ℕ
 unitsAfter gap [] = []
 unitsAfter gap (c ∷ t) = signUnits gap (signOf c) ++ unitsAfter (gapAfter c) t
 
--- no gap before the first sign, and nothing after the last
+-- the units of a text: no gap before the first sign, and nothing after the last
 unfoldable pub unitsOf : List ℕ → List ℕ
 unitsOf t = unitsAfter 0 t
+
+-- bytes stored in a room from a place on, as far as it goes: the place after them, and the room's later content
+abbrev pub Stored : (at : ℕ) (bytes room : List ℕ) (after : ℕ) (later : List ℕ) → Type 0
+Stored at bytes room after later = (after ≡ at + length bytes) × (later ≡ sets room at bytes)

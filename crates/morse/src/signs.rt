@@ -4,16 +4,22 @@ ghost use mathlib.Core.Path.{_≡_};
 ghost use lib.Dec.{T};
 ghost use Rattle.basics.specs.Tables.{allBelow};
 ghost use Rattle.morse.specs.Signs.{signOf};
-ghost use Rattle.morse.specs.SignTable.{marksOf, isSign};
+ghost use Rattle.morse.specs.SignTable.{entries, marksOf, isSign};
 
 // A sign: its dashes as bits, the first mark lowest, and how many marks it has.
-pub struct Sign {
-    pub marks: u8,
-    pub len: u8,
+pub(crate) struct Sign {
+    pub(crate) marks: u8,
+    pub(crate) len: u8,
 }
 
+// How many letters there are.
+const LETTERS: usize = 26;
+
+// How many letters and figures there are.
+const ENTRIES: usize = 36;
+
 // A to Z, then 0 to 9.
-const SIGNS: [Sign; 36] = [
+const SIGNS: [Sign; ENTRIES] = [
     Sign { marks: 2, len: 2 }, // A
     Sign { marks: 1, len: 4 }, // B
     Sign { marks: 5, len: 4 }, // C
@@ -53,14 +59,14 @@ const SIGNS: [Sign; 36] = [
 ];
 
 // The table, each of whose entries is the sign of its byte.
-fn table() -> [Sign; 36]
-    ensures { λ r. ⌜ T (allBelow (isSign r) 36) ⌝ }
+fn table() -> [Sign; ENTRIES]
+    ensures { λ r. ⌜ T (allBelow (isSign r) entries) ⌝ }
 {
     SIGNS
 }
 
 // The sign of a byte; one of no marks where the byte has none.
-pub fn sign_of(c: u8) -> Sign
+pub(crate) fn sign_of(c: u8) -> Sign
     ensures { λ r. ⌜ marksOf r ≡ signOf c ⌝ }
 {
     let signs = table();
@@ -68,7 +74,7 @@ pub fn sign_of(c: u8) -> Sign
         return signs[(c - b'A') as usize];
     }
     if (b'0' <= c) & (c <= b'9') {
-        return signs[(c - b'0') as usize + 26];
+        return signs[(c - b'0') as usize + LETTERS];
     }
     Sign { marks: 0, len: 0 }
 }

@@ -1,25 +1,45 @@
 // Which texts may be keyed.
 // Refusals 11, 12 and 13, in that order, for any bytes at all.
 ghost use mathlib.Core.Path.{_≡_};
-ghost use Rattle.morse.specs.Texts.{known, seenIn, faultOf};
+ghost use Rattle.morse.specs.Texts.{known, seenIn, faultOf, faultNumber};
+use crate::answers::BAD_SPACE;
+use crate::answers::DONE;
+use crate::answers::NOT_KEYABLE;
+use crate::answers::TEXT_TOO_LONG;
 use crate::signs::sign_of;
 
+// The most bytes of a text.
 pub const LONGEST: usize = 64;
 
-const SPACE: u8 = b' ';
+// What stands between two words.
+pub(crate) const SPACE: u8 = b' ';
 
 // Why a text may not be keyed: the first of the three refusals that applies, if any.
 pub enum Fault {
     Nothing,
-    TooLong,
-    OutsideAlphabet,
-    BadSpacing,
+    TextTooLong,
+    NotKeyable,
+    BadSpace,
+}
+
+impl Fault {
+    // The page's number, 0 where there is no fault.
+    pub fn number(self) -> u8
+        ensures { λ r. ⌜ r ≡ faultNumber self ⌝ }
+    {
+        match self {
+            Fault::Nothing => DONE,
+            Fault::TextTooLong => TEXT_TOO_LONG,
+            Fault::NotKeyable => NOT_KEYABLE,
+            Fault::BadSpace => BAD_SPACE,
+        }
+    }
 }
 
 // What one walk through a text finds.
-pub struct Seen {
-    pub known: bool,
-    pub doubled: bool,
+struct Seen {
+    known: bool,
+    doubled: bool,
 }
 
 // Whether a byte is of the alphabet.
@@ -54,17 +74,17 @@ pub fn fault_of(text: &[u8]) -> Fault
 {
     let n = text.len();
     if LONGEST < n {
-        return Fault::TooLong;
+        return Fault::TextTooLong;
     }
     let seen = look(text);
     if !seen.known {
-        return Fault::OutsideAlphabet;
+        return Fault::NotKeyable;
     }
     if n == 0 {
         return Fault::Nothing;
     }
     if (text[0] == SPACE) | (text[n - 1] == SPACE) | seen.doubled {
-        return Fault::BadSpacing;
+        return Fault::BadSpace;
     }
     Fault::Nothing
 }

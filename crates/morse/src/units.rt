@@ -6,19 +6,29 @@ ghost use lib.ListN.{length, set, replicate};
 ghost use lib.Seq.{sets};
 ghost use Rattle.morse.specs.SignTable.{marksOf};
 ghost use Rattle.morse.specs.Texts.{longest};
-ghost use Rattle.morse.specs.Units.{gapAfter, signUnits, unitsOf};
+ghost use Rattle.morse.specs.Units.{gapAfter, signUnits, unitsOf, Stored};
 use crate::signs::Sign;
 use crate::signs::sign_of;
+use crate::texts::LONGEST;
+use crate::texts::SPACE;
 
-// The gaps, in units up.
+// The gap between two marks of a sign, in units up.
 const INSIDE_SIGN: usize = 1;
 
-pub const BETWEEN_SIGNS: usize = 3;
+// The gap between two signs.
+pub(crate) const BETWEEN_SIGNS: usize = 3;
 
-pub const BETWEEN_WORDS: usize = 7;
+// The gap between two words.
+pub(crate) const BETWEEN_WORDS: usize = 7;
+
+// The most units of a byte: the 19 of the longest sign, that of 0, and the gap of 3 after it.
+const BYTE_UNITS: usize = 22;
+
+// The most units of a text, 1405: nothing follows the last sign. It is the header's EMS_UNITS_BYTES.
+pub const MOST_UNITS: usize = BYTE_UNITS * LONGEST - BETWEEN_SIGNS;
 
 // Stores v at a place of the room, and nothing where the room has no such place.
-pub fn put(room: &mut [u8], at: usize, v: u8)
+pub(crate) fn put(room: &mut [u8], at: usize, v: u8)
     ensures { λ _. ⌜ now (room .exit) ≡ set (now (room .entry)) at v ⌝ }
 {
     if room.len() <= at {
@@ -44,7 +54,7 @@ fn put_run(room: &mut [u8], at: usize, n: usize, v: u8) -> usize
 // Stores the marks of a sign, the first after a gap, and gives the place after them.
 fn put_sign(room: &mut [u8], at: usize, gap: usize, sign: Sign) -> usize
     requires { ⌜ at + length (signUnits gap (marksOf sign)) < 2 ^ 63 ⌝ }
-    ensures { λ r. ⌜ (r ≡ at + length (signUnits gap (marksOf sign))) × (now (room .exit) ≡ sets (now (room .entry)) at (signUnits gap (marksOf sign))) ⌝ }
+    ensures { λ r. ⌜ Stored at (signUnits gap (marksOf sign)) (now (room .entry)) r (now (room .exit)) ⌝ }
 {
     let mut i = at;
     let mut up = gap;
@@ -64,7 +74,7 @@ fn put_sign(room: &mut [u8], at: usize, gap: usize, sign: Sign) -> usize
 fn gap_after(c: u8) -> usize
     ensures { λ r. ⌜ r ≡ gapAfter c ⌝ }
 {
-    if c == b' ' {
+    if c == SPACE {
         BETWEEN_WORDS
     } else {
         BETWEEN_SIGNS
@@ -72,9 +82,9 @@ fn gap_after(c: u8) -> usize
 }
 
 // Stores a text's units from the front of the room, as far as it goes, and gives how many the text has.
-pub fn put_text(text: &[u8], room: &mut [u8]) -> usize
+pub(crate) fn put_text(text: &[u8], room: &mut [u8]) -> usize
     requires { ⌜ length (now text) ≤ longest ⌝ }
-    ensures { λ r. ⌜ (r ≡ length (unitsOf (now (text .entry)))) × (now (room .exit) ≡ sets (now (room .entry)) 0 (unitsOf (now (text .entry)))) ⌝ }
+    ensures { λ r. ⌜ Stored 0 (unitsOf (now (text .entry))) (now (room .entry)) r (now (room .exit)) ⌝ }
 {
     let mut at = 0;
     let mut gap = 0;

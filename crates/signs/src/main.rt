@@ -2,7 +2,12 @@
 use libc::STDOUT_FILENO;
 use morse::Heard;
 use morse::Keyed;
+use morse::texts::LONGEST;
 
+// Room for the units of any sign: they are 19 at most.
+const SIGN_ROOM: usize = 32;
+
+// Bytes to standard output.
 fn say(text: &[u8]) {
     io::write_all(STDOUT_FILENO, text);
 }
@@ -35,10 +40,10 @@ fn say_marks(units: &[u8]) {
 
 // What reading units gives.
 fn say_heard(units: &[u8]) {
-    let mut text = [0u8; 64];
+    let mut text = [0u8; LONGEST];
     match morse::read(units, &mut text) {
-        Heard::Text(n) => {
-            if n <= 64 {
+        Heard::Done(n) => {
+            if n <= LONGEST {
                 say(&text[0..n]);
             }
         }
@@ -46,6 +51,7 @@ fn say_heard(units: &[u8]) {
     }
 }
 
+// The marks of a keying, and what reading it gives.
 fn say_keyed(units: &[u8]) {
     say_marks(units);
     say(b" ");
@@ -53,14 +59,15 @@ fn say_keyed(units: &[u8]) {
     say(b"\n");
 }
 
+// A byte, its sign, and what reading that gives.
 fn say_sign(byte: u8) {
     let text = [byte];
-    let mut units = [0u8; 32];
+    let mut units = [0u8; SIGN_ROOM];
     say(&text);
     say(b" ");
     match morse::key(&text, &mut units) {
         Keyed::Done(n) => {
-            if n <= 32 {
+            if n <= SIGN_ROOM {
                 say_keyed(&units[0..n]);
             }
         }
@@ -78,6 +85,7 @@ fn say_signs(first: u8, last: u8) {
     say_sign(last);
 }
 
+// The letters, then the figures.
 fn main() {
     say_signs(b'A', b'Z');
     say_signs(b'0', b'9');

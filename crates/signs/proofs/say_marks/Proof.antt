@@ -1,4 +1,5 @@
--- `signs::say_marks` is safe and ends. The invariant: no more units are down than were passed. The measure is the units left.
+-- `signs::say_marks` is safe and ends. The invariant: no more units are down than were passed. The measure is the
+-- units left.
 use mathlib.Core.Logic.{⊎-elim}
 use Prim.Native.Nat.{_-_, _≤_}
 use lib.ListN.{length}

@@ -3,7 +3,7 @@ use lib.Dec.{eqb→eq}
 use borrow.Author.Tests.{le-ltb}
 use borrow.Author.Needs.{needs}
 use Rattle.basics.proofs.TablesLaws.{upto}
-use Rattle.morse.specs.Guessing.{isByte, byteOf}
+use Rattle.morse.specs.Guessing.{nodes, isByte, byteOf}
 use Rattle.morse.proofs.guessing.byte_of.Statement.{statement}
 use Rattle.morse.proofs.guessing.byte_of.Tie as tie
 
@@ -16,8 +16,8 @@ array-read-result c = search needs
 returns : tie.Need-returns
 returns c =
     let table = c .before .table in
-    let tree = c .before .before .args .tree in
-    eqb→eq _ _ (upto (isByte (table .result)) 64 (table .ensures) tree (c .if1 .taken))
+    let node = c .before .before .args .node in
+    eqb→eq _ _ (upto (isByte (table .result)) nodes (table .ensures) node (c .if1 .taken))
 
 returns-2 : tie.Need-returns-2
 unfolding byteOf

@@ -26,10 +26,12 @@ mul-t12 : tie.Need-mul-t12
 mul-t12 c = search needs
 
 returns-4 : tie.Need-returns-4
-returns-4 c = simp (ne-eqb _ _ (c .before .before .if1 .left), ne-eqb _ _ (c .before .if3 .left), lt-ltb _ _ (c .if4 .taken))
+returns-4 c =
+    simp (ne-eqb _ _ (c .before .before .if1 .left), ne-eqb _ _ (c .before .if3 .left), lt-ltb _ _ (c .if4 .taken))
 
 returns-5 : tie.Need-returns-5
-returns-5 c = simp (ne-eqb _ _ (c .before .before .if1 .left), ne-eqb _ _ (c .before .if3 .left), le-ltb _ _ (c .if4 .left))
+returns-5 c =
+    simp (ne-eqb _ _ (c .before .before .if1 .left), ne-eqb _ _ (c .before .if3 .left), le-ltb _ _ (c .if4 .left))
 
 pub next-spec : {M : Type 1} → statement M
 next-spec =

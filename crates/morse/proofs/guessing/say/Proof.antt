@@ -27,7 +27,9 @@ same-length c = search needs
 
 returns-3 : tie.Need-returns-3
 returns-3 c =
-    simp (ne-eqb _ _ (c .before .before .before .before .before .before .before .if1 .left), le-ltb _ _ (c .before .before .before .before .before .before .if2 .left), lt-ltb _ _ (c .if3 .taken)) (omega arith, cc)
+    let over = c .before .before .before .before .before .before in
+    simp (ne-eqb _ _ (over .before .if1 .left), le-ltb _ _ (over .if2 .left), lt-ltb _ _ (c .if3 .taken))
+    (omega arith, cc)
 
 add-put : tie.Need-add-put
 add-put c = search needs
@@ -43,8 +45,10 @@ same-length-2 c = search needs
 
 returns-4 : tie.Need-returns-4
 returns-4 c =
-    simp (ne-eqb _ _ (c .before .before .before .before .before .before .before .before .before .before .before .if1 .left), le-ltb _ _ (c .before .before .before .before .before .before .before .before .before .before .if2 .left), le-ltb _ _ (c .before .before .before .before .if3 .left))
-    (omega arith, cc (add-one (c .before .before .before .before .before .before .before .before .before .before .before .before .before .args .at)))
+    let word = c .before .before .before .before in
+    let over = word .before .before .before .before .before .before in
+    simp (ne-eqb _ _ (over .before .if1 .left), le-ltb _ _ (over .if2 .left), le-ltb _ _ (word .if3 .left))
+    (omega arith, cc (add-one (over .before .before .before .args .at)))
 
 pub say-spec : {M : Type 1} → statement M
 say-spec =

@@ -1,7 +1,6 @@
 -- `morse::keying::key_fair` meets its contract: a first count tells whether the room is long enough.
 use native.Mathlib.Omega.{arith}
 use borrow.Author.Needs.{needs}
-use Rattle.morse.specs.Units.{unitsOf}
 use Rattle.morse.proofs.KeyingLaws.{key-short, key-stored}
 use Rattle.morse.proofs.keying.key_fair.Statement.{statement}
 use Rattle.morse.proofs.keying.key_fair.Tie as tie
@@ -22,10 +21,7 @@ same-length : tie.Need-same-length
 same-length c = search needs
 
 returns-2 : tie.Need-returns-2
-returns-2 c =
-    let a = c .before .before .before .before .before .before .before .before .before .before .args in
-    let p = c .before .before .put-text2 .ensures in
-    cc (key-stored (unitsOf (a .text .now)) (a .units .now) (omega arith))
+returns-2 c = key-stored _ _ (c .before .before .put-text2 .ensures) (omega arith)
 
 pub key-fair-spec : {M : Type 1} → statement M
 key-fair-spec =

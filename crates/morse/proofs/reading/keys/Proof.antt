@@ -2,16 +2,21 @@
 use mathlib.Core.Path.{sym, _∙_}
 use mathlib.Core.Bool.{false≢true}
 use mathlib.Core.Logic.{⊎-elim}
-use Prim.Native.Nat.{_-_}
+use mathlib.Core.List.{List}
+use Prim.Native.Nat.{ℕ, _-_}
 use native.Mathlib.Omega.{arith}
 use lib.ListN.{replicate}
 use borrow.Author.Needs.{needs}
 use Rattle.morse.specs.Units.{unitsOf}
 use Rattle.morse.proofs.TextsLaws.{fair}
-use Rattle.morse.proofs.UnitsLaws.{units-most}
+use Rattle.morse.proofs.UnitsLaws.{mostUnits, units-most}
 use Rattle.morse.proofs.ReadingLaws.{front}
 use Rattle.morse.proofs.reading.keys.Statement.{statement}
 use Rattle.morse.proofs.reading.keys.Tie as tie
+
+-- the room of the units, before they are stored
+abbrev blank : List ℕ
+blank = replicate mostUnits 0
 
 fault-of-requires : tie.Need-fault-of-requires
 fault-of-requires c κs = search needs
@@ -22,14 +27,19 @@ enum-told c = search needs
 returns : tie.Need-returns
 returns c = (
   λ e. absurd (false≢true e),
-  λ k. ⊎-elim (λ m. absurd (omega arith)) (λ m. ⊎-elim (λ m. absurd (omega arith)) (λ m. absurd (omega arith)) m) (rw (c .before .fault-of .ensures ∙ k .passes) at (c .match .keys2)),
+  λ k.
+      ⊎-elim
+      (λ m. absurd (omega arith))
+      (⊎-elim (λ m. absurd (omega arith)) (λ m. absurd (omega arith)))
+      (rw (c .before .fault-of .ensures ∙ k .passes) at (c .match .keys2)),
 )
 
 slice-aggregate-put-text : tie.Need-slice-aggregate-put-text
 slice-aggregate-put-text c = search needs
 
 put-text-requires : tie.Need-put-text-requires
-put-text-requires c κs = fair _ (sym (c .before .before .before .fault-of .ensures) ∙ c .before .enum-told .given .1) .short
+put-text-requires c κs =
+    fair _ (sym (c .before .before .before .fault-of .ensures) ∙ c .before .enum-told .given .1) .short
 
 sub-same : tie.Need-sub-same
 sub-same c = search needs
@@ -39,8 +49,9 @@ part-same-start c = search needs
 
 part-same-end : tie.Need-part-same-end
 part-same-end c =
-    let t = c .before .before .before .before .before .before .before .before .before .args .text .now in
-    let f = fair t (sym (c .before .before .before .before .before .before .fault-of .ensures) ∙ c .before .before .before .before .enum-told .given .1) in
+    let passed = c .before .before .before .before in
+    let t = passed .before .before .before .before .before .args .text .now in
+    let f = fair t (sym (passed .before .before .fault-of .ensures) ∙ passed .enum-told .given .1) in
     omega (arith, units-most t)
 
 same-requires : tie.Need-same-requires
@@ -48,11 +59,13 @@ same-requires c κs = search needs
 
 returns-2 : tie.Need-returns-2
 returns-2 c =
-    let t = c .before .before .before .before .before .before .before .before .before .before .before .args .text .now in
-    let passes = sym (c .before .before .before .before .before .before .before .before .fault-of .ensures) ∙ c .before .before .before .before .before .before .enum-told .given .1 in
+    let passed = c .before .before .before .before .before .before in
+    let t = passed .before .before .before .before .before .args .text .now in
+    let passes = sym (passed .before .before .fault-of .ensures) ∙ passed .enum-told .given .1 in
     let f = fair t passes in
     let g = c .before .before .before .before .put-text in
-    let again = front {n = g .result - 0} (unitsOf t) (replicate 1408 0) (omega arith) (g .ensures .1) (omega (arith, units-most t)) in (
+    let most = units-most t in
+    let again = front {n = g .result - 0} (unitsOf t) blank (omega arith) (g .ensures .1) (omega arith) in (
       λ e. record { passes = passes; same = sym again ∙ c .same .ensures .0 e },
       λ k. c .same .ensures .1 (again ∙ k .same),
     )

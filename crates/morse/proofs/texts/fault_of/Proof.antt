@@ -19,14 +19,17 @@ returns-2 : tie.Need-returns-2
 unfolding faultOf
 returns-2 c =
     let t = c .before .before .before .before .before .args .text .now in
-    let k : allKnown t ≡ false = sym (ap (λ s. s .known) (c .before .before .look .ensures)) ∙ not-true _ (c .if2 .taken) in
+    let seen = c .before .before .look in
+    let k : allKnown t ≡ false = sym (ap (λ s. s .known) (seen .ensures)) ∙ not-true _ (c .if2 .taken) in
     simp (le-ltb _ _ (c .before .before .before .if1 .left), k)
 
 returns-3 : tie.Need-returns-3
 returns-3 c =
     let seen = c .before .before .before .look in
     let t = c .before .before .before .before .before .before .args .text .now in
-    fault-spacing t (seen .result) (seen .ensures) (c .before .before .before .before .if1 .left) (not-false _ (c .before .if2 .left)) false (empty-spaced t (c .if3 .taken))
+    let short = c .before .before .before .before .if1 .left in
+    let known = not-false _ (c .before .if2 .left) in
+    fault-spacing t (seen .result) (seen .ensures) short known false (empty-spaced t (c .if3 .taken))
 
 shared-slice-read-if4 : tie.Need-shared-slice-read-if4
 shared-slice-read-if4 c = search needs
@@ -39,13 +42,17 @@ shared-slice-read-if4-2 c = search needs
 
 returns-4 : tie.Need-returns-4
 returns-4 c =
-    let seen = c .before .before .before .before .before .before .before .look in
-    fault-seen _ (seen .result) (seen .ensures) (c .before .before .before .before .before .before .before .before .if1 .left) (not-false _ (c .before .before .before .before .before .if2 .left)) true (c .if4 .taken)
+    let asked = c .before .before .before .before .before in
+    let seen = asked .before .before .look in
+    let short = asked .before .before .before .if1 .left in
+    fault-seen _ (seen .result) (seen .ensures) short (not-false _ (asked .if2 .left)) true (c .if4 .taken)
 
 returns-5 : tie.Need-returns-5
 returns-5 c =
-    let seen = c .before .before .before .before .before .before .before .look in
-    fault-seen _ (seen .result) (seen .ensures) (c .before .before .before .before .before .before .before .before .if1 .left) (not-false _ (c .before .before .before .before .before .if2 .left)) false (c .if4 .left)
+    let asked = c .before .before .before .before .before in
+    let seen = asked .before .before .look in
+    let short = asked .before .before .before .if1 .left in
+    fault-seen _ (seen .result) (seen .ensures) short (not-false _ (asked .if2 .left)) false (c .if4 .left)
 
 pub fault-of-spec : {M : Type 1} → statement M
 fault-of-spec =

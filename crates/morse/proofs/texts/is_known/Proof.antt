@@ -12,7 +12,9 @@ sign-of-requires : tie.Need-sign-of-requires
 sign-of-requires c κs = search needs
 
 returns : tie.Need-returns
-returns c = ap (λ b. isSpace (c .before .before .args .c) || b) (signed-len (c .before .sign-of .result) ∙ ap signed (c .before .sign-of .ensures))
+returns c =
+    let sign = c .before .sign-of in
+    ap (λ b. isSpace (c .before .before .args .c) || b) (signed-len (sign .result) ∙ ap signed (sign .ensures))
 
 pub is-known-spec : {M : Type 1} → statement M
 is-known-spec = tie.close (tie.spec sign-of-requires returns)

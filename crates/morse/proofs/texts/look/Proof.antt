@@ -1,4 +1,5 @@
--- `morse::texts::look` meets its contract: what is found so far, with what is left of the text, makes what the whole text has.
+-- `morse::texts::look` meets its contract: what is found so far, with what is left of the text, makes what the whole
+-- text has.
 use mathlib.Core.Path.{_≡_, sym, ap, _∙_}
 use mathlib.Core.Bool.{_&&_, _||_, and-assoc, or-assoc, and-true, or-false}
 use mathlib.Core.List.{[]}
@@ -40,10 +41,11 @@ loop-again : tie.Need-loop-again Inv-loop μ-loop
 loop-again c =
     let l = c .before .before .before .loop in
     let text = c .before .before .before .before .before .args .text .now in
-    let b = getD text (l .i) 0 in (
+    let b = getD text (l .i) 0 in
+    let rest = drop (l .i + 1) text in (
       search needs,
-      cc (and-assoc (l .known) (Texts.known b) (allKnown (drop (l .i + 1) text)), known-step text (l .i) (omega arith)),
-      or-assoc (l .doubled) (isSpace (l .before) && isSpace b) (doubledAfter b (drop (l .i + 1) text))
+      cc (and-assoc (l .known) (Texts.known b) (allKnown rest), known-step text (l .i) (omega arith)),
+      or-assoc (l .doubled) (isSpace (l .before) && isSpace b) (doubledAfter b rest)
           ∙ ap (λ r. l .doubled || r) (sym (doubled-step text (l .i) (omega arith) (l .before)))
           ∙ l .inv .2,
     )
@@ -54,7 +56,8 @@ returns c =
     let text = c .before .before .before .args .text .now in
     let e : drop (l .i) text ≡ [] = drop-of-length-le _ {i = l .i} (omega arith) in
     let k : l .known ≡ allKnown text = sym (and-true (l .known)) ∙ rw e at (l .inv .1) in
-    let d : l .doubled ≡ Texts.doubled text = sym (or-false (l .doubled)) ∙ ap (λ r. l .doubled || r) (sym (doubled-end (l .before))) ∙ rw e at (l .inv .2) in
+    let none = ap (λ r. l .doubled || r) (sym (doubled-end (l .before))) in
+    let d : l .doubled ≡ Texts.doubled text = sym (or-false (l .doubled)) ∙ none ∙ rw e at (l .inv .2) in
     cc
 
 pub look-spec : {M : Type 1} → statement M

@@ -1,5 +1,5 @@
--- `morse::units::put_run` meets its contract: what is left to store, put into the room as it is, makes what all of it makes of the room
--- at entry.
+-- `morse::units::put_run` meets its contract: what is left to store, put into the room as it is, makes what all of it
+-- makes of the room at entry.
 use mathlib.Core.Path.{_≡_, refl}
 use Prim.Native.Nat.{_+_, _-_, _≤_}
 use native.Mathlib.Omega.{arith}

@@ -1,4 +1,5 @@
--- `morse::units::put_sign` meets its contract: the marks that are left, put into the room as it is, make what all of them make of the room at entry.
+-- `morse::units::put_sign` meets its contract: the marks that are left, put into the room as it is, make what all of
+-- them make of the room at entry.
 use mathlib.Core.Path.{_≡_}
 use Prim.Native.Nat.{_+_}
 use native.Mathlib.Omega.{arith}

@@ -1,4 +1,5 @@
--- `morse::units::put_text` meets its contract: the units of what is left of the text, put into the room as it is, make what all of them make of the room at entry.
+-- `morse::units::put_text` meets its contract: the units of what is left of the text, put into the room as it is, make
+-- what all of them make of the room at entry.
 use mathlib.Core.Path.{_≡_, refl, ap}
 use Prim.Native.Nat.{_+_, _-_, _≤_}
 use native.Mathlib.Omega.{arith}
@@ -34,7 +35,12 @@ put-sign-requires : tie.Need-put-sign-requires Inv-loop μ-loop
 put-sign-requires c κs =
     let l = c .before .before .before .before .loop in
     let a = c .before .before .before .before .before .before .before .args in
-    omega (arith, length-text (a .text .now) (l .i) (l .gap) (omega arith), ap (λ ms. length (signUnits (l .gap) ms)) (c .sign-of .ensures), units-after-most (a .text .now) 0)
+    omega (
+      arith,
+      length-text (a .text .now) (l .i) (l .gap) (omega arith),
+      ap (λ ms. length (signUnits (l .gap) ms)) (c .sign-of .ensures),
+      units-after-most (a .text .now) 0,
+    )
 
 gap-after-requires : tie.Need-gap-after-requires Inv-loop μ-loop
 gap-after-requires c κs = search needs
@@ -66,8 +72,10 @@ same-length c = search needs
 returns : tie.Need-returns Inv-loop μ-loop
 unfolding unitsOf
 returns c =
-    let e : drop (c .before .loop .i) (c .before .before .before .before .args .text .now) ≡ [] = drop-of-length-le _ {i = c .before .loop .i} (omega arith) in
-    (omega (arith, rw e at (c .before .loop .inv .1)), rw e at (c .before .loop .inv .3))
+    let l = c .before .loop in
+    let t = c .before .before .before .before .args .text .now in
+    let e : drop (l .i) t ≡ [] = drop-of-length-le _ {i = l .i} (omega arith) in
+    (omega (arith, rw e at (l .inv .1)), rw e at (l .inv .3))
 
 pub put-text-spec : {M : Type 1} → statement M
 put-text-spec =
