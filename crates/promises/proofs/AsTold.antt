@@ -6,50 +6,53 @@ use mathlib.Core.Bool.{Bool, true, false, not, true≢false}
 use mathlib.Core.List.{List, [], _∷_, _++_}
 use lib.Dec.{T}
 use Rattle.modules.specs.Power.{isOn}
+use Rattle.modules.specs.Groups.{isMission, moduleCount}
 use Rattle.supervisor.specs.Fresh.{freshState}
-use Rattle.supervisor.specs.Tick.{ticked, controlled, beaconStage}
+use Rattle.supervisor.specs.Tick.{ticked, beforeModules}
+use Rattle.supervisor.specs.Due.{beaconStage}
+use Rattle.supervisor.specs.History.{Call, called, after, doneTick}
+use Rattle.supervisor.specs.State.{moduleAt, inDeployWait}
 use Rattle.supervisor.specs.declared.state.State.{State}
-use Rattle.promises.specs.History.{Call, called, after, doneTick, moduleAt, isMission, inDeployWait}
+use Rattle.supervisor.proofs.ActLaws.{watch-still}
+use Rattle.supervisor.proofs.BeforeModulesLaws.{before-eight}
+use Rattle.supervisor.proofs.FreshLaws.{fresh-eight, fresh-requested, fresh-off}
+use Rattle.supervisor.proofs.HistoryLaws.{Comes, stopped, ticking, other, comes, called-eight, after-eight}
+use Rattle.supervisor.proofs.ModuleLaws.{Eight, mission-low}
+use Rattle.supervisor.proofs.SwitchLaws.{act-power, on-requested}
+use Rattle.supervisor.proofs.TickLaws.{Ticks, waits, runs, ticks, ticked-flies}
 use Rattle.promises.specs.AsTold.{AsTold, said, lastWord}
-use Rattle.promises.proofs.TickLaws.{Ticks, waits, runs, ticks}
-use Rattle.promises.proofs.ActLaws.{watch-still}
-use Rattle.promises.proofs.Calls.{Comes, stopped, second, other, comes}
-use Rattle.promises.proofs.Deployment.{ticked-flies}
-use Rattle.promises.proofs.ModuleLaws.{Eight, mission-low, controlled-eight}
-use Rattle.promises.proofs.FreshLaws.{fresh-eight, fresh-requested, fresh-off}
-use Rattle.promises.proofs.Powers.{called-eight, after-eight, act-power, on-requested}
 use Rattle.promises.proofs.Requests.{called-said}
 
 -- the requests of a history
 after-said :
-    (mission : Bool) (i : ℕ) → i < 8 → isMission i ≡ mission → (cs : List Call) (s : State) (word : Bool) → Eight s → moduleAt i s .requested ≡ word →
+    (mission : Bool) (i : ℕ) → i < moduleCount → isMission i ≡ mission → (cs : List Call) (s : State) (word : Bool) → Eight s → moduleAt i s .requested ≡ word →
     moduleAt i (after s cs) .requested ≡ lastWord mission i word s cs
 after-said mission i low e [] s word n h = h
 after-said mission i low e (c ∷ cs) s word n h =
-    after-said mission i low e cs (called s c .state) (said mission i s c word) (called-eight s c n) (called-said i low mission e s n c ∙ ap (said mission i s c) h)
+    after-said mission i low e cs (called s c .result .state) (said mission i s c word) (called-eight s c n) (called-said i low mission e s n c ∙ ap (said mission i s c) h)
 
 fresh-said :
-    (mission : Bool) (i : ℕ) → i < 8 → isMission i ≡ mission → (cs : List Call) →
+    (mission : Bool) (i : ℕ) → i < moduleCount → isMission i ≡ mission → (cs : List Call) →
     moduleAt i (after freshState cs) .requested ≡ lastWord mission i (not mission) freshState cs
 fresh-said mission i low e cs = after-said mission i low e cs freshState (not mission) fresh-eight (fresh-requested i low ∙ ap not e)
 
-module _ (i : ℕ) (low : i < 8) where
+module _ (i : ℕ) (low : i < moduleCount) where
   -- in DEPLOY_WAIT the module is off
   abbrev Dark : State → Type 0
   Dark s = inDeployWait s ≡ true → isOn (moduleAt i s .power) ≡ false
 
   tick-dark : (shorts : ℕ) (s : State) → Dark s → Ticks shorts s → Dark (ticked shorts s .state)
   tick-dark shorts s dark (waits phase e w) h = rw w (dark (rw e))
-  tick-dark shorts s dark (runs e w) h = absurd (true≢false (sym h ∙ ticked-flies shorts s e (runs e w)))
+  tick-dark shorts s dark (runs e w) h = absurd (true≢false (sym h ∙ ticked-flies shorts s e))
 
-  called-dark : (s : State) (c : Call) → Eight s → Dark s → Comes s c → Dark (called s c .state)
-  called-dark s c n dark (stopped answer w) = rw (w .left) dark
-  called-dark s c n dark (second shorts w) = rw (w .left) (tick-dark shorts s dark (ticks shorts s))
-  called-dark s c n dark (other frame e w) = rw (w .left, watch-still frame (w .fits) e s, act-power s n i low frame (w .fits) e) dark
+  called-dark : (s : State) (c : Call) → Eight s → Dark s → Comes s c → Dark (called s c .result .state)
+  called-dark s c n dark (stopped answer w) = rw (w .leaves) dark
+  called-dark s c n dark (ticking shorts w) = rw (w .leaves) (tick-dark shorts s dark (ticks shorts s))
+  called-dark s c n dark (other f e w) = rw (w .leaves, watch-still f (w .fits) e s, act-power s n i low f (w .fits) e) dark
 
   after-dark : (cs : List Call) (s : State) → Eight s → Dark s → Dark (after s cs)
   after-dark [] s n dark = dark
-  after-dark (c ∷ cs) s n dark = after-dark cs (called s c .state) (called-eight s c n) (called-dark s c n dark (comes s c))
+  after-dark (c ∷ cs) s n dark = after-dark cs (called s c .result .state) (called-eight s c n) (called-dark s c n dark (comes s c))
 
   -- a module that is on after a tick is requested
   tick-asked :
@@ -57,24 +60,24 @@ module _ (i : ℕ) (low : i < 8) where
       T (moduleAt i (ticked shorts s .state) .requested)
   unfolding beaconStage
   tick-asked shorts s n dark (waits phase e w) t = absurd (rw (dark (rw e)) at (rw w at t))
-  tick-asked shorts s n dark (runs e w) t = rw w (on-requested (controlled s) (controlled-eight s n) i low shorts (rw w at t))
+  tick-asked shorts s n dark (runs e w) t = rw w (on-requested (beforeModules s) (before-eight s n) i low shorts (rw w at t))
 
   called-asked :
-      (s : State) (c : Call) → Eight s → Dark s → Comes s c → T (doneTick s c) → T (isOn (moduleAt i (called s c .state) .power)) →
-      T (moduleAt i (called s c .state) .requested)
+      (s : State) (c : Call) → Eight s → Dark s → Comes s c → T (doneTick s c) → T (isOn (moduleAt i (called s c .result .state) .power)) →
+      T (moduleAt i (called s c .result .state) .requested)
   called-asked s c n dark (stopped answer w) d t = absurd (rw (w .tick) at d)
-  called-asked s c n dark (second shorts w) d t = rw (w .left) (tick-asked shorts s n dark (ticks shorts s) (rw (w .left) at t))
-  called-asked s c n dark (other frame e w) d t = absurd (rw (w .tick, e) at d)
+  called-asked s c n dark (ticking shorts w) d t = rw (w .leaves) (tick-asked shorts s n dark (ticks shorts s) (rw (w .leaves) at t))
+  called-asked s c n dark (other f e w) d t = absurd (rw (w .tick, e) at d)
 
-after-append : (cs : List Call) (c : Call) (s : State) → after s (cs ++ c ∷ []) ≡ called (after s cs) c .state
+after-append : (cs : List Call) (c : Call) (s : State) → after s (cs ++ c ∷ []) ≡ called (after s cs) c .result .state
 after-append [] c s = refl
-after-append (d ∷ cs) c s = after-append cs c (called s d .state)
+after-append (d ∷ cs) c s = after-append cs c (called s d .result .state)
 
 asked-for :
     (i : ℕ) → isMission i ≡ true → (cs : List Call) (c : Call) → T (doneTick (after freshState cs) c) →
-    T (isOn (moduleAt i (called (after freshState cs) c .state) .power)) → T (lastWord true i false freshState (cs ++ c ∷ []))
+    T (isOn (moduleAt i (called (after freshState cs) c .result .state) .power)) → T (lastWord true i false freshState (cs ++ c ∷ []))
 asked-for i m cs c d t =
-    let low : i < 8 = mission-low i m in
+    let low : i < moduleCount = mission-low i m in
     rw (← fresh-said true i low m (cs ++ c ∷ []), after-append cs c freshState)
     (called-asked i low (after freshState cs) c (after-eight cs freshState fresh-eight) (after-dark i low cs freshState fresh-eight (λ h. fresh-off i low)) (comes (after freshState cs) c) d t)
 

@@ -6,8 +6,8 @@ use mathlib.Core.List.{List}
 use lib.Dec.{T, ltb}
 use lib.ListN.{length}
 use Rattle.basics.specs.Choice.{within}
+use Rattle.basics.specs.Outcome.{Outcome}
 use Rattle.basics.proofs.ChoiceLaws.{either}
-use Rattle.morse.specs.Answers.{Outcome}
 use Rattle.supervisor.specs.Range.{inRange}
 use Rattle.supervisor.specs.declared.state.State.{State}
 use Rattle.beacon.specs.Text.{textOf}
@@ -18,7 +18,7 @@ use Rattle.promises.specs.Refusals.{Unwritten}
 
 module _ (room : List ℕ) where
   abbrev Keeps : Outcome Written → Type 0
-  Keeps left = T (within 1 14 (writtenReply (left .answer) .number)) → Unwritten (writtenReply (left .answer)) room (left .room)
+  Keeps after = T (within 1 14 (writtenReply (after .result) .number)) → Unwritten (writtenReply (after .result)) room (after .room)
 
   pub beacon-keeps : (form : Form) (s : State) → Keeps (beaconOf form s room)
   unfolding beaconOf

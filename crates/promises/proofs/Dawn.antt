@@ -10,26 +10,27 @@ use borrow.Author.Tests.{eqb-true, eqb-false, ne-eqb, ltb-true}
 use Rattle.basics.specs.Choice.{if_then_else_, within}
 use Rattle.basics.proofs.ChoiceLaws.{is-true, within-low, within-high}
 use Rattle.frames.specs.Answer.{answerNumber}
-use Rattle.supervisor.specs.Range.{inRange}
 use Rattle.frames.specs.Serial.{serialCount, staleFrom, distance, classOf, lastOf}
-use Rattle.frames.specs.Frame.{readFrame}
-use Rattle.supervisor.specs.Act.{actOf}
-use Rattle.supervisor.specs.Tick.{ticked}
-use Rattle.frames.specs.declared.serial.Origin.{Origin}
+use Rattle.frames.specs.About.{serialFrom, about}
+use Rattle.frames.specs.Reading.{readFrame}
+use Rattle.frames.specs.declared.sender.Origin.{Origin}
 use Rattle.frames.specs.declared.serial.Class.{Class}
 use Rattle.frames.specs.declared.serial.Class.the-variants.{Repeat, Fresh, Stale}
 use Rattle.frames.specs.declared.frame.Frame.{Frame}
-use Rattle.frames.specs.declared.frame.Frame.the-variants.{Tick}
-use Rattle.frames.specs.declared.frame.Reading.the-variants.{Accepted}
-use Rattle.supervisor.specs.declared.act.Acted.{Acted}
+use Rattle.frames.specs.declared.reading.Reading.the-variants.{Accepted}
+use Rattle.frames.specs.declared.frame.Frame.the-variants as frame
+use Rattle.supervisor.specs.Range.{inRange}
+use Rattle.supervisor.specs.Act.{actOf}
+use Rattle.supervisor.specs.Tick.{ticked}
+use Rattle.supervisor.specs.History.{Call, called, answered, isTaken, after, aboutOf}
+use Rattle.supervisor.specs.State.{moduleAt}
+use Rattle.supervisor.specs.declared.acted.Acted.{Acted}
 use Rattle.supervisor.specs.declared.state.State.{State}
-use Rattle.promises.specs.History.{Call, called, answered, isTaken, after, bears, moduleAt}
+use Rattle.supervisor.proofs.CommandLaws.{Judged, act-answers}
+use Rattle.supervisor.proofs.HistoryLaws.{Works, Comes, stopped, ticking, other, comes, called-read, called-in-range, after-in-range}
+use Rattle.supervisor.proofs.SerialLaws.{View, foreign, own, view, judged-last, from}
 use Rattle.promises.specs.Serials.{verdict}
 use Rattle.promises.specs.Dawn.{Dawn, Late, NotTaken, stride, movedOn, memory}
-use Rattle.promises.proofs.DateLaws.{Dated, act-dates, ticked-dates}
-use Rattle.promises.proofs.TurnLaws.{Turn, none, own, turn, dated-last}
-use Rattle.promises.proofs.Calls.{Works, Comes, stopped, second, other, comes, called-read}
-use Rattle.promises.proofs.InRange.{called-in-range, after-in-range}
 use Rattle.promises.proofs.Serials.{read-verdict}
 use Rattle.promises.proofs.Refusals.{refusals}
 
@@ -70,57 +71,62 @@ not-taken n h =
     rw (ne-eqb n 0 (omega arith), ne-eqb n 10 (omega arith))
 
 module _ (origin : Origin) where
+  -- a tick is no command of any origin
+  tick-view : (shorts : ℕ) (s : State) → View origin (frame.Tick shorts) s (ticked shorts s)
+  unfolding actOf
+  tick-view shorts s = view origin (frame.Tick shorts) s (ticked shorts s) (act-answers (frame.Tick shorts) s)
+
   -- where an origin's last serial stands after a call, modulo 65,536
   abbrev Strides : State → Call → Type 0
   Strides s c =
-      lastOf origin (called s c .state .serials) % serialCount
-      ≡ (lastOf origin (s .serials) + stride (isTaken (answered s c)) (bears origin (readFrame (c .input))) (lastOf origin (s .serials))) % serialCount
+      lastOf origin (called s c .result .state .serials) % serialCount
+      ≡ (lastOf origin (s .serials) + stride (isTaken (answered s c)) (serialFrom origin (aboutOf c)) (lastOf origin (s .serials))) % serialCount
 
-  own-strides : (class : Class) (serial : ℕ) (s : State) (a : Acted) → classOf serial (lastOf origin (s .serials)) ≡ class → Dated class origin serial s a →
+  own-strides : (class : Class) (serial : ℕ) (s : State) (a : Acted) → classOf serial (lastOf origin (s .serials)) ≡ class → Judged class (from origin serial) s a →
       lastOf origin (a .state .serials) % serialCount ≡ (lastOf origin (s .serials) + stride (isTaken (answerNumber (a .answer))) (serial ∷ []) (lastOf origin (s .serials))) % serialCount
-  own-strides Repeat serial s a e d = rw (d .0) (omega (arith, dated-last origin Repeat serial s a d))
-  own-strides Stale serial s a e d = rw (d .0) (omega (arith, dated-last origin Stale serial s a d))
+  own-strides Repeat serial s a e d = rw (d .0) (omega (arith, judged-last origin Repeat serial s a d))
+  own-strides Stale serial s a e d = rw (d .0) (omega (arith, judged-last origin Stale serial s a d))
   own-strides Fresh serial s a e d =
       rw (is-true (isTaken (answerNumber (a .answer))) (d .taken))
-      (omega (arith, dated-last origin Fresh serial s a d, moved-on serial (lastOf origin (s .serials)) (fresh-ahead serial (lastOf origin (s .serials)) e .0)))
+      (omega (arith, judged-last origin Fresh serial s a d, moved-on serial (lastOf origin (s .serials)) (fresh-ahead serial (lastOf origin (s .serials)) e .0)))
 
-  turn-strides : (f : Frame) (s : State) (c : Call) (a : Acted) → Works s c f a → Turn origin f s a → Strides s c
-  turn-strides f s c a w (none b e) = rw (w .read, b, w .left, e) (omega arith)
-  turn-strides f s c a w (own serial b d) = rw (w .read, b, w .left) (own-strides (classOf serial (lastOf origin (s .serials))) serial s a refl d)
+  view-strides : (f : Frame) (s : State) (c : Call) (a : Acted) → Works s c f a → View origin f s a → Strides s c
+  view-strides f s c a w (foreign b e) = rw (w .read, b, w .leaves, e) (omega arith)
+  view-strides f s c a w (own serial b d) = rw (w .read, b, w .leaves) (own-strides (classOf serial (lastOf origin (s .serials))) serial s a refl d)
 
   strides : (s : State) (c : Call) → Comes s c → Strides s c
-  strides s c (stopped answer w) = rw (w .left, not-taken (answerNumber answer) (w .number), no-stride (bears origin (readFrame (c .input))) (lastOf origin (s .serials))) (omega arith)
-  strides s c (second shorts w) = turn-strides (Tick shorts) s c (ticked shorts s) w (turn origin (Tick shorts) s (ticked shorts s) (ticked-dates shorts s))
-  strides s c (other frame e w) = turn-strides frame s c (actOf frame s) w (turn origin frame s (actOf frame s) (act-dates frame s))
+  strides s c (stopped answer w) = rw (w .leaves, not-taken (answerNumber answer) (w .number), no-stride (serialFrom origin (aboutOf c)) (lastOf origin (s .serials))) (omega arith)
+  strides s c (ticking shorts w) = view-strides (frame.Tick shorts) s c (ticked shorts s) w (tick-view shorts s)
+  strides s c (other f e w) = view-strides f s c (actOf f s) w (view origin f s (actOf f s) (act-answers f s))
 
   -- after many calls
   after-strides : (cs : List Call) (s : State) → lastOf origin (after s cs .serials) % serialCount ≡ (lastOf origin (s .serials) + movedOn origin s cs) % serialCount
   after-strides [] s = omega arith
-  after-strides (c ∷ cs) s = omega (arith, after-strides cs (called s c .state), strides s c (comes s c))
+  after-strides (c ∷ cs) s = omega (arith, after-strides cs (called s c .result .state), strides s c (comes s c))
 
   -- a frame that was taken left its serial
   left-by :
-      (class : Class) (serial : ℕ) (s : State) (a : Acted) → T (isTaken (answerNumber (a .answer))) → Dated class origin serial s a →
+      (class : Class) (serial : ℕ) (s : State) (a : Acted) → T (isTaken (answerNumber (a .answer))) → Judged class (from origin serial) s a →
       lastOf origin (a .state .serials) ≡ serial
   left-by Repeat serial s a t d = absurd (rw (d .0) at t)
   left-by Stale serial s a t d = absurd (rw (d .0) at t)
-  left-by Fresh serial s a t d = dated-last origin Fresh serial s a d
+  left-by Fresh serial s a t d = judged-last origin Fresh serial s a d
 
-  turn-left :
-      (f : Frame) (s : State) (c : Call) (a : Acted) (serial : ℕ) → bears origin (readFrame (c .input)) ≡ serial ∷ [] → T (isTaken (answered s c)) →
-      Works s c f a → Turn origin f s a → lastOf origin (called s c .state .serials) ≡ serial
-  turn-left f s c a serial b t w (none z e) = let read : bears origin (Accepted f) ≡ serial ∷ [] = rw (w .read) at b in cc
-  turn-left f s c a serial b t w (own n z d) =
-      let read : bears origin (Accepted f) ≡ serial ∷ [] = rw (w .read) at b in
+  view-left :
+      (f : Frame) (s : State) (c : Call) (a : Acted) (serial : ℕ) → serialFrom origin (aboutOf c) ≡ serial ∷ [] → T (isTaken (answered s c)) →
+      Works s c f a → View origin f s a → lastOf origin (called s c .result .state .serials) ≡ serial
+  view-left f s c a serial b t w (foreign z e) = let read : serialFrom origin (about (Accepted f)) ≡ serial ∷ [] = rw (w .read) at b in cc
+  view-left f s c a serial b t w (own n z d) =
+      let read : serialFrom origin (about (Accepted f)) ≡ serial ∷ [] = rw (w .read) at b in
       let e : n ≡ serial = cc in
-      rw (w .left) (left-by (classOf n (lastOf origin (s .serials))) n s a (rw (w .left) at t) d ∙ e)
+      rw (w .leaves) (left-by (classOf n (lastOf origin (s .serials))) n s a (rw (w .leaves) at t) d ∙ e)
 
   taken-left :
-      (s : State) (c : Call) (serial : ℕ) → bears origin (readFrame (c .input)) ≡ serial ∷ [] → T (isTaken (answered s c)) → Comes s c →
-      T (inRange s) × (lastOf origin (called s c .state .serials) ≡ serial)
-  taken-left s c serial b t (stopped answer w) = absurd (rw (not-taken (answerNumber answer) (w .number)) at (rw (w .left) at t))
-  taken-left s c serial b t (second shorts w) = (w .valid, turn-left (Tick shorts) s c (ticked shorts s) serial b t w (turn origin (Tick shorts) s (ticked shorts s) (ticked-dates shorts s)))
-  taken-left s c serial b t (other frame e w) = (w .valid, turn-left frame s c (actOf frame s) serial b t w (turn origin frame s (actOf frame s) (act-dates frame s)))
+      (s : State) (c : Call) (serial : ℕ) → serialFrom origin (aboutOf c) ≡ serial ∷ [] → T (isTaken (answered s c)) → Comes s c →
+      T (inRange s) × (lastOf origin (called s c .result .state .serials) ≡ serial)
+  taken-left s c serial b t (stopped answer w) = absurd (rw (not-taken (answerNumber answer) (w .number)) at (rw (w .leaves) at t))
+  taken-left s c serial b t (ticking shorts w) = (w .valid, view-left (frame.Tick shorts) s c (ticked shorts s) serial b t w (tick-view shorts s))
+  taken-left s c serial b t (other f e w) = (w .valid, view-left f s c (actOf f s) serial b t w (view origin f s (actOf f s) (act-answers f s)))
 
 -- the verdict is not "neither": 8 or 9
 eight-or-nine : (n : ℕ) (r q : Bool) → eqb n 8 ≡ r → eqb n 9 ≡ q → ((if r then Repeat else if q then Stale else Fresh) ≡ Fresh → ⊥) → T (within 8 9 n)
@@ -130,18 +136,18 @@ eight-or-nine n false false e f h = absurd (h refl)
 
 late-not-taken :
     (origin : Origin) (s : State) (first : Call) (since : List Call) (late : Call) → Late origin s first since late →
-    NotTaken (after (called s first .state) since) late
+    NotTaken (after (called s first .result .state) since) late
 late-not-taken origin s first since late l =
-    let (valid, last) = taken-left origin s first (l .serial) (l .bearsSerial) (l .taken) (comes s first) in
-    let t : State = after (called s first .state) since in
-    let v : T (inRange t) = after-in-range since (called s first .state) (called-in-range s first valid) in
+    let (valid, last) = taken-left origin s first (l .serial) (l .firstSerial) (l .taken) (comes s first) in
+    let t : State = after (called s first .result .state) since in
+    let v : T (inRange t) = after-in-range since (called s first .result .state) (called-in-range s first valid) in
     let e : verdict (answered t late) ≡ classOf (l .old) (lastOf origin (t .serials)) =
-    rw (called-read t late v (l .room)) (read-verdict origin (l .old) (readFrame (late .input)) t (late .room) (l .bearsOld)) in
-    let m : lastOf origin (t .serials) % serialCount ≡ (l .serial + movedOn origin (called s first .state) since) % serialCount =
-    rw last at (after-strides origin since (called s first .state)) in
+    rw (called-read t late v (l .room)) (read-verdict origin (l .old) (readFrame (late .input)) t (late .room) (l .lateSerial)) in
+    let m : lastOf origin (t .serials) % serialCount ≡ (l .serial + movedOn origin (called s first .result .state) since) % serialCount =
+    rw last at (after-strides origin since (called s first .result .state)) in
     let old : T (within 8 9 (answered t late)) =
     eight-or-nine (answered t late) (eqb (answered t late) 8) (eqb (answered t late) 9) refl refl
-    (λ f. not-fresh (l .serial) (lastOf origin (t .serials)) (l .old) (l .k) (movedOn origin (called s first .state) since) m (l .behind) (l .soon)
+    (λ f. not-fresh (l .serial) (lastOf origin (t .serials)) (l .old) (l .k) (movedOn origin (called s first .result .state) since) m (l .behind) (l .soon)
     (fresh-ahead (l .old) (lastOf origin (t .serials)) (sym e ∙ f))) in
     record { answer = old; state = refusals .eightAndNine t late old .state }
 
@@ -149,5 +155,5 @@ pub dawn : Dawn
 dawn =
     record {
       old = late-not-taken;
-      off = λ origin number s first since late l off on. ap (moduleAt number) (late-not-taken origin s first since late l .state);
+      off = λ origin which s first since late l off on. ap (moduleAt which) (late-not-taken origin s first since late l .state);
     }

@@ -10,19 +10,21 @@ use Rattle.basics.specs.Choice.{if_then_else_}
 use Rattle.basics.proofs.ChoiceLaws.{and-left, either, within-low}
 use Rattle.supervisor.specs.Range.{inRange, watchInRange, phaseInRange, waitSeconds, settleSeconds}
 use Rattle.supervisor.specs.Fresh.{freshState}
-use Rattle.supervisor.specs.Tick.{ticked, phaseTicked, controlled, moduleStage, beaconStage}
+use Rattle.supervisor.specs.Tick.{ticked}
+use Rattle.supervisor.specs.Deploy.{phaseTicked}
+use Rattle.supervisor.specs.History.{Call, called, after, doneTick, doneTicks}
+use Rattle.supervisor.specs.State.{isDeployWait, inDeployWait}
 use Rattle.supervisor.specs.declared.state.Phase.{Phase}
 use Rattle.supervisor.specs.declared.state.Phase.the-variants.{Waiting, Settling}
 use Rattle.supervisor.specs.declared.state.Mode.{Mode}
 use Rattle.supervisor.specs.declared.state.Mode.the-variants.{DeployWait, Recovery, Safe}
 use Rattle.supervisor.specs.declared.state.State.{State}
-use Rattle.supervisor.proofs.TickLaws.{inRange-phase}
-use Rattle.promises.specs.History.{Call, called, after, doneTick, doneTicks, isDeployWait, inDeployWait}
+use Rattle.supervisor.proofs.ActLaws.{watch-still}
+use Rattle.supervisor.proofs.FreshLaws.{fresh-in-range}
+use Rattle.supervisor.proofs.HistoryLaws.{Comes, stopped, ticking, other, comes, after-in-range, after-keeps}
+use Rattle.supervisor.proofs.RangeLaws.{parts, phase-in-range}
+use Rattle.supervisor.proofs.TickLaws.{Ticks, waits, runs, ticks, ticked-flies}
 use Rattle.promises.specs.Deployment.{Deployment}
-use Rattle.promises.proofs.Calls.{Comes, stopped, second, other, comes}
-use Rattle.promises.proofs.TickLaws.{Ticks, waits, runs, ticks, Controls, level, upward, downward, controls}
-use Rattle.promises.proofs.ActLaws.{watch-still}
-use Rattle.promises.proofs.InRange.{parts, after-in-range, fresh-in-range}
 
 -- the seconds that are left of DEPLOY_WAIT
 secondsLeft : Mode → ℕ
@@ -53,41 +55,26 @@ phase-left antennas (Waiting waited) h =
     (omega (arith, ltb→lt)) (omega (arith, ltb→lt))
 phase-left antennas (Settling left) h = either (λ (m : Mode). secondsLeft m ≤ left - 1) (eqb (left - 1) 0) (omega arith) (omega arith)
 
--- a tick outside DEPLOY_WAIT stays outside
-controlled-flies : (s : State) → isDeployWait (s .watch .mode) ≡ false → Controls s → isDeployWait (controlled s .watch .mode) ≡ false
-controlled-flies s e (level count low w) = rw w e
-controlled-flies s e (upward m w) = rw w refl
-controlled-flies s e (downward m w) = rw w refl
-
-pub ticked-flies : (shorts : ℕ) (s : State) → isDeployWait (s .watch .mode) ≡ false → Ticks shorts s → isDeployWait (ticked shorts s .state .watch .mode) ≡ false
-unfolding beaconStage moduleStage
-ticked-flies shorts s e (waits phase m w) = absurd (true≢false (rw m at e))
-ticked-flies shorts s e (runs f w) = rw w (controlled-flies s e (controls s))
-
+-- a tick takes one off
 ticked-left : (shorts : ℕ) (s : State) → T (inRange s) → Ticks shorts s → secondsLeft (ticked shorts s .state .watch .mode) ≤ secondsLeft (s .watch .mode) - 1
 ticked-left shorts s h (waits phase e w) =
-    rw (w, e) (phase-left (s .antennas) phase (inRange-phase phase (s .watch .control) (s .watch .beacon) (rw e at (parts s h .watch))))
-ticked-left shorts s h (runs e w) = omega (arith, none-left (ticked shorts s .state .watch .mode) (ticked-flies shorts s e (runs e w)))
+    rw (w, e) (phase-left (s .antennas) phase (phase-in-range phase (s .watch .control) (s .watch .beacon) (rw e at (parts s h .watch))))
+ticked-left shorts s h (runs e w) = omega (arith, none-left (ticked shorts s .state .watch .mode) (ticked-flies shorts s e))
 
 -- a call takes off as many seconds as it is done ticks
-left-after : (s : State) (c : Call) → Comes s c → secondsLeft (called s c .state .watch .mode) ≤ secondsLeft (s .watch .mode) - (if doneTick s c then 1 else 0)
-left-after s c (stopped answer w) = rw (w .tick, w .left) (omega arith)
-left-after s c (second shorts w) = rw (w .tick, w .left) (ticked-left shorts s (w .valid) (ticks shorts s))
-left-after s c (other frame e w) = rw (w .tick, e, w .left, watch-still frame (w .fits) e s) (omega arith)
+left-after : (s : State) (c : Call) → Comes s c → secondsLeft (called s c .result .state .watch .mode) ≤ secondsLeft (s .watch .mode) - (if doneTick s c then 1 else 0)
+left-after s c (stopped answer w) = rw (w .tick, w .leaves) (omega arith)
+left-after s c (ticking shorts w) = rw (w .tick, w .leaves) (ticked-left shorts s (w .valid) (ticks shorts s))
+left-after s c (other f e w) = rw (w .tick, e, w .leaves, watch-still f (w .fits) e s) (omega arith)
 
 left-in-all : (cs : List Call) (s : State) → secondsLeft (after s cs .watch .mode) ≤ secondsLeft (s .watch .mode) - doneTicks s cs
 left-in-all [] s = omega arith
-left-in-all (c ∷ cs) s = omega (arith, left-in-all cs (called s c .state), left-after s c (comes s c))
+left-in-all (c ∷ cs) s = omega (arith, left-in-all cs (called s c .result .state), left-after s c (comes s c))
 
--- a call outside DEPLOY_WAIT stays outside
-stays-out : (s : State) (c : Call) → inDeployWait s ≡ false → Comes s c → inDeployWait (called s c .state) ≡ false
-stays-out s c h (stopped answer w) = rw (w .left) h
-stays-out s c h (second shorts w) = rw (w .left) (ticked-flies shorts s h (ticks shorts s))
-stays-out s c h (other frame e w) = rw (w .left, watch-still frame (w .fits) e s) h
-
+-- outside DEPLOY_WAIT every history stays outside
 pub stays-over : (s : State) (cs : List Call) → inDeployWait s ≡ false → inDeployWait (after s cs) ≡ false
-stays-over s [] h = h
-stays-over s (c ∷ cs) h = stays-over (called s c .state) cs (stays-out s c h (comes s c))
+stays-over s cs h =
+    after-keeps (λ t. inDeployWait t ≡ false) (λ shorts t v e. ticked-flies shorts t e) (λ f fits i t v e. rw (watch-still f fits i t) e) cs s h
 
 pub deployment : Deployment
 unfolding secondsLeft freshState

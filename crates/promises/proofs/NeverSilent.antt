@@ -7,14 +7,13 @@ use mathlib.Core.Bool.{Bool, true, false, _||_, true≢false}
 use mathlib.Core.List.{List, [], _∷_}
 use lib.Dec.{T}
 use Rattle.basics.proofs.ChoiceLaws.{is-true, holds}
-use Rattle.supervisor.specs.Range.{inRange}
+use Rattle.supervisor.specs.Range.{inRange, completeTicks}
+use Rattle.supervisor.specs.History.{Call, called, after, doneTick, doneTicks}
+use Rattle.supervisor.specs.State.{inDeployWait}
 use Rattle.supervisor.specs.declared.state.State.{State}
-use Rattle.supervisor.proofs.TickLaws.{beacon-low}
-use Rattle.promises.specs.History.{Call, called, after, doneTick, doneTicks, inDeployWait}
+use Rattle.supervisor.proofs.HistoryLaws.{Comes, stopped, ticking, other, comes, after-in-range}
+use Rattle.supervisor.proofs.RangeLaws.{counts-of}
 use Rattle.promises.specs.NeverSilent.{NeverSilent, beaconDue, someDue, SafeTicks, fiveMinutes}
-use Rattle.promises.proofs.Calls.{Comes, stopped, second, other, comes}
-use Rattle.promises.proofs.TickLaws.{in-flight}
-use Rattle.promises.proofs.InRange.{after-in-range}
 use Rattle.promises.proofs.Deployment.{stays-over}
 use Rattle.promises.proofs.BeaconLaws.{call-count, call-sixty}
 
@@ -26,20 +25,20 @@ neither false b e = (refl, e)
 silent-count : (cs : List Call) (s : State) → inDeployWait s ≡ false → someDue s cs ≡ false → after s cs .watch .beacon ≡ s .watch .beacon + doneTicks s cs
 silent-count [] s out h = omega arith
 silent-count (c ∷ cs) s out h =
-    let (here, later) = neither (beaconDue s c) (someDue (called s c .state) cs) h in
-    omega (arith, silent-count cs (called s c .state) (stays-over s (c ∷ []) out) later, call-count s c here out (comes s c))
+    let (here, later) = neither (beaconDue s c) (someDue (called s c .result .state) cs) h in
+    omega (arith, silent-count cs (called s c .result .state) (stays-over s (c ∷ []) out) later, call-count s c here out (comes s c))
 
-silent-sixty : (cs : List Call) (s : State) → SafeTicks s cs → someDue s cs ≡ false → after s cs .watch .beacon % 60 ≡ s .watch .beacon % 60 + doneTicks s cs
+silent-sixty : (cs : List Call) (s : State) → SafeTicks s cs → someDue s cs ≡ false → after s cs .watch .beacon % completeTicks ≡ s .watch .beacon % completeTicks + doneTicks s cs
 silent-sixty [] s safe h = omega arith
 silent-sixty (c ∷ cs) s safe h =
-    let (here, later) = neither (beaconDue s c) (someDue (called s c .state) cs) h in
-    omega (arith, silent-sixty cs (called s c .state) (safe .1) later, call-sixty s c here (safe .0) (comes s c))
+    let (here, later) = neither (beaconDue s c) (someDue (called s c .result .state) cs) h in
+    omega (arith, silent-sixty cs (called s c .result .state) (safe .1) later, call-sixty s c here (safe .0) (comes s c))
 
 -- a state out of range sees no done tick
-stuck : (s : State) (c : Call) → inRange s ≡ false → Comes s c → (doneTick s c ≡ false) × (called s c .state ≡ s)
-stuck s c e (stopped answer w) = (w .tick, rw (w .left))
-stuck s c e (second shorts w) = absurd (true≢false (sym (is-true (inRange s) (w .valid)) ∙ e))
-stuck s c e (other frame t w) = absurd (true≢false (sym (is-true (inRange s) (w .valid)) ∙ e))
+stuck : (s : State) (c : Call) → inRange s ≡ false → Comes s c → (doneTick s c ≡ false) × (called s c .result .state ≡ s)
+stuck s c e (stopped answer w) = (w .tick, rw (w .leaves))
+stuck s c e (ticking shorts w) = absurd (true≢false (sym (is-true (inRange s) (w .valid)) ∙ e))
+stuck s c e (other f t w) = absurd (true≢false (sym (is-true (inRange s) (w .valid)) ∙ e))
 
 no-ticks : (cs : List Call) (s : State) → inRange s ≡ false → doneTicks s cs ≡ 0
 no-ticks [] s e = refl
@@ -51,8 +50,8 @@ below-five-minutes : (cs : List Call) (s : State) (valid : Bool) → inRange s �
 below-five-minutes cs s false e out h = omega (arith, no-ticks cs s e)
 below-five-minutes cs s true e out h =
     let t : State = after s cs in
-    let valid : inRange t ≡ true = is-true (inRange t) (after-in-range cs s (holds (inRange s) e)) in
-    omega (arith, silent-count cs s out h, beacon-low t valid (in-flight (t .watch .mode) (stays-over s cs out)))
+    let valid : T (inRange t) = after-in-range cs s (holds (inRange s) e) in
+    omega (arith, silent-count cs s out h, counts-of t valid (stays-over s cs out) .beacon)
 
 -- what is not silent has a beacon due
 not-silent : (due : Bool) → (due ≡ false → ⊥) → T due
@@ -63,5 +62,5 @@ pub never-silent : NeverSilent
 never-silent =
     record {
       always = λ s cs out many. not-silent (someDue s cs) (λ h. omega (arith, below-five-minutes cs s (inRange s) refl out h));
-      inSafe = λ s cs safe many. not-silent (someDue s cs) (λ h. omega (arith, silent-sixty cs s safe h));
+      safe = λ s cs safe many. not-silent (someDue s cs) (λ h. omega (arith, silent-sixty cs s safe h));
     }

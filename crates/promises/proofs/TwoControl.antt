@@ -6,20 +6,21 @@ use mathlib.Core.Bool.{true, false}
 use lib.Dec.{T, eqb}
 use Rattle.basics.specs.Choice.{bit}
 use Rattle.basics.proofs.ChoiceLaws.{same-test}
+use Rattle.modules.specs.Groups.{coreFour, missionFour, isMission, moduleCount}
 use Rattle.modules.specs.declared.power.Module.{Module}
-use Rattle.supervisor.specs.State.{coreFour, missionFour, withControl}
+use Rattle.supervisor.specs.State.{withControl, isSafe, moduleAt}
 use Rattle.supervisor.specs.Range.{judgeTicks}
-use Rattle.supervisor.specs.Order.{inSafe}
-use Rattle.supervisor.specs.Tick.{controlled, crossed}
+use Rattle.supervisor.specs.Tick.{beforeModules}
+use Rattle.supervisor.specs.Control.{crossed, controlled}
+use Rattle.supervisor.specs.declared.control.Crossing.{Crossing}
+use Rattle.supervisor.specs.declared.control.Crossing.the-variants.{Upward, Downward}
 use Rattle.supervisor.specs.declared.state.Mode.{Mode}
 use Rattle.supervisor.specs.declared.state.Mode.the-variants.{Recovery, Safe}
 use Rattle.supervisor.specs.declared.state.Battery.{Battery}
 use Rattle.supervisor.specs.declared.state.State.{State}
-use Rattle.supervisor.specs.declared.tick.Crossing.{Crossing}
-use Rattle.supervisor.specs.declared.tick.Crossing.the-variants.{Upward, Downward}
-use Rattle.promises.specs.History.{moduleAt, isMission}
-use Rattle.promises.proofs.ModuleLaws.{Eight, crossed-eight, at-crossed, mission-low, core-or-mission}
-use Rattle.promises.proofs.TwoModes.{AtMost, equal, below, Cross, both-level, both-up, second-up, both-down, first-down, first-up, second-down, crosses}
+use Rattle.supervisor.proofs.ModuleLaws.{Eight, crossed-eight, at-crossed, mission-low, core-or-mission}
+use Rattle.promises.proofs.TwoModes.{AtMost, even, behind, Cross, both-level, both-up, second-up, both-down, first-down, first-up}
+use Rattle.promises.proofs.TwoModes.{second-down, crosses}
 
 -- the same thresholds; the second's tension may be higher
 abbrev pub Charged : Battery → Battery → Type 0
@@ -31,11 +32,11 @@ Shared a b = record { antennas : a .antennas ≡ b .antennas; battery : Charged 
 
 -- a mission module is requested on the first craft only in SAFE, and then on the second
 abbrev pub Asked : Mode → Module → Module → Type 0
-Asked mode m n = record { quiet : T (m .requested) → T (inSafe mode); grows : T (m .requested) → T (n .requested) }
+Asked mode m n = record { quiet : T (m .requested) → T (isSafe mode); grows : T (m .requested) → T (n .requested) }
 
 -- the modes in order, the control counts the same, and module i requested on the second if on the first
-abbrev pub Flight : ℕ → State → State → Type 0
-Flight i a b =
+abbrev pub Flown : ℕ → State → State → Type 0
+Flown i a b =
     record {
       modes : AtMost (a .watch .mode) (b .watch .mode);
       counts : a .watch .control ≡ b .watch .control;
@@ -44,11 +45,11 @@ Flight i a b =
       asked : Asked (a .watch .mode) (moduleAt i a) (moduleAt i b);
     }
 
-abbrev pub Sim : ℕ → State → State → Type 0
-Sim i a b = record { shared : Shared a b; flight : Flight i a b }
+abbrev pub Beside : ℕ → State → State → Type 0
+Beside i a b = record { shared : Shared a b; flown : Flown i a b }
 
 module _ (i : ℕ) (mission : isMission i ≡ true) where
-  low : i < 8
+  low : i < moduleCount
   low = mission-low i mission
 
   not-core : bit i coreFour ≡ false
@@ -69,70 +70,70 @@ module _ (i : ℕ) (mission : isMission i ≡ true) where
 
   module _ (a b : State) where
     -- control
-    crossed-sim :
-        (m n : Mode) (x y : Crossing) → a .watch .mode ≡ m → b .watch .mode ≡ n → Cross m n x y → Shared a b → Flight i a b →
-        Sim i (crossed x (withControl 0 a)) (crossed y (withControl 0 b))
-    crossed-sim m n x y e f (both-level o) s h = record { shared = s; flight = record { modes = h .modes; counts = refl; eight = h .eight; eight′ = h .eight′; asked = h .asked } }
-    crossed-sim m n x y e f both-up s h =
+    crossed-beside :
+        (m n : Mode) (x y : Crossing) → a .watch .mode ≡ m → b .watch .mode ≡ n → Cross m n x y → Shared a b → Flown i a b →
+        Beside i (crossed x (withControl 0 a)) (crossed y (withControl 0 b))
+    crossed-beside m n x y e f (both-level o) s h = record { shared = s; flown = record { modes = h .modes; counts = refl; eight = h .eight; eight′ = h .eight′; asked = h .asked } }
+    crossed-beside m n x y e f both-up s h =
         record {
           shared = s;
-          flight = record {
-            modes = equal;
+          flown = record {
+            modes = even;
             counts = refl;
             eight = up-eight a (h .eight);
             eight′ = up-eight b (h .eight′);
             asked = record { quiet = λ t. tt; grows = λ t. rw (up-asked b (h .eight′)) (h .asked .grows (rw (up-asked a (h .eight)) at t)) };
           };
         }
-    crossed-sim m n x y e f second-up s h =
+    crossed-beside m n x y e f second-up s h =
         record {
           shared = s;
-          flight = record {
-            modes = rw e below;
+          flown = record {
+            modes = rw e behind;
             counts = refl;
             eight = h .eight;
             eight′ = up-eight b (h .eight′);
             asked = record { quiet = h .asked .quiet; grows = λ t. rw (up-asked b (h .eight′)) (h .asked .grows t) };
           };
         }
-    crossed-sim m n x y e f both-down s h =
+    crossed-beside m n x y e f both-down s h =
         record {
           shared = s;
-          flight = record {
-            modes = equal;
+          flown = record {
+            modes = even;
             counts = refl;
             eight = down-eight a (h .eight);
             eight′ = down-eight b (h .eight′);
             asked = record { quiet = λ t. absurd (rw (down-asked a (h .eight)) at t); grows = λ t. absurd (rw (down-asked a (h .eight)) at t) };
           };
         }
-    crossed-sim m n x y e f first-down s h =
+    crossed-beside m n x y e f first-down s h =
         record {
           shared = s;
-          flight = record {
-            modes = rw f below;
+          flown = record {
+            modes = rw f behind;
             counts = refl;
             eight = down-eight a (h .eight);
             eight′ = h .eight′;
             asked = record { quiet = λ t. absurd (rw (down-asked a (h .eight)) at t); grows = λ t. absurd (rw (down-asked a (h .eight)) at t) };
           };
         }
-    crossed-sim m n x y e f first-up s h =
+    crossed-beside m n x y e f first-up s h =
         record {
           shared = s;
-          flight = record {
-            modes = rw f equal;
+          flown = record {
+            modes = rw f even;
             counts = refl;
             eight = up-eight a (h .eight);
             eight′ = h .eight′;
             asked = record { quiet = λ t. tt; grows = λ t. h .asked .grows (rw (up-asked a (h .eight)) at t) };
           };
         }
-    crossed-sim m n x y e f second-down s h =
+    crossed-beside m n x y e f second-down s h =
         record {
           shared = s;
-          flight = record {
-            modes = rw e equal;
+          flown = record {
+            modes = rw e even;
             counts = refl;
             eight = h .eight;
             eight′ = down-eight b (h .eight′);
@@ -140,15 +141,20 @@ module _ (i : ℕ) (mission : isMission i ≡ true) where
           };
         }
 
-    pub controlled-sim : Sim i a b → Sim i (controlled a) (controlled b)
+    controlled-beside : Beside i a b → Beside i (controlled a) (controlled b)
     unfolding controlled
-    controlled-sim h =
+    controlled-beside h =
         let battery : Charged (a .battery) (b .battery) = h .shared .battery in
-        let flight : Flight i a b = h .flight in
-        same-test (Sim i) _ _ (ap (λ (n : ℕ). eqb (n + 1) judgeTicks) (flight .counts))
-        (crossed-sim (a .watch .mode) (b .watch .mode) _ _ refl refl
-        (crosses (flight .modes) (a .battery) (b .battery) (battery .tension) (battery .ascend) (battery .descend) (battery .apart)) (h .shared) flight)
+        let flown : Flown i a b = h .flown in
+        same-test (Beside i) _ _ (ap (λ (n : ℕ). eqb (n + 1) judgeTicks) (flown .counts))
+        (crossed-beside (a .watch .mode) (b .watch .mode) _ _ refl refl
+        (crosses (flown .modes) (a .battery) (b .battery) (battery .tension) (battery .ascend) (battery .descend) (battery .apart)) (h .shared) flown)
         (record {
           shared = h .shared;
-          flight = record { modes = flight .modes; counts = ap (λ (n : ℕ). n + 1) (flight .counts); eight = flight .eight; eight′ = flight .eight′; asked = flight .asked };
+          flown = record { modes = flown .modes; counts = ap (λ (n : ℕ). n + 1) (flown .counts); eight = flown .eight; eight′ = flown .eight′; asked = flown .asked };
         })
+
+    -- so it is kept by what the module stage finds
+    pub before-beside : Beside i a b → Beside i (beforeModules a) (beforeModules b)
+    unfolding beforeModules
+    before-beside h = controlled-beside h

@@ -8,24 +8,28 @@ use mathlib.Core.List.{List, [], _∷_}
 use lib.ListN.{take}
 use lib.Dec.{T}
 use Rattle.basics.specs.Choice.{word}
+use Rattle.basics.specs.Each.{each, eachFrom}
+use Rattle.modules.specs.Groups.{isMission}
+use Rattle.modules.specs.Stage.{requestedBy}
+use Rattle.frames.specs.Reading.{readFrame}
+use Rattle.frames.specs.About.{about}
+use Rattle.frames.specs.declared.reading.Reading.{Reading}
+use Rattle.frames.specs.declared.reading.Reading.the-variants.{Refused, Accepted}
+use Rattle.frames.proofs.ReadingLaws.{Sound, read-sound, battery-read}
 use Rattle.supervisor.specs.Range.{inRange}
 use Rattle.supervisor.specs.Fresh.{freshState}
-use Rattle.frames.specs.Frame.{readFrame}
 use Rattle.supervisor.specs.Act.{actOf}
 use Rattle.supervisor.specs.Step.{stepRead}
-use Rattle.frames.specs.declared.frame.Reading.{Reading}
-use Rattle.frames.specs.declared.frame.Reading.the-variants.{Refused, Accepted}
+use Rattle.supervisor.specs.History.{Call, called, after, HasRoom, Roomy, aboutOf}
+use Rattle.supervisor.specs.State.{moduleAt}
 use Rattle.supervisor.specs.declared.state.State.{State}
-use Rattle.promises.specs.History.{Call, called, after, HasRoom, Roomy, moduleAt, isMission}
+use Rattle.supervisor.proofs.FreshLaws.{fresh-in-range, fresh-requested, fresh-sound}
+use Rattle.supervisor.proofs.HistoryLaws.{called-read, called-in-range}
+use Rattle.supervisor.proofs.ModuleLaws.{mission-low}
 use Rattle.promises.specs.TwoCraft.{TwoCraft, AsGood, same, higher, Paired, start, next, shorted, NeverShorted}
-use Rattle.promises.proofs.ReadLaws.{Sound, read-sound, battery-read}
-use Rattle.promises.proofs.Calls.{called-read}
-use Rattle.promises.proofs.InRange.{called-in-range, fresh-in-range}
-use Rattle.promises.proofs.ModuleLaws.{mission-low}
-use Rattle.promises.proofs.FreshLaws.{fresh-requested, fresh-sound}
-use Rattle.promises.proofs.TwoModes.{equal, number-at-most}
-use Rattle.promises.proofs.TwoControl.{Sim}
-use Rattle.promises.proofs.TwoFrames.{tension-sim, act-sim}
+use Rattle.promises.proofs.TwoModes.{even, number-at-most}
+use Rattle.promises.proofs.TwoControl.{Beside}
+use Rattle.promises.proofs.TwoFrames.{tension-beside, act-beside}
 use Rattle.promises.proofs.TwoPower.{Lit, act-lit}
 
 module _ (i : ℕ) (mission : isMission i ≡ true) where
@@ -33,62 +37,62 @@ module _ (i : ℕ) (mission : isMission i ≡ true) where
   Bright a b = Lit (moduleAt i a .power) (moduleAt i b .power)
 
   -- one reading, the same on both
-  reading-sim : (r : Reading) → Sound r → (room room′ : List ℕ) (a b : State) → Sim i a b → Sim i (stepRead r a room .state) (stepRead r b room′ .state)
-  reading-sim (Refused answer) sound room room′ a b h = h
-  reading-sim (Accepted f) sound room room′ a b h = act-sim i mission f sound a b h
+  reading-beside : (r : Reading) → Sound r → (room room′ : List ℕ) (a b : State) → Beside i a b → Beside i (stepRead r a room .result .state) (stepRead r b room′ .result .state)
+  reading-beside (Refused answer) sound room room′ a b h = h
+  reading-beside (Accepted f) sound room room′ a b h = act-beside i mission f sound a b h
 
   reading-lit :
-      (r : Reading) → Sound r → shorted i r ≡ false → (room room′ : List ℕ) (a b : State) → Sim i a b → Bright a b →
-      Bright (stepRead r a room .state) (stepRead r b room′ .state)
+      (r : Reading) → Sound r → shorted i (about r) ≡ false → (room room′ : List ℕ) (a b : State) → Beside i a b → Bright a b →
+      Bright (stepRead r a room .result .state) (stepRead r b room′ .result .state)
   reading-lit (Refused answer) sound none room room′ a b h l = l
   reading-lit (Accepted f) sound none room room′ a b h l = act-lit i mission f sound none a b h l
 
   -- two inputs, as good on the second
-  good-sim :
-      {x y : List ℕ} → AsGood x y → (room room′ : List ℕ) (a b : State) → Sim i a b →
-      Sim i (stepRead (readFrame x) a room .state) (stepRead (readFrame y) b room′ .state)
+  good-beside :
+      {x y : List ℕ} → AsGood x y → (room room′ : List ℕ) (a b : State) → Beside i a b →
+      Beside i (stepRead (readFrame x) a room .result .state) (stepRead (readFrame y) b room′ .result .state)
   unfolding actOf
-  good-sim (same {bytes = x}) room room′ a b h = reading-sim (readFrame x) (read-sound x) room room′ a b h
-  good-sim (higher high low high′ low′ r r′ more) room room′ a b h =
-      rw (battery-read high low r, battery-read high′ low′ r′) (tension-sim i mission (word high low) (word high′ low′) more a b h)
+  good-beside (same {bytes = x}) room room′ a b h = reading-beside (readFrame x) (read-sound x) room room′ a b h
+  good-beside (higher high low high′ low′ r r′ more) room room′ a b h =
+      rw (battery-read high low r, battery-read high′ low′ r′) (tension-beside i mission (word high low) (word high′ low′) more a b h)
 
   good-lit :
-      {x y : List ℕ} → AsGood x y → shorted i (readFrame x) ≡ false → (room room′ : List ℕ) (a b : State) → Sim i a b → Bright a b →
-      Bright (stepRead (readFrame x) a room .state) (stepRead (readFrame y) b room′ .state)
+      {x y : List ℕ} → AsGood x y → shorted i (about (readFrame x)) ≡ false → (room room′ : List ℕ) (a b : State) → Beside i a b → Bright a b →
+      Bright (stepRead (readFrame x) a room .result .state) (stepRead (readFrame y) b room′ .result .state)
   unfolding actOf
   good-lit (same {bytes = x}) none room room′ a b h l = reading-lit (readFrame x) (read-sound x) none room room′ a b h l
   good-lit (higher high low high′ low′ r r′ more) none room room′ a b h l = rw (battery-read high low r, battery-read high′ low′ r′) l
 
   -- one call on each, both with room
-  module _ (c d : Call) (room : HasRoom c) (room′ : HasRoom d) (good : AsGood (c .input) (d .input)) (a b : State) (valid : T (inRange a)) (valid′ : T (inRange b)) (h : Sim i a b) where
-    called-sim : Sim i (called a c .state) (called b d .state)
-    called-sim = rw (called-read a c valid room, called-read b d valid′ room′) (good-sim good (c .room) (d .room) a b h)
+  module _ (c d : Call) (room : HasRoom c) (room′ : HasRoom d) (good : AsGood (c .input) (d .input)) (a b : State) (valid : T (inRange a)) (valid′ : T (inRange b)) (h : Beside i a b) where
+    called-beside : Beside i (called a c .result .state) (called b d .result .state)
+    called-beside = rw (called-read a c valid room, called-read b d valid′ room′) (good-beside good (c .room) (d .room) a b h)
 
-    called-lit : shorted i (readFrame (c .input)) ≡ false → Bright a b → Bright (called a c .state) (called b d .state)
+    called-lit : shorted i (aboutOf c) ≡ false → Bright a b → Bright (called a c .result .state) (called b d .result .state)
     called-lit none l = rw (called-read a c valid room, called-read b d valid′ room′) (good-lit good none (c .room) (d .room) a b h l)
 
   -- all calls
-  after-sim : {cs ds : List Call} → Paired cs ds → Roomy cs → Roomy ds → (a b : State) → T (inRange a) → T (inRange b) → Sim i a b → Sim i (after a cs) (after b ds)
-  after-sim start r r′ a b v v′ h = h
-  after-sim (next {c = c} {d = d} good p) r r′ a b v v′ h =
-      after-sim p (r .1) (r′ .1) (called a c .state) (called b d .state) (called-in-range a c v) (called-in-range b d v′) (called-sim c d (r .0) (r′ .0) good a b v v′ h)
+  after-beside : {cs ds : List Call} → Paired cs ds → Roomy cs → Roomy ds → (a b : State) → T (inRange a) → T (inRange b) → Beside i a b → Beside i (after a cs) (after b ds)
+  after-beside start r r′ a b v v′ h = h
+  after-beside (next {c = c} {d = d} good p) r r′ a b v v′ h =
+      after-beside p (r .1) (r′ .1) (called a c .result .state) (called b d .result .state) (called-in-range a c v) (called-in-range b d v′) (called-beside c d (r .0) (r′ .0) good a b v v′ h)
 
   after-lit :
-      {cs ds : List Call} → Paired cs ds → Roomy cs → Roomy ds → NeverShorted i cs → (a b : State) → T (inRange a) → T (inRange b) → Sim i a b →
+      {cs ds : List Call} → Paired cs ds → Roomy cs → Roomy ds → NeverShorted i cs → (a b : State) → T (inRange a) → T (inRange b) → Beside i a b →
       Bright a b → Bright (after a cs) (after b ds)
   after-lit start r r′ never a b v v′ h l = l
   after-lit (next {c = c} {d = d} good p) r r′ never a b v v′ h l =
-      after-lit p (r .1) (r′ .1) (never .1) (called a c .state) (called b d .state) (called-in-range a c v) (called-in-range b d v′)
-      (called-sim c d (r .0) (r′ .0) good a b v v′ h) (called-lit c d (r .0) (r′ .0) good a b v v′ h (never .0) l)
+      after-lit p (r .1) (r′ .1) (never .1) (called a c .result .state) (called b d .result .state) (called-in-range a c v) (called-in-range b d v′)
+      (called-beside c d (r .0) (r′ .0) good a b v v′ h) (called-lit c d (r .0) (r′ .0) good a b v v′ h (never .0) l)
 
   -- the fresh start
-  fresh-sim : Sim i freshState freshState
-  unfolding freshState
-  fresh-sim =
+  fresh-beside : Beside i freshState freshState
+  unfolding freshState requestedBy each eachFrom
+  fresh-beside =
       let none : moduleAt i freshState .requested ≡ false = rw mission at (fresh-requested i (mission-low i mission)) in
       record {
         shared = record { antennas = refl; battery = record { tension = omega arith; ascend = refl; descend = refl; apart = omega arith }; serials = refl };
-        flight = record { modes = equal; counts = refl; eight = refl; eight′ = refl; asked = record { quiet = λ t. absurd (rw none at t); grows = λ t. t } };
+        flown = record { modes = even; counts = refl; eight = refl; eight′ = refl; asked = record { quiet = λ t. absurd (rw none at t); grows = λ t. t } };
       }
 
   fresh-lit : Bright freshState freshState
@@ -111,7 +115,7 @@ two-craft cs ds r r′ p n =
     let s : Roomy (take n cs) = take-roomy n cs r in
     let s′ : Roomy (take n ds) = take-roomy n ds r′ in
     record {
-      mode = number-at-most (after-sim 3 refl q s s′ freshState freshState fresh-in-range fresh-in-range (fresh-sim 3 refl) .flight .modes);
-      requested = λ i m. after-sim i m q s s′ freshState freshState fresh-in-range fresh-in-range (fresh-sim i m) .flight .asked .grows;
-      on = λ i m never. after-lit i m q s s′ never freshState freshState fresh-in-range fresh-in-range (fresh-sim i m) (fresh-lit i m) .lit;
+      mode = number-at-most (after-beside 3 refl q s s′ freshState freshState fresh-in-range fresh-in-range (fresh-beside 3 refl) .flown .modes);
+      requested = λ i m. after-beside i m q s s′ freshState freshState fresh-in-range fresh-in-range (fresh-beside i m) .flown .asked .grows;
+      on = λ i m never. after-lit i m q s s′ never freshState freshState fresh-in-range fresh-in-range (fresh-beside i m) (fresh-lit i m) .lit;
     }

@@ -8,27 +8,28 @@ use lib.Dec.{T, eqb, leb, leb→le}
 use borrow.Author.Tests.{eqb-true}
 use Rattle.basics.specs.Choice.{if_then_else_}
 use Rattle.basics.proofs.ChoiceLaws.{and-right, sooner}
-use Rattle.frames.specs.Frame.{isReading}
-use Rattle.supervisor.specs.State.{withSerials, withTension}
+use Rattle.modules.specs.Groups.{isMission}
 use Rattle.frames.specs.Serial.{classOf, lastOf, movedTo}
-use Rattle.supervisor.specs.Acted.{answered, done}
-use Rattle.supervisor.specs.Order.{inSafe, isIllTimed, requestSet, orderTaken, thresholdsTaken, dated, datedAs}
-use Rattle.supervisor.specs.Act.{actOf}
-use Rattle.frames.specs.declared.answer.Answer.the-variants.{IllTimed}
-use Rattle.frames.specs.declared.serial.Origin.{Origin}
-use Rattle.frames.specs.declared.serial.Origin.the-variants.{Ground}
+use Rattle.frames.specs.Reading.{isReading}
+use Rattle.frames.specs.declared.answer.Answer.the-variants.{NotNow}
 use Rattle.frames.specs.declared.serial.Class.{Class}
 use Rattle.frames.specs.declared.serial.Class.the-variants.{Repeat, Fresh, Stale}
 use Rattle.frames.specs.declared.frame.Frame.{Frame}
-use Rattle.frames.specs.declared.frame.Frame.the-variants.{Tick, Battery, Antennas, Order, Thresholds}
+use Rattle.frames.specs.declared.sender.Sender.{Sender}
+use Rattle.frames.specs.declared.command.Command.{Command}
+use Rattle.frames.specs.declared.command.Command.the-variants.{Order, Thresholds}
+use Rattle.frames.specs.declared.frame.Frame.the-variants as frame
+use Rattle.frames.proofs.ReadingLaws.{Fits, FitsCommand}
+use Rattle.supervisor.specs.State.{withTension, isSafe}
+use Rattle.supervisor.specs.Acted.{silent, done}
+use Rattle.supervisor.specs.Act.{actOf}
+use Rattle.supervisor.specs.Command.{isIllTimed, requestSet, orderTaken, thresholdsTaken, taken, byClass, serialUsed, bySerial, classIn}
+use Rattle.supervisor.specs.declared.acted.Acted.{Acted}
 use Rattle.supervisor.specs.declared.state.State.{State}
-use Rattle.supervisor.specs.declared.act.Acted.{Acted}
-use Rattle.promises.specs.History.{isMission}
-use Rattle.promises.proofs.ReadLaws.{Fits}
-use Rattle.promises.proofs.ModuleLaws.{asked-eight, at-asked, mission-low}
+use Rattle.supervisor.proofs.ModuleLaws.{asked-eight, at-asked, mission-low}
 use Rattle.promises.proofs.TwoModes.{safe-at-most}
-use Rattle.promises.proofs.TwoControl.{Sim}
-use Rattle.promises.proofs.TwoTick.{ticked-sim}
+use Rattle.promises.proofs.TwoControl.{Beside}
+use Rattle.promises.proofs.TwoTick.{ticked-beside}
 
 -- the test of an "on" that is not taken: for one of the mission four, not in SAFE
 ill-timed-first : (on m safe safe′ : Bool) → (T safe → T safe′) → T (on && m && not safe′) → T (on && m && not safe)
@@ -58,56 +59,56 @@ grows-order false on r r′ g x = g x
 
 module _ (i : ℕ) (mission : isMission i ≡ true) where
   -- an order that is done on both
-  requested-sim :
-      (number : ℕ) (on : Bool) (a b : State) → isIllTimed number on (a .watch .mode) ≡ false → Sim i a b →
-      Sim i (requestSet number on a) (requestSet number on b)
+  requested-beside :
+      (which : ℕ) (on : Bool) (a b : State) → isIllTimed which on (a .watch .mode) ≡ false → Beside i a b →
+      Beside i (requestSet which on a) (requestSet which on b)
   unfolding requestSet isIllTimed
-  requested-sim number on a b e h =
+  requested-beside which on a b e h =
       record {
         shared = h .shared;
-        flight = record {
-          modes = h .flight .modes;
-          counts = h .flight .counts;
-          eight = asked-eight a (h .flight .eight) number on;
-          eight′ = asked-eight b (h .flight .eight′) number on;
+        flown = record {
+          modes = h .flown .modes;
+          counts = h .flown .counts;
+          eight = asked-eight a (h .flown .eight) which on;
+          eight′ = asked-eight b (h .flown .eight′) which on;
           asked =
-              rw (at-asked a (h .flight .eight) i (mission-low i mission) number on, at-asked b (h .flight .eight′) i (mission-low i mission) number on)
+              rw (at-asked a (h .flown .eight) i (mission-low i mission) which on, at-asked b (h .flown .eight′) i (mission-low i mission) which on)
               (record {
-                quiet = quiet-order (eqb i number) on (isMission number) (inSafe (a .watch .mode)) _ (λ here. ap isMission (sym (eqb-true i number here)) ∙ mission) e (h .flight .asked .quiet);
-                grows = grows-order (eqb i number) on _ _ (h .flight .asked .grows);
+                quiet = quiet-order (eqb i which) on (isMission which) (isSafe (a .watch .mode)) _ (λ here. ap isMission (sym (eqb-true i which here)) ∙ mission) e (h .flown .asked .quiet);
+                grows = grows-order (eqb i which) on _ _ (h .flown .asked .grows);
               });
         };
       }
 
   -- an "on" that is done on the second only, the first not being in SAFE
-  second-sim : (number : ℕ) (on : Bool) (a b : State) → (T (inSafe (a .watch .mode)) → ⊥) → Sim i a b → Sim i a (requestSet number on b)
+  second-beside : (which : ℕ) (on : Bool) (a b : State) → (T (isSafe (a .watch .mode)) → ⊥) → Beside i a b → Beside i a (requestSet which on b)
   unfolding requestSet
-  second-sim number on a b out h =
+  second-beside which on a b out h =
       record {
         shared = h .shared;
-        flight = record {
-          modes = h .flight .modes;
-          counts = h .flight .counts;
-          eight = h .flight .eight;
-          eight′ = asked-eight b (h .flight .eight′) number on;
-          asked = record { quiet = h .flight .asked .quiet; grows = λ t. absurd (out (h .flight .asked .quiet t)) };
+        flown = record {
+          modes = h .flown .modes;
+          counts = h .flown .counts;
+          eight = h .flown .eight;
+          eight′ = asked-eight b (h .flown .eight′) which on;
+          asked = record { quiet = h .flown .asked .quiet; grows = λ t. absurd (out (h .flown .asked .quiet t)) };
         };
       }
 
-  order-sim : (number : ℕ) (on : Bool) (a b : State) → Sim i a b → Sim i (orderTaken number on a .state) (orderTaken number on b .state)
+  order-beside : (which : ℕ) (on : Bool) (a b : State) → Beside i a b → Beside i (orderTaken which on a .state) (orderTaken which on b .state)
   unfolding isIllTimed
-  order-sim number on a b h =
-      sooner (λ (x y : Acted). Sim i (x .state) (y .state)) (isIllTimed number on (a .watch .mode)) (isIllTimed number on (b .watch .mode))
-      {x = answered IllTimed a} {y = done (requestSet number on a)} {x′ = answered IllTimed b} {y′ = done (requestSet number on b)}
-      (ill-timed-first on (isMission number) (inSafe (a .watch .mode)) (inSafe (b .watch .mode)) (safe-at-most (h .flight .modes)))
+  order-beside which on a b h =
+      sooner (λ (x y : Acted). Beside i (x .state) (y .state)) (isIllTimed which on (a .watch .mode)) (isIllTimed which on (b .watch .mode))
+      {x = silent NotNow a} {y = done (requestSet which on a)} {x′ = silent NotNow b} {y′ = done (requestSet which on b)}
+      (ill-timed-first on (isMission which) (isSafe (a .watch .mode)) (isSafe (b .watch .mode)) (safe-at-most (h .flown .modes)))
       (λ t. h)
-      (λ e. second-sim number on a b (not-safe on (isMission number) (inSafe (a .watch .mode)) e) h)
-      (λ e. requested-sim number on a b e h)
+      (λ e. second-beside which on a b (not-safe on (isMission which) (isSafe (a .watch .mode)) e) h)
+      (λ e. requested-beside which on a b e h)
 
-  pub tension-sim : (first second : ℕ) → first ≤ second → (a b : State) → Sim i a b → Sim i (withTension first a) (withTension second b)
-  tension-sim first second r a b h =
+  pub tension-beside : (first second : ℕ) → first ≤ second → (a b : State) → Beside i a b → Beside i (withTension first a) (withTension second b)
+  tension-beside first second r a b h =
       record {
-        flight = h .flight;
+        flown = h .flown;
         shared = record {
           antennas = h .shared .antennas;
           serials = h .shared .serials;
@@ -115,12 +116,12 @@ module _ (i : ℕ) (mission : isMission i ≡ true) where
         };
       }
 
-  thresholds-sim :
-      (ascend descend : ℕ) → descend ≤ ascend → (a b : State) → Sim i a b →
-      Sim i (thresholdsTaken ascend descend a .state) (thresholdsTaken ascend descend b .state)
-  thresholds-sim ascend descend r a b h =
+  thresholds-beside :
+      (ascend descend : ℕ) → descend ≤ ascend → (a b : State) → Beside i a b →
+      Beside i (thresholdsTaken ascend descend a .state) (thresholdsTaken ascend descend b .state)
+  thresholds-beside ascend descend r a b h =
       record {
-        flight = h .flight;
+        flown = h .flown;
         shared = record {
           antennas = h .shared .antennas;
           serials = h .shared .serials;
@@ -128,26 +129,40 @@ module _ (i : ℕ) (mission : isMission i ≡ true) where
         };
       }
 
-  -- what bears a serial has the same class on both
-  module _ (origin : Origin) (serial : ℕ) (taken : State → Acted) (keeps : (a b : State) → Sim i a b → Sim i (taken a .state) (taken b .state)) where
-    as-sim : (class : Class) (a b : State) → Sim i a b → Sim i (datedAs class origin serial taken a .state) (datedAs class origin serial taken b .state)
-    as-sim Repeat a b h = h
-    as-sim Stale a b h = h
-    as-sim Fresh a b h =
-        keeps (withSerials (movedTo origin serial (a .serials)) a) (withSerials (movedTo origin serial (b .serials)) b)
-        (record { flight = h .flight; shared = record { antennas = h .shared .antennas; battery = h .shared .battery; serials = ap (movedTo origin serial) (h .shared .serials) } })
+  -- a command that is taken on both
+  taken-beside :
+      (sender : Sender) (command : Command) → FitsCommand sender command → (a b : State) → Beside i a b →
+      Beside i (taken command a .state) (taken command b .state)
+  taken-beside sender (Order which on) fits a b h = order-beside which on a b h
+  taken-beside sender (Thresholds ascend descend) fits a b h =
+      thresholds-beside ascend descend (leb→le descend ascend (and-right (isReading ascend && isReading descend) (leb descend ascend) (fits .fair))) a b h
 
-    dated-sim : (a b : State) → Sim i a b → Sim i (dated origin serial taken a .state) (dated origin serial taken b .state)
-    dated-sim a b h =
-        subst (λ (class : Class). Sim i (dated origin serial taken a .state) (datedAs class origin serial taken b .state))
-        (ap (λ s. classOf serial (lastOf origin s)) (h .shared .serials)) (as-sim (classOf serial (lastOf origin (a .serials))) a b h)
+  module _ (sender : Sender) (command : Command) (fits : FitsCommand sender command) where
+    class-beside : (class : Class) (a b : State) → Beside i a b → Beside i (byClass class sender command a .state) (byClass class sender command b .state)
+    class-beside Repeat a b h = h
+    class-beside Stale a b h = h
+    class-beside Fresh a b h =
+        taken-beside sender command fits (serialUsed sender a) (serialUsed sender b)
+        (record {
+          flown = h .flown;
+          shared = record {
+            antennas = h .shared .antennas;
+            battery = h .shared .battery;
+            serials = ap (movedTo (sender .origin) (sender .serial)) (h .shared .serials);
+          };
+        })
 
-  pub act-sim : (f : Frame) → Fits f → (a b : State) → Sim i a b → Sim i (actOf f a .state) (actOf f b .state)
+    -- a serial has the same class on both
+    serial-beside : (a b : State) → Beside i a b → Beside i (bySerial sender command a .state) (bySerial sender command b .state)
+    unfolding bySerial
+    serial-beside a b h =
+        subst (λ (class : Class). Beside i (byClass (classIn a sender) sender command a .state) (byClass class sender command b .state))
+        (ap (λ s. classOf (sender .serial) (lastOf (sender .origin) s)) (h .shared .serials)) (class-beside (classIn a sender) a b h)
+
+  pub act-beside : (f : Frame) → Fits f → (a b : State) → Beside i a b → Beside i (actOf f a .state) (actOf f b .state)
   unfolding actOf
-  act-sim (Tick shorts) fits a b h = ticked-sim i mission shorts a b h
-  act-sim (Battery tension) fits a b h = tension-sim tension tension (le-refl tension) a b h
-  act-sim (Antennas deployed) fits a b h = record { flight = h .flight; shared = record { antennas = refl; battery = h .shared .battery; serials = h .shared .serials } }
-  act-sim (Order origin serial number on) fits a b h = dated-sim origin serial (orderTaken number on) (order-sim number on) a b h
-  act-sim (Thresholds serial ascend descend) fits a b h =
-      dated-sim Ground serial (thresholdsTaken ascend descend)
-      (thresholds-sim ascend descend (leb→le descend ascend (and-right (isReading ascend && isReading descend) (leb descend ascend) fits))) a b h
+  act-beside (frame.Tick shorts) fits a b h = ticked-beside i mission shorts a b h
+  act-beside (frame.Battery tension) fits a b h = tension-beside tension tension (le-refl tension) a b h
+  act-beside (frame.Antennas deployed) fits a b h =
+      record { flown = h .flown; shared = record { antennas = refl; battery = h .shared .battery; serials = h .shared .serials } }
+  act-beside (frame.Command sender command) fits a b h = serial-beside sender command fits a b h

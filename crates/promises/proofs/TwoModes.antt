@@ -6,27 +6,26 @@ use mathlib.Core.Path.{_≡_, refl}
 use mathlib.Core.Bool.{Bool, true, false}
 use lib.Dec.{T, ltb, ltb→lt, lt→ltb}
 use Rattle.basics.specs.Choice.{if_then_else_}
-use Rattle.supervisor.specs.State.{modeNumber}
-use Rattle.supervisor.specs.Order.{inSafe}
-use Rattle.supervisor.specs.Tick.{crossingOf}
+use Rattle.supervisor.specs.State.{modeNumber, isSafe}
+use Rattle.supervisor.specs.Control.{crossingOf}
+use Rattle.supervisor.specs.declared.control.Crossing.{Crossing}
+use Rattle.supervisor.specs.declared.control.Crossing.the-variants.{Level, Upward, Downward}
 use Rattle.supervisor.specs.declared.state.Mode.{Mode}
 use Rattle.supervisor.specs.declared.state.Mode.the-variants.{DeployWait, Recovery, Safe}
 use Rattle.supervisor.specs.declared.state.Battery.{Battery}
-use Rattle.supervisor.specs.declared.tick.Crossing.{Crossing}
-use Rattle.supervisor.specs.declared.tick.Crossing.the-variants.{Level, Upward, Downward}
 
 -- the same mode and deploy phase, or RECOVERY and SAFE
 pub data AtMost : Mode → Mode → Type 0 where
-  equal : {m : Mode} → AtMost m m
-  below : AtMost Recovery Safe
+  even : {m : Mode} → AtMost m m
+  behind : AtMost Recovery Safe
 
 pub number-at-most : {m n : Mode} → AtMost m n → modeNumber m ≤ modeNumber n
-number-at-most equal = omega arith
-number-at-most below = omega arith
+number-at-most even = omega arith
+number-at-most behind = omega arith
 
-pub safe-at-most : {m n : Mode} → AtMost m n → T (inSafe m) → T (inSafe n)
-safe-at-most equal t = t
-safe-at-most below t = tt
+pub safe-at-most : {m n : Mode} → AtMost m n → T (isSafe m) → T (isSafe n)
+safe-at-most even t = t
+safe-at-most behind t = tt
 
 -- the crossings of two craft judged in the same tick
 pub data Cross : Mode → Mode → Crossing → Crossing → Type 0 where
@@ -38,7 +37,7 @@ pub data Cross : Mode → Mode → Crossing → Crossing → Type 0 where
   first-up : Cross Recovery Safe Upward Level
   second-down : Cross Recovery Safe Level Downward
 
--- by whether each tension is above ascend, and below descend
+-- by whether each tension is above ascend, and behind descend
 judged : Mode → (above beneath : Bool) → Crossing
 judged (DeployWait phase) above beneath = Level
 judged Recovery above beneath = if above then Upward else Level
@@ -54,19 +53,19 @@ judged-cross :
     {m n : Mode} → AtMost m n → (u u′ d d′ : Bool) → (T u → T u′) → (T d′ → T d) → (T u → T d′ → ⊥) →
     Cross m n (judged m u d) (judged n u′ d′)
 unfolding judged
-judged-cross (equal {m = DeployWait phase}) u u′ d d′ up down apart = both-level equal
-judged-cross (equal {m = Recovery}) true true d d′ up down apart = both-up
-judged-cross (equal {m = Recovery}) true false d d′ up down apart = absurd (up tt)
-judged-cross (equal {m = Recovery}) false true d d′ up down apart = second-up
-judged-cross (equal {m = Recovery}) false false d d′ up down apart = both-level equal
-judged-cross (equal {m = Safe}) u u′ true true up down apart = both-down
-judged-cross (equal {m = Safe}) u u′ true false up down apart = first-down
-judged-cross (equal {m = Safe}) u u′ false true up down apart = absurd (down tt)
-judged-cross (equal {m = Safe}) u u′ false false up down apart = both-level equal
-judged-cross below true u′ d true up down apart = absurd (apart tt tt)
-judged-cross below true u′ d false up down apart = first-up
-judged-cross below false u′ d true up down apart = second-down
-judged-cross below false u′ d false up down apart = both-level below
+judged-cross (even {m = DeployWait phase}) u u′ d d′ up down apart = both-level even
+judged-cross (even {m = Recovery}) true true d d′ up down apart = both-up
+judged-cross (even {m = Recovery}) true false d d′ up down apart = absurd (up tt)
+judged-cross (even {m = Recovery}) false true d d′ up down apart = second-up
+judged-cross (even {m = Recovery}) false false d d′ up down apart = both-level even
+judged-cross (even {m = Safe}) u u′ true true up down apart = both-down
+judged-cross (even {m = Safe}) u u′ true false up down apart = first-down
+judged-cross (even {m = Safe}) u u′ false true up down apart = absurd (down tt)
+judged-cross (even {m = Safe}) u u′ false false up down apart = both-level even
+judged-cross behind true u′ d true up down apart = absurd (apart tt tt)
+judged-cross behind true u′ d false up down apart = first-up
+judged-cross behind false u′ d true up down apart = second-down
+judged-cross behind false u′ d false up down apart = both-level behind
 
 pub crosses :
     {m n : Mode} → AtMost m n → (a b : Battery) → a .tension ≤ b .tension → a .ascend ≡ b .ascend → a .descend ≡ b .descend → a .descend ≤ a .ascend →

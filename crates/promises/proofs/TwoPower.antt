@@ -6,25 +6,28 @@ use mathlib.Core.Bool.{Bool, true, false, _&&_}
 use lib.Dec.{T}
 use Rattle.basics.specs.Choice.{bit}
 use Rattle.modules.specs.Power.{switched, isOn, isFailed}
-use Rattle.modules.proofs.PowerLaws.{on-switched, sound-switched}
+use Rattle.modules.specs.Groups.{isMission, moduleCount}
 use Rattle.modules.specs.declared.power.Power.{Power}
 use Rattle.modules.specs.declared.power.Module.{Module}
-use Rattle.supervisor.specs.Order.{inSafe}
-use Rattle.supervisor.specs.Tick.{ticked, tickedIn, controlled, moduleStage, beaconStage}
-use Rattle.supervisor.specs.Act.{actOf}
+use Rattle.modules.proofs.PowerLaws.{on-switched, sound-switched}
+use Rattle.frames.specs.About.{isTick, about}
 use Rattle.frames.specs.declared.frame.Frame.{Frame}
-use Rattle.frames.specs.declared.frame.Frame.the-variants.{Tick, Battery, Antennas, Order, Thresholds}
-use Rattle.frames.specs.declared.frame.Reading.the-variants.{Accepted}
+use Rattle.frames.specs.declared.reading.Reading.the-variants.{Accepted}
+use Rattle.frames.specs.declared.frame.Frame.the-variants as frame
+use Rattle.frames.proofs.ReadingLaws.{Fits}
+use Rattle.supervisor.specs.Tick.{ticked, tickedIn, beforeModules, moduleStage, stages}
+use Rattle.supervisor.specs.Act.{actOf}
+use Rattle.supervisor.specs.Due.{beaconStage}
+use Rattle.supervisor.specs.State.{isSafe, moduleAt}
 use Rattle.supervisor.specs.declared.state.Mode.{Mode}
 use Rattle.supervisor.specs.declared.state.Mode.the-variants.{DeployWait, Recovery, Safe}
 use Rattle.supervisor.specs.declared.state.State.{State}
-use Rattle.promises.specs.History.{moduleAt, isMission, isTick}
+use Rattle.supervisor.proofs.BeforeModulesLaws.{before-power}
+use Rattle.supervisor.proofs.ModuleLaws.{at-stage, mission-low, mission-allowed}
+use Rattle.supervisor.proofs.SwitchLaws.{act-power}
 use Rattle.promises.specs.TwoCraft.{shorted}
-use Rattle.promises.proofs.ReadLaws.{Fits}
-use Rattle.promises.proofs.ModuleLaws.{at-stage, mission-low, mission-allowed}
-use Rattle.promises.proofs.Powers.{controlled-power, act-power}
-use Rattle.promises.proofs.TwoModes.{AtMost, equal, below, safe-at-most}
-use Rattle.promises.proofs.TwoControl.{Sim, controlled-sim}
+use Rattle.promises.proofs.TwoModes.{AtMost, even, behind, safe-at-most}
+use Rattle.promises.proofs.TwoControl.{Beside, before-beside}
 
 -- neither is failed, and the first is on only if the second is
 abbrev pub Lit : Power → Power → Type 0
@@ -48,42 +51,41 @@ module _ (i : ℕ) (mission : isMission i ≡ true) where
   abbrev Bright : State → State → Type 0
   Bright a b = Lit (moduleAt i a .power) (moduleAt i b .power)
 
-  staged-lit : (shorts : ℕ) → bit i shorts ≡ false → (a b : State) → Sim i a b → Bright a b → Bright (moduleStage shorts a) (moduleStage shorts b)
+  staged-lit : (shorts : ℕ) → bit i shorts ≡ false → (a b : State) → Beside i a b → Bright a b → Bright (moduleStage shorts a) (moduleStage shorts b)
   staged-lit shorts none a b h l =
-      let low : i < 8 = mission-low i mission in
+      let low : i < moduleCount = mission-low i mission in
       let m : Module = moduleAt i a in
       let n : Module = moduleAt i b in
-      rw (at-stage a (h .flight .eight) i low shorts, at-stage b (h .flight .eight′) i low shorts, none)
+      rw (at-stage a (h .flown .eight) i low shorts, at-stage b (h .flown .eight′) i low shorts, none)
       (rw (mission-allowed i low mission (a .watch .mode), mission-allowed i low mission (b .watch .mode))
-      (lit-switched (m .requested && inSafe (a .watch .mode)) (n .requested && inSafe (b .watch .mode)) (m .power) (n .power)
-      (wanted (m .requested) (n .requested) (inSafe (a .watch .mode)) (inSafe (b .watch .mode)) (h .flight .asked .grows) (safe-at-most (h .flight .modes))) l))
+      (lit-switched (m .requested && isSafe (a .watch .mode)) (n .requested && isSafe (b .watch .mode)) (m .power) (n .power)
+      (wanted (m .requested) (n .requested) (isSafe (a .watch .mode)) (isSafe (b .watch .mode)) (h .flown .asked .grows) (safe-at-most (h .flown .modes))) l))
 
   stages-lit :
-      (shorts : ℕ) → bit i shorts ≡ false → (a b : State) → Sim i a b → Bright a b →
-      Bright (beaconStage (moduleStage shorts (controlled a)) .state) (beaconStage (moduleStage shorts (controlled b)) .state)
+      (shorts : ℕ) → bit i shorts ≡ false → (a b : State) → Beside i a b → Bright a b →
+      Bright (stages shorts a .state) (stages shorts b .state)
   unfolding beaconStage
   stages-lit shorts none a b h l =
-      staged-lit shorts none (controlled a) (controlled b) (controlled-sim i mission a b h)
-      (rw (controlled-power a (h .flight .eight) i (mission-low i mission), controlled-power b (h .flight .eight′) i (mission-low i mission)) l)
+      staged-lit shorts none (beforeModules a) (beforeModules b) (before-beside i mission a b h)
+      (rw (before-power a (h .flown .eight) i (mission-low i mission), before-power b (h .flown .eight′) i (mission-low i mission)) l)
 
   in-modes :
-      (m n : Mode) → AtMost m n → (shorts : ℕ) → bit i shorts ≡ false → (a b : State) → Sim i a b → Bright a b →
+      (m n : Mode) → AtMost m n → (shorts : ℕ) → bit i shorts ≡ false → (a b : State) → Beside i a b → Bright a b →
       Bright (tickedIn m shorts a .state) (tickedIn n shorts b .state)
-  in-modes m n (equal {m = DeployWait phase}) shorts none a b h l = l
-  in-modes m n (equal {m = Recovery}) shorts none a b h l = stages-lit shorts none a b h l
-  in-modes m n (equal {m = Safe}) shorts none a b h l = stages-lit shorts none a b h l
-  in-modes m n below shorts none a b h l = stages-lit shorts none a b h l
+  in-modes m n (even {m = DeployWait phase}) shorts none a b h l = l
+  in-modes m n (even {m = Recovery}) shorts none a b h l = stages-lit shorts none a b h l
+  in-modes m n (even {m = Safe}) shorts none a b h l = stages-lit shorts none a b h l
+  in-modes m n behind shorts none a b h l = stages-lit shorts none a b h l
 
   -- a frame other than a tick switches nothing
-  still-lit : (f : Frame) → Fits f → isTick (Accepted f) ≡ false → (a b : State) → Sim i a b → Bright a b → Bright (actOf f a .state) (actOf f b .state)
+  still-lit : (f : Frame) → Fits f → isTick (about (Accepted f)) ≡ false → (a b : State) → Beside i a b → Bright a b → Bright (actOf f a .state) (actOf f b .state)
   still-lit f fits e a b h l =
-      let low : i < 8 = mission-low i mission in
-      rw (act-power a (h .flight .eight) i low f fits e, act-power b (h .flight .eight′) i low f fits e) l
+      let low : i < moduleCount = mission-low i mission in
+      rw (act-power a (h .flown .eight) i low f fits e, act-power b (h .flown .eight′) i low f fits e) l
 
-  pub act-lit : (f : Frame) → Fits f → shorted i (Accepted f) ≡ false → (a b : State) → Sim i a b → Bright a b → Bright (actOf f a .state) (actOf f b .state)
+  pub act-lit : (f : Frame) → Fits f → shorted i (about (Accepted f)) ≡ false → (a b : State) → Beside i a b → Bright a b → Bright (actOf f a .state) (actOf f b .state)
   unfolding actOf ticked
-  act-lit (Tick shorts) fits none a b h l = in-modes (a .watch .mode) (b .watch .mode) (h .flight .modes) shorts none a b h l
-  act-lit (Battery tension) fits none a b h l = l
-  act-lit (Antennas deployed) fits none a b h l = l
-  act-lit (Order origin serial number on) fits none a b h l = still-lit (Order origin serial number on) fits refl a b h l
-  act-lit (Thresholds serial ascend descend) fits none a b h l = still-lit (Thresholds serial ascend descend) fits refl a b h l
+  act-lit (frame.Tick shorts) fits none a b h l = in-modes (a .watch .mode) (b .watch .mode) (h .flown .modes) shorts none a b h l
+  act-lit (frame.Battery tension) fits none a b h l = l
+  act-lit (frame.Antennas deployed) fits none a b h l = l
+  act-lit (frame.Command sender command) fits none a b h l = still-lit (frame.Command sender command) fits refl a b h l

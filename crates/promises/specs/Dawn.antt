@@ -1,4 +1,5 @@
--- Dawn: once a frame of an origin was taken, no frame of that origin numbered like it or behind it is taken any more, heard before or not.
+-- Dawn: once a frame of an origin was taken, no frame of that origin numbered like it or behind it is taken any more,
+-- heard before or not.
 -- Assumes nothing.
 use Prim.Native.Nat.{ℕ, _+_, _%_, _≤_}
 use mathlib.Core.Path.{_≡_}
@@ -7,12 +8,12 @@ use mathlib.Core.List.{List, [], _∷_}
 use lib.Dec.{T}
 use Rattle.basics.specs.Choice.{if_then_else_, within}
 use Rattle.frames.specs.Serial.{serialCount, distance, lastOf}
-use Rattle.frames.specs.Frame.{readFrame}
-use Rattle.frames.specs.declared.serial.Origin.{Origin}
-use Rattle.frames.specs.declared.frame.Frame.the-variants.{Order}
-use Rattle.frames.specs.declared.frame.Reading.the-variants.{Accepted}
+use Rattle.frames.specs.About.{aCommand, serialFrom}
+use Rattle.frames.specs.declared.sender.Origin.{Origin}
+use Rattle.frames.specs.declared.command.Command.the-variants.{Order}
+use Rattle.supervisor.specs.State.{moduleAt}
+use Rattle.supervisor.specs.History.{Call, aboutOf, called, answered, isTaken, after, HasRoom}
 use Rattle.supervisor.specs.declared.state.State.{State}
-use Rattle.promises.specs.History.{Call, called, answered, isTaken, after, HasRoom, bears, moduleAt}
 
 -- how far one frame moves an origin on: its distance, if it is the origin's and taken
 abbrev pub stride : (taken : Bool) → (serials : List ℕ) → (last : ℕ) → ℕ
@@ -22,36 +23,42 @@ stride taken (serial ∷ serials) last = if taken then distance serial last else
 -- how far a history moves an origin on, in all
 abbrev pub movedOn : Origin → State → List Call → ℕ
 movedOn origin s [] = 0
-movedOn origin s (c ∷ cs) = stride (isTaken (answered s c)) (bears origin (readFrame (c .input))) (lastOf origin (s .serials)) + movedOn origin (called s c .state) cs
+movedOn origin s (c ∷ cs) =
+    stride (isTaken (answered s c)) (serialFrom origin (aboutOf c)) (lastOf origin (s .serials))
+    + movedOn origin (called s c .result .state) cs
 
 -- how far behind, and moved on, together an old frame is still known as old
 abbrev pub memory : ℕ
 memory = 32768
 
--- a frame of an origin, with its serial, was taken; any calls were made since; now another frame of that origin comes, with room
--- for its report: its serial is the first's or k behind it, and k and what the origin moved on since are 32,768 at most
+-- a frame of an origin, with its serial, was taken; any calls were made since; now another frame of that origin comes,
+-- with room for its report: its serial is the first's or k behind it, and k and what the origin moved on since are
+-- 32,768 at most
 pub record Late (origin : Origin) (s : State) (first : Call) (since : List Call) (late : Call) : Type 0 where
   pub serial : ℕ
-  pub bearsSerial : bears origin (readFrame (first .input)) ≡ serial ∷ []
+  pub firstSerial : serialFrom origin (aboutOf first) ≡ serial ∷ []
   pub taken : T (isTaken (answered s first))
   pub old : ℕ
-  pub bearsOld : bears origin (readFrame (late .input)) ≡ old ∷ []
+  pub lateSerial : serialFrom origin (aboutOf late) ≡ old ∷ []
   pub room : HasRoom late
   pub k : ℕ
   pub behind : (old + k) % serialCount ≡ serial % serialCount
-  pub soon : k + movedOn origin (called s first .state) since ≤ memory
+  pub soon : k + movedOn origin (called s first .result .state) since ≤ memory
 
 -- answered 8 or 9, and the state is the same
 pub record NotTaken (s : State) (late : Call) : Type 0 where
   pub answer : T (within 8 9 (answered s late))
-  pub state : called s late .state ≡ s
+  pub state : called s late .result .state ≡ s
 
 pub record Dawn : Type 0 where
   pub old :
       (origin : Origin) (s : State) (first : Call) (since : List Call) (late : Call) → Late origin s first since late →
-      NotTaken (after (called s first .state) since) late
+      NotTaken (after (called s first .result .state) since) late
   -- so after a done "off" no older "on" of the same origin brings the module back
   pub off :
-      (origin : Origin) (number : ℕ) (s : State) (first : Call) (since : List Call) (late : Call) → (l : Late origin s first since late) →
-      readFrame (first .input) ≡ Accepted (Order origin (l .serial) number false) → readFrame (late .input) ≡ Accepted (Order origin (l .old) number true) →
-      moduleAt number (called (after (called s first .state) since) late .state) ≡ moduleAt number (after (called s first .state) since)
+      (origin : Origin) (which : ℕ) (s : State) (first : Call) (since : List Call) (late : Call) →
+      (l : Late origin s first since late) →
+      aboutOf first ≡ aCommand (record { origin = origin; serial = l .serial }) (Order which false) →
+      aboutOf late ≡ aCommand (record { origin = origin; serial = l .old }) (Order which true) →
+      moduleAt which (called (after (called s first .result .state) since) late .result .state)
+      ≡ moduleAt which (after (called s first .result .state) since)

@@ -5,8 +5,9 @@ use mathlib.Core.Path.{_≡_}
 use mathlib.Core.Bool.{false}
 use mathlib.Core.List.{List}
 use Rattle.supervisor.specs.Fresh.{freshState}
+use Rattle.supervisor.specs.History.{Call, after, doneTicks}
+use Rattle.supervisor.specs.State.{inDeployWait}
 use Rattle.supervisor.specs.declared.state.State.{State}
-use Rattle.promises.specs.History.{Call, after, doneTicks, inDeployWait}
 
 -- a day of waiting and fifteen minutes of settling, in seconds
 abbrev pub longestDeployment : ℕ
@@ -14,6 +15,7 @@ longestDeployment = 87300
 
 pub record Deployment : Type 0 where
   -- after so many done ticks from the fresh start the board is out of DEPLOY_WAIT
-  pub ends : (cs : List Call) → longestDeployment ≤ doneTicks freshState cs → inDeployWait (after freshState cs) ≡ false
+  pub ends :
+      (cs : List Call) → longestDeployment ≤ doneTicks freshState cs → inDeployWait (after freshState cs) ≡ false
   -- once out of it, no call brings it back
   pub over : (s : State) (cs : List Call) → inDeployWait s ≡ false → inDeployWait (after s cs) ≡ false

@@ -1,4 +1,3 @@
-pub mod History
 pub mod InRange
 pub mod Refusals
 pub mod Deployment

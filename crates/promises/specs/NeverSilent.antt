@@ -2,13 +2,14 @@
 -- Assumes nothing.
 use Prim.Native.Nat.{ℕ, _≤_}
 use mathlib.Core.Path.{_≡_}
-use mathlib.Core.Bool.{Bool, false, not, _&&_, _||_}
+use mathlib.Core.Bool.{Bool, true, false, not, _&&_, _||_}
 use mathlib.Core.List.{List, [], _∷_}
 use lib.Dec.{T, eqb}
 use lib.ListN.{getD}
-use Rattle.supervisor.specs.State.{modeNumber}
+use Rattle.supervisor.specs.State.{isSafe, inDeployWait}
+use Rattle.supervisor.specs.History.{Call, called, doneTick, doneTicks}
+use Rattle.supervisor.specs.Range.{basicTicks, completeTicks}
 use Rattle.supervisor.specs.declared.state.State.{State}
-use Rattle.promises.specs.History.{Call, called, doneTick, doneTicks, inDeployWait}
 
 -- the place of the beacon in a report
 abbrev pub beaconByte : ℕ
@@ -21,21 +22,23 @@ beaconDue s c = doneTick s c && not (eqb (getD (called s c .room) beaconByte 0) 
 -- in some call of a history
 abbrev pub someDue : State → List Call → Bool
 someDue s [] = false
-someDue s (c ∷ cs) = beaconDue s c || someDue (called s c .state) cs
+someDue s (c ∷ cs) = beaconDue s c || someDue (called s c .result .state) cs
 
 -- the mode is SAFE after each done tick of a history
 abbrev pub SafeTicks : State → List Call → Type 0
 SafeTicks s [] = Unit {0}
-SafeTicks s (c ∷ cs) = (T (doneTick s c) → modeNumber (called s c .state .watch .mode) ≡ 2) × SafeTicks (called s c .state) cs
+SafeTicks s (c ∷ cs) =
+    (T (doneTick s c) → isSafe (called s c .result .state .watch .mode) ≡ true) × SafeTicks (called s c .result .state) cs
 
 -- done ticks without a beacon are fewer than these
 abbrev pub fiveMinutes : ℕ
-fiveMinutes = 300
+fiveMinutes = basicTicks
 
 abbrev pub oneMinute : ℕ
-oneMinute = 60
+oneMinute = completeTicks
 
 -- whatever is sent between the ticks
 pub record NeverSilent : Type 0 where
-  pub always : (s : State) (cs : List Call) → inDeployWait s ≡ false → fiveMinutes ≤ doneTicks s cs → T (someDue s cs)
-  pub inSafe : (s : State) (cs : List Call) → SafeTicks s cs → oneMinute ≤ doneTicks s cs → T (someDue s cs)
+  pub always :
+      (s : State) (cs : List Call) → inDeployWait s ≡ false → fiveMinutes ≤ doneTicks s cs → T (someDue s cs)
+  pub safe : (s : State) (cs : List Call) → SafeTicks s cs → oneMinute ≤ doneTicks s cs → T (someDue s cs)

@@ -5,20 +5,20 @@ use mathlib.Core.Path.{_≡_}
 use mathlib.Core.Bool.{Bool, true, false}
 use mathlib.Core.List.{List, [], _∷_}
 use lib.ListN.{replicate}
+use Rattle.basics.specs.Outcome.{reply}
 use Rattle.modules.specs.Power.{switched}
 use Rattle.modules.specs.declared.power.Power.{Power}
 use Rattle.modules.specs.declared.power.Power.the-variants.{Off, Failed}
-use Rattle.supervisor.specs.State.{withMode, withControl, withTension, withSerials}
-use Rattle.supervisor.specs.Fresh.{freshState}
-use Rattle.frames.specs.Frame.{tickKind, orderKind}
+use Rattle.frames.specs.Kind.{tickKind, orderKind}
 use Rattle.frames.specs.declared.serial.Class.{Class}
 use Rattle.frames.specs.declared.serial.Class.the-variants.{Repeat, Fresh, Stale}
+use Rattle.supervisor.specs.State.{withMode, withControl, withTension, withSerials}
+use Rattle.supervisor.specs.Fresh.{freshState}
+use Rattle.supervisor.specs.History.{Call, called, answered}
 use Rattle.supervisor.specs.declared.state.Mode.{Mode}
 use Rattle.supervisor.specs.declared.state.Mode.the-variants.{Recovery, Safe}
 use Rattle.supervisor.specs.declared.state.State.{State}
-use Rattle.morse.specs.Answers.{reply}
 use Rattle.morse.specs.Keying.{keyOf, keyReply}
-use Rattle.promises.specs.History.{Call, called, answered}
 use Rattle.promises.specs.Serials.{verdict}
 
 -- a row: what is given, and what comes of it
@@ -28,7 +28,7 @@ pub data Row : Type 0 where
   -- a mode and a tension, with ascend 7,400, descend 7,000 and the control count at 29; the mode after a tick
   tick : Mode → (tension : ℕ) → Mode → Row
   -- a module in a second in which it is wanted or not, and short or not; the module after it
-  second : (wanted short : Bool) → Power → Power → Row
+  power : (wanted short : Bool) → Power → Power → Row
   -- a text; the count of units that keying it returns
   units : (text : List ℕ) → (count : ℕ) → Row
 
@@ -48,9 +48,9 @@ send bytes = record { input = bytes; room = room }
 
 abbrev pub Holds : Row → Type 0
 Holds (serial last n class) = verdict (answered (lastAt last) (send (orderKind ∷ 1 ∷ n / 256 ∷ n % 256 ∷ 0 ∷ 0 ∷ []))) ≡ class
-Holds (tick mode tension next) = called (judgedNext mode tension) (send (tickKind ∷ 0 ∷ [])) .state .watch .mode ≡ next
-Holds (second wanted short before next) = switched wanted short before ≡ next
-Holds (units text count) = keyReply (keyOf text room .answer) ≡ reply 0 count
+Holds (tick mode tension next) = called (judgedNext mode tension) (send (tickKind ∷ 0 ∷ [])) .result .state .watch .mode ≡ next
+Holds (power wanted short before next) = switched wanted short before ≡ next
+Holds (units text count) = keyReply (keyOf text room .result) ≡ reply 0 count
 
 -- `E`, `E E`, `R`, `PARIS`
 abbrev pub rows : List Row
@@ -63,8 +63,8 @@ rows =
     ∷ tick Recovery 7401 Safe
     ∷ tick Safe 7000 Safe
     ∷ tick Safe 6999 Recovery
-    ∷ second true true (Off 1) (Failed 600)
-    ∷ second true false (Failed 1) (Failed 0)
+    ∷ power true true (Off 1) (Failed 600)
+    ∷ power true false (Failed 1) (Failed 0)
     ∷ units (69 ∷ []) 1
     ∷ units (69 ∷ 32 ∷ 69 ∷ []) 9
     ∷ units (82 ∷ []) 7

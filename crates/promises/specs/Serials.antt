@@ -5,17 +5,17 @@ use mathlib.Core.Path.{_≡_}
 use mathlib.Core.List.{List, [], _∷_, _++_}
 use lib.Dec.{eqb}
 use Rattle.basics.specs.Choice.{if_then_else_}
-use Rattle.supervisor.specs.Fresh.{freshState}
-use Rattle.frames.specs.Frame.{readFrame}
-use Rattle.frames.specs.declared.serial.Origin.{Origin}
+use Rattle.frames.specs.About.{serialFrom}
+use Rattle.frames.specs.declared.sender.Origin.{Origin}
 use Rattle.frames.specs.declared.serial.Class.{Class}
 use Rattle.frames.specs.declared.serial.Class.the-variants.{Repeat, Fresh, Stale}
-use Rattle.promises.specs.History.{Call, answered, after, HasRoom, Roomy, bears}
+use Rattle.supervisor.specs.Fresh.{freshState}
+use Rattle.supervisor.specs.History.{Call, answered, after, HasRoom, Roomy, aboutOf}
 
--- the serials of an origin's frames that pass checks 4 to 7, in order
+-- the serials of an origin's frames that pass checks 3 to 7, in order
 abbrev pub serialsOf : Origin → List Call → List ℕ
 serialsOf origin [] = []
-serialsOf origin (c ∷ cs) = bears origin (readFrame (c .input)) ++ serialsOf origin cs
+serialsOf origin (c ∷ cs) = serialFrom origin (aboutOf c) ++ serialsOf origin cs
 
 -- what an answer says of the serial
 abbrev pub verdict : (answer : ℕ) → Class
@@ -26,5 +26,6 @@ verdict answer = if eqb answer 8 then Repeat else if eqb answer 9 then Stale els
 abbrev pub Serials : Type 0
 Serials =
     (origin : Origin) (cs ds : List Call) → Roomy cs → Roomy ds → serialsOf origin cs ≡ serialsOf origin ds →
-    (serial : ℕ) (c d : Call) → HasRoom c → HasRoom d → bears origin (readFrame (c .input)) ≡ serial ∷ [] → bears origin (readFrame (d .input)) ≡ serial ∷ [] →
+    (serial : ℕ) (c d : Call) → HasRoom c → HasRoom d →
+    serialFrom origin (aboutOf c) ≡ serial ∷ [] → serialFrom origin (aboutOf d) ≡ serial ∷ [] →
     verdict (answered (after freshState cs) c) ≡ verdict (answered (after freshState ds) d)

@@ -8,14 +8,14 @@ use lib.ListN.{take}
 use lib.Dec.{T}
 use Rattle.basics.specs.Choice.{word, bit}
 use Rattle.modules.specs.Power.{isOn}
-use Rattle.supervisor.specs.State.{modeNumber}
+use Rattle.modules.specs.Groups.{isMission}
+use Rattle.frames.specs.Kind.{batteryKind}
+use Rattle.frames.specs.Reading.{isReading}
+use Rattle.frames.specs.About.{About, aTick, aCommand, neither}
+use Rattle.supervisor.specs.State.{modeNumber, moduleAt}
 use Rattle.supervisor.specs.Fresh.{freshState}
-use Rattle.frames.specs.Frame.{readFrame, batteryKind, isReading}
-use Rattle.frames.specs.declared.frame.Frame.the-variants.{Tick, Battery, Antennas, Order, Thresholds}
-use Rattle.frames.specs.declared.frame.Reading.{Reading}
-use Rattle.frames.specs.declared.frame.Reading.the-variants.{Refused, Accepted}
+use Rattle.supervisor.specs.History.{Call, after, Roomy, aboutOf}
 use Rattle.supervisor.specs.declared.state.State.{State}
-use Rattle.promises.specs.History.{Call, after, Roomy, moduleAt, isMission}
 
 -- the same bytes, whatever they are; or two battery frames, both in range, the second's reading the same or higher
 pub data AsGood : List ℕ → List ℕ → Type 0 where
@@ -29,18 +29,16 @@ pub data Paired : List Call → List Call → Type 0 where
   start : Paired [] []
   next : {c d : Call} {cs ds : List Call} → AsGood (c .input) (d .input) → Paired cs ds → Paired (c ∷ cs) (d ∷ ds)
 
--- module i is never reported shorted
-abbrev pub shorted : ℕ → Reading → Bool
-shorted i (Refused answer) = false
-shorted i (Accepted (Tick shorts)) = bit i shorts
-shorted i (Accepted (Battery tension)) = false
-shorted i (Accepted (Antennas deployed)) = false
-shorted i (Accepted (Order origin serial number on)) = false
-shorted i (Accepted (Thresholds serial ascend descend)) = false
+-- module i is reported shorted
+abbrev pub shorted : ℕ → About → Bool
+shorted i (aTick shorts) = bit i shorts
+shorted i (aCommand sender command) = false
+shorted i neither = false
 
+-- it never is, in a history
 abbrev pub NeverShorted : ℕ → List Call → Type 0
 NeverShorted i [] = Unit {0}
-NeverShorted i (c ∷ cs) = (shorted i (readFrame (c .input)) ≡ false) × NeverShorted i cs
+NeverShorted i (c ∷ cs) = (shorted i (aboutOf c) ≡ false) × NeverShorted i cs
 
 -- the second state is as good as the first or better, after the same calls
 pub record Better (cs : List Call) (a b : State) : Type 0 where

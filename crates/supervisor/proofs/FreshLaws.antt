@@ -6,6 +6,7 @@ use mathlib.Core.Bool.{true, false, not}
 use lib.Dec.{T}
 use Rattle.basics.specs.Choice.{if_then_else_}
 use Rattle.basics.specs.Each.{each, eachFrom}
+use Rattle.basics.proofs.ChoiceLaws.{agreed}
 use Rattle.basics.proofs.TablesLaws.{upto}
 use Rattle.modules.specs.Groups.{moduleCount, isMission}
 use Rattle.modules.specs.Power.{isOn, isFailed}
@@ -13,7 +14,7 @@ use Rattle.modules.specs.Stage.{requestedBy, modulesInRange}
 use Rattle.supervisor.specs.State.{moduleAt}
 use Rattle.supervisor.specs.Fresh.{freshState}
 use Rattle.supervisor.specs.Range.{inRange}
-use Rattle.supervisor.proofs.ModuleLaws.{Eight, equal}
+use Rattle.supervisor.proofs.ModuleLaws.{Eight}
 
 pub fresh-in-range : T (inRange freshState)
 unfolding inRange freshState requestedBy each eachFrom modulesInRange
@@ -27,17 +28,17 @@ module _ (i : ℕ) (low : i < moduleCount) where
   pub fresh-requested : moduleAt i freshState .requested ≡ not (isMission i)
   unfolding freshState requestedBy each eachFrom
   fresh-requested =
-      equal (moduleAt i freshState .requested) (not (isMission i))
+      agreed (moduleAt i freshState .requested) (not (isMission i))
       (upto (λ k. if moduleAt k freshState .requested then not (isMission k) else not (not (isMission k))) moduleCount tt i low)
 
   pub fresh-off : isOn (moduleAt i freshState .power) ≡ false
   unfolding freshState requestedBy each eachFrom
   fresh-off =
-      equal (isOn (moduleAt i freshState .power)) false
+      agreed (isOn (moduleAt i freshState .power)) false
       (upto (λ k. if isOn (moduleAt k freshState .power) then false else true) moduleCount tt i low)
 
   pub fresh-sound : isFailed (moduleAt i freshState .power) ≡ false
   unfolding freshState requestedBy each eachFrom
   fresh-sound =
-      equal (isFailed (moduleAt i freshState .power)) false
+      agreed (isFailed (moduleAt i freshState .power)) false
       (upto (λ k. if isFailed (moduleAt k freshState .power) then false else true) moduleCount tt i low)

@@ -8,7 +8,7 @@ use lib.ListN.{length}
 use lib.Dec.{T, lit<, leb}
 use borrow.Author.Tests.{leb-true, leb-false}
 use Rattle.basics.specs.Choice.{if_then_else_, bit}
-use Rattle.basics.proofs.ChoiceLaws.{is-true}
+use Rattle.basics.proofs.ChoiceLaws.{is-true, agreed}
 use Rattle.basics.proofs.EachLaws.{at-each, length-each}
 use Rattle.basics.proofs.BitLaws.{bit-past}
 use Rattle.basics.proofs.TablesLaws.{upto}
@@ -62,23 +62,17 @@ mission-low i e = by (leb moduleCount i) refl
     by false t = leb-false moduleCount i t
 
 -- every module is one of the core four or of the mission four; both together are all
-pub equal : (a b : Bool) → T (if a then b else not b) → a ≡ b
-equal true true h = refl
-equal true false h = absurd h
-equal false true h = absurd h
-equal false false h = refl
-
 module _ (i : ℕ) (low : i < moduleCount) where
   pub core-or-mission : bit i coreFour ≡ not (isMission i)
   core-or-mission =
-      equal (bit i coreFour) (not (isMission i))
+      agreed (bit i coreFour) (not (isMission i))
       (upto (λ k. if bit k coreFour then not (isMission k) else not (not (isMission k))) moduleCount tt i low)
 
   all-allowed : bit i (coreFour + missionFour) ≡ true
   all-allowed = is-true (bit i (coreFour + missionFour)) (upto (λ k. bit k (coreFour + missionFour)) moduleCount tt i low)
 
   none-allowed : bit i 0 ≡ false
-  none-allowed = equal (bit i 0) false (upto (λ k. if bit k 0 then false else true) moduleCount tt i low)
+  none-allowed = agreed (bit i 0) false (upto (λ k. if bit k 0 then false else true) moduleCount tt i low)
 
   -- mission modules are allowed in SAFE only
   pub mission-allowed : isMission i ≡ true → (m : Mode) → bit i (allowedIn m) ≡ isSafe m

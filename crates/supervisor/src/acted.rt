@@ -5,7 +5,7 @@ use crate::state::State;
 use frames::answer::Answer;
 
 // The beacon that a tick makes due.
-pub(crate) enum Due {
+pub enum Due {
     Nothing,
     Basic,
     Complete,
@@ -25,7 +25,7 @@ impl Due {
 }
 
 // The next state, the answer (0, 8, 9 or 10), and the beacon due.
-pub(crate) struct Acted {
+pub struct Acted {
     pub state: State,
     pub answer: Answer,
     pub due: Due,

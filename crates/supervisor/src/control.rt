@@ -11,7 +11,7 @@ use modules::groups::CORE;
 use modules::groups::MISSION;
 
 // How a judged mode crosses.
-pub(crate) enum Crossing {
+pub enum Crossing {
     // it stays
     Level,
     // from RECOVERY to SAFE
