@@ -1,23 +1,27 @@
 -- Every beacon text of a state in range is one that keying takes: none of the refusals 11 to 13 applies.
 -- Assumes nothing.
 use mathlib.Core.Path.{_≡_, refl}
-use mathlib.Core.Bool.{Bool, true, false, not, _&&_}
+use mathlib.Core.Bool.{Bool, true, false, not, _&&_, _||_}
 use mathlib.Core.List.{List}
-use Prim.Native.Nat.{ℕ, _/_, _%_, _<_}
+use Prim.Native.Nat.{ℕ, _/_, _%_, _<_, _≤_}
 use native.Mathlib.Omega.{arith}
-use lib.Dec.{T}
+use lib.Dec.{T, eqb}
 use lib.ListN.{length}
-use borrow.Author.Tests.{not-true}
-use Rattle.basics.proofs.ChoiceLaws.{is-true, and-left, and-right}
+use borrow.Author.Tests.{not-true, eqb-true}
+use Rattle.basics.proofs.ChoiceLaws.{is-true, holds, and-left, and-right, within-high}
 use Rattle.basics.proofs.TablesLaws.{upto}
+use Rattle.modules.specs.Groups.{moduleCount}
 use Rattle.modules.specs.Power.{isOn, isFailed}
 use Rattle.modules.specs.Masks.{maskOf, masksOf}
 use Rattle.modules.specs.declared.power.Module.{Module}
 use Rattle.modules.proofs.MasksLaws.{maskOf-bound}
+use Rattle.frames.specs.Reading.{lowestReading, highestReading, isReading, areThresholds}
 use Rattle.morse.specs.Signs.{signs, signOf, signed}
 use Rattle.morse.specs.Texts.{isSpace, faultOf}
 use Rattle.morse.specs.declared.texts.Fault.the-variants.{Nothing}
-use Rattle.supervisor.specs.Range.{inRange}
+use Rattle.supervisor.specs.Range.{batteryInRange, inRange}
+use Rattle.supervisor.specs.declared.state.Battery.{Battery}
+use Rattle.supervisor.proofs.RangeLaws.{parts}
 use Rattle.supervisor.specs.declared.state.Mode.{Mode}
 use Rattle.supervisor.specs.declared.state.Mode.the-variants.{DeployWait, Recovery, Safe}
 use Rattle.supervisor.specs.declared.state.State.{State}
@@ -25,13 +29,13 @@ use Rattle.basics.specs.Bytes.{hexDigit}
 use Rattle.beacon.specs.Text.{modeLetter, figure, basicText, completeText, textOf}
 use Rattle.beacon.specs.declared.text.Form.{Form}
 use Rattle.beacon.specs.declared.text.Form.the-variants.{Basic, Complete}
-use Rattle.beacon.proofs.RangeLaws.{in-range-parts, tension-most}
 
 -- a byte with a sign, and no space
 record Plain (c : ℕ) : Type 0 where
   word : isSpace c ≡ false
   sign : signed (signOf c) ≡ true
 
+-- the same, as a test
 abbrev isPlain : ℕ → Bool
 isPlain c = not (isSpace c) && signed (signOf c)
 
@@ -57,14 +61,22 @@ plain-mode Recovery = plain 82 tt
 plain-mode Safe = plain 83 tt
 
 -- a mask of eight modules has two hex digits
-mask-byte : (test : Module → Bool) (modules : List Module) → length modules ≡ 8 → maskOf test modules < 256
+mask-byte : (test : Module → Bool) (modules : List Module) → length modules ≡ moduleCount → maskOf test modules < 256
 mask-byte test modules eight = rw eight at (maskOf-bound test modules)
 
-module _ (s : State) (e : inRange s ≡ true) (eight : length (s .modules) ≡ 8) where
+-- a tension in range: none yet, or a reading
+tension-most : (b : Battery) → T (batteryInRange b) → b .tension ≤ highestReading
+tension-most b t = by-reading (eqb (b .tension) 0) refl (and-left (eqb (b .tension) 0 || isReading (b .tension)) (areThresholds (b .ascend) (b .descend)) t)
+  where
+    by-reading : (none : Bool) → eqb (b .tension) 0 ≡ none → T (none || isReading (b .tension)) → b .tension ≤ highestReading
+    by-reading true z h = omega (arith, eqb-true (b .tension) 0 z)
+    by-reading false z h = within-high lowestReading highestReading (b .tension) h
+
+module _ (s : State) (e : inRange s ≡ true) (eight : length (s .modules) ≡ moduleCount) where
   both : (faultOf (basicText s) ≡ Nothing) × (faultOf (completeText s) ≡ Nothing)
   unfolding signs signOf faultOf basicText completeText masksOf
   both =
-      let tension = tension-most (s .battery) (in-range-parts s e .battery) in
+      let tension = tension-most (s .battery) (parts s (holds (inRange s) e) .battery) in
       let on = mask-byte (λ m. isOn (m .power)) (s .modules) eight in
       let failed = mask-byte (λ m. isFailed (m .power)) (s .modules) eight in
       let m = plain-mode (s .watch .mode) in

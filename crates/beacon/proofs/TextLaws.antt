@@ -5,11 +5,12 @@ use Prim.Native.Nat.{_≤_}
 use lib.Dec.{lit≤}
 use lib.ListN.{length, take}
 use Rattle.supervisor.specs.declared.state.State.{State}
-use Rattle.beacon.specs.Text.{basicText, completeText, textOf, formBytes}
+use Rattle.beacon.specs.Text.{basicText, completeText, textOf, completeBytes, formBytes}
 use Rattle.beacon.specs.declared.text.Form.{Form}
 use Rattle.beacon.specs.declared.text.Form.the-variants.{Basic, Complete}
 
-pub form-most : (form : Form) → formBytes form ≤ 16
+-- no text is longer than the complete one
+pub form-most : (form : Form) → formBytes form ≤ completeBytes
 form-most Basic = lit≤ tt
 form-most Complete = lit≤ tt
 

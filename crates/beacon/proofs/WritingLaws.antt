@@ -7,16 +7,16 @@ use Prim.Native.Nat.{ℕ, _<_, _≤_}
 use lib.ListN.{length, take, drop}
 use lib.Seq.{take-length}
 use borrow.Author.Tests.{lt-ltb, le-ltb}
-use Rattle.morse.specs.Answers.{outcome}
+use Rattle.basics.specs.Outcome.{outcome}
 use Rattle.supervisor.specs.Range.{inRange}
 use Rattle.supervisor.specs.declared.state.State.{State}
 use Rattle.beacon.specs.Text.{textOf}
 use Rattle.beacon.specs.Writing.{beaconOf}
 use Rattle.beacon.specs.declared.text.Form.{Form}
-use Rattle.beacon.specs.declared.writing.Written.the-variants.{Done, StateOutside, NoRoom}
+use Rattle.beacon.specs.declared.writing.Written.the-variants.{Done, BadState, NoRoom}
 
 module _ (form : Form) (s : State) (room : List ℕ) where
-  pub beacon-outside : inRange s ≡ false → outcome StateOutside room ≡ beaconOf form s room
+  pub beacon-outside : inRange s ≡ false → outcome BadState room ≡ beaconOf form s room
   unfolding beaconOf
   beacon-outside e = simp e
 
@@ -26,7 +26,7 @@ module _ (form : Form) (s : State) (room : List ℕ) where
     beacon-short h = simp (e, lt-ltb _ _ h)
 
     -- the text, copied from where it stands
-    pub beacon-copied : {n : ℕ} {left : List ℕ} (src : List ℕ) → src ≡ textOf form s → length (textOf form s) ≤ length room
-        → n ≡ length src → left ≡ take (length src) src ++ drop (length src) room → outcome (Done n) left ≡ beaconOf form s room
+    pub beacon-copied : {n : ℕ} {after : List ℕ} (src : List ℕ) → src ≡ textOf form s → length (textOf form s) ≤ length room
+        → n ≡ length src → after ≡ take (length src) src ++ drop (length src) room → outcome (Done n) after ≡ beaconOf form s room
     unfolding beaconOf
     beacon-copied src t h p q = simp (e, le-ltb _ _ h) (rw (p, q, take-length src, t))

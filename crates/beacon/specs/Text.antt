@@ -10,12 +10,13 @@ use Rattle.supervisor.specs.declared.state.State.{State}
 use Rattle.beacon.specs.declared.text.Form.{Form}
 use Rattle.beacon.specs.declared.text.Form.the-variants.{Basic, Complete}
 
+-- what stands between two words
 abbrev space : ℕ
 space = 32
 
 -- `EMS `
-abbrev pub call : List ℕ
-call = 69 ∷ 77 ∷ 83 ∷ space ∷ []
+abbrev pub callSign : List ℕ
+callSign = 69 ∷ 77 ∷ 83 ∷ space ∷ []
 
 -- a letter D, R or S for the mode
 abbrev pub modeLetter : Mode → ℕ
@@ -33,17 +34,30 @@ fourDigits n = figure (n / 1000) ∷ figure (n / 100 % 10) ∷ figure (n / 10 % 
 
 -- basic: `EMS `, the mode's letter, a space, the tension in four digits
 unfoldable pub basicText : State → List ℕ
-basicText s = call ++ (modeLetter (s .watch .mode) ∷ space ∷ fourDigits (s .battery .tension))
+basicText s = callSign ++ (modeLetter (s .watch .mode) ∷ space ∷ fourDigits (s .battery .tension))
+
+-- a space, and a mask in two hex digits
+abbrev maskText : ℕ → List ℕ
+maskText mask = space ∷ twoHex mask
 
 -- complete: that, then a space and the on mask, a space and the failed mask
 unfoldable pub completeText : State → List ℕ
-completeText s = basicText s ++ (space ∷ twoHex (masksOf (s .modules) .on) ++ (space ∷ twoHex (masksOf (s .modules) .failed)))
+completeText s = basicText s ++ (maskText (masksOf (s .modules) .on) ++ maskText (masksOf (s .modules) .failed))
 
+-- the text of either form
 abbrev pub textOf : Form → State → List ℕ
 textOf Basic s = basicText s
 textOf Complete s = completeText s
 
+-- the bytes of each
+
+abbrev pub basicBytes : ℕ
+basicBytes = 10
+
+abbrev pub completeBytes : ℕ
+completeBytes = 16
+
 -- either text: 10 or 16 bytes
 abbrev pub formBytes : Form → ℕ
-formBytes Basic = 10
-formBytes Complete = 16
+formBytes Basic = basicBytes
+formBytes Complete = completeBytes

@@ -5,20 +5,21 @@ use mathlib.Core.List.{List}
 use lib.Dec.{ltb}
 use lib.ListN.{length}
 use Rattle.basics.specs.Choice.{if_then_else_}
-use Rattle.morse.specs.Answers.{Reply, reply, Outcome, outcome, written, done, noRoom}
+use Rattle.basics.specs.Outcome.{Outcome, outcome, written, Reply, reply}
+use Rattle.morse.specs.Answers.{done, noRoom}
 use Rattle.frames.specs.Answer.{answerNumber}
-use Rattle.supervisor.specs.Range.{inRange}
 use Rattle.frames.specs.declared.answer.Answer.the-variants as answer
+use Rattle.supervisor.specs.Range.{inRange}
 use Rattle.supervisor.specs.declared.state.State.{State}
 use Rattle.beacon.specs.Text.{textOf}
 use Rattle.beacon.specs.declared.text.Form.{Form}
 use Rattle.beacon.specs.declared.writing.Written.{Written}
-use Rattle.beacon.specs.declared.writing.Written.the-variants.{Done, StateOutside, NoRoom}
+use Rattle.beacon.specs.declared.writing.Written.the-variants.{Done, BadState, NoRoom}
 
 -- the page's number and the length of each answer
 abbrev pub writtenReply : Written → Reply
 writtenReply (Done n) = reply done n
-writtenReply StateOutside = reply (answerNumber answer.StateOutside) 0
+writtenReply BadState = reply (answerNumber answer.BadState) 0
 writtenReply NoRoom = reply noRoom 0
 
 -- 1: the state outside its ranges; 14: the room shorter than the text; else the text and its length
@@ -27,4 +28,4 @@ beaconOf form s room =
     if inRange s then
     (if ltb (length room) (length (textOf form s)) then outcome NoRoom room
     else outcome (Done (length (textOf form s))) (written (textOf form s) room))
-    else outcome StateOutside room
+    else outcome BadState room

@@ -2,16 +2,27 @@
 ghost use mathlib.Core.Path.{_≡_};
 ghost use Prim.Native.Nat.{_<_};
 ghost use Rattle.basics.specs.Bytes.{hexDigit};
-ghost use Rattle.beacon.specs.Text.{modeLetter, formBytes, completeText};
+ghost use Rattle.beacon.specs.Text.{modeLetter, figure, formBytes, completeText};
 use modules::masks::masks_of;
 use supervisor::state::Mode;
 use supervisor::state::State;
 
 // How much a beacon tells.
 pub enum Form {
+    // mode and tension
     Basic,
+    // these, and the masks of the modules on and failed
     Complete,
 }
+
+// The bytes of the basic text.
+const BASIC_BYTES: usize = 10;
+
+// The bytes of the complete text.
+const COMPLETE_BYTES: usize = 16;
+
+// The base of a mask's digits.
+const HEX: u8 = 16;
 
 impl Form {
     // The bytes of its text.
@@ -19,12 +30,13 @@ impl Form {
         ensures { λ r. ⌜ r ≡ formBytes self ⌝ }
     {
         match self {
-            Form::Basic => 10,
-            Form::Complete => 16,
+            Form::Basic => BASIC_BYTES,
+            Form::Complete => COMPLETE_BYTES,
         }
     }
 }
 
+// The letter of a mode.
 fn letter(mode: Mode) -> u8
     ensures { λ r. ⌜ r ≡ modeLetter mode ⌝ }
 {
@@ -35,6 +47,15 @@ fn letter(mode: Mode) -> u8
     }
 }
 
+// A decimal digit of a tension. A tension out of range may have more than 9 thousands: its text is never written.
+fn figure(n: u16) -> u8
+    requires { ⌜ n < 100 ⌝ }
+    ensures { λ r. ⌜ r ≡ figure n ⌝ }
+{
+    b'0' + (n as u8)
+}
+
+// An upper-case hex digit.
 fn digit(n: u8) -> u8
     requires { ⌜ n < 16 ⌝ }
     ensures { λ r. ⌜ r ≡ hexDigit n ⌝ }
@@ -43,7 +64,7 @@ fn digit(n: u8) -> u8
 }
 
 // The complete text of any state.
-pub(crate) fn complete_text(state: State) -> [u8; 16]
+pub(crate) fn complete_text(state: State) -> [u8; COMPLETE_BYTES]
     ensures { λ r. ⌜ r ≡ completeText state ⌝ }
 {
     let watch = state.watch;
@@ -58,15 +79,15 @@ pub(crate) fn complete_text(state: State) -> [u8; 16]
         b' ',
         letter(mode),
         b' ',
-        (48 + tension / 1000) as u8,
-        (48 + tension / 100 % 10) as u8,
-        (48 + tension / 10 % 10) as u8,
-        (48 + tension % 10) as u8,
+        figure(tension / 1000),
+        figure(tension / 100 % 10),
+        figure(tension / 10 % 10),
+        figure(tension % 10),
         b' ',
-        digit(masks.on / 16),
-        digit(masks.on % 16),
+        digit(masks.on / HEX),
+        digit(masks.on % HEX),
         b' ',
-        digit(masks.failed / 16),
-        digit(masks.failed % 16),
+        digit(masks.failed / HEX),
+        digit(masks.failed % HEX),
     ]
 }

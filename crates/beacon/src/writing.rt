@@ -1,18 +1,21 @@
 // The beacon's text into a room.
 // Refusals 1, then 14, with the room untouched; else the text and its length.
 ghost use mathlib.Core.Path.{_≡_};
-ghost use Rattle.morse.specs.Answers.{outcome};
+ghost use Rattle.basics.specs.Outcome.{outcome};
 ghost use Rattle.beacon.specs.declared.text.Form.the-variants as form;
 ghost use Rattle.beacon.specs.Writing.{writtenReply, beaconOf};
 use crate::text::Form;
 use crate::text::complete_text;
+use frames::answer::Answer;
+use morse::answers::DONE;
+use morse::answers::NO_ROOM;
 use supervisor::state::State;
 
 // What writing a beacon's text answers: a case for each of the page's numbers.
 pub enum Written {
     // A text of so many bytes is in the room.
     Done(usize),
-    StateOutside,
+    BadState,
     NoRoom,
 }
 
@@ -22,9 +25,9 @@ impl Written {
         ensures { λ r. ⌜ r ≡ writtenReply self .number ⌝ }
     {
         match self {
-            Written::Done(_) => 0,
-            Written::StateOutside => 1,
-            Written::NoRoom => 14,
+            Written::Done(_) => DONE,
+            Written::BadState => Answer::BadState.number(),
+            Written::NoRoom => NO_ROOM,
         }
     }
 
@@ -34,7 +37,7 @@ impl Written {
     {
         match self {
             Written::Done(n) => n,
-            Written::StateOutside => 0,
+            Written::BadState => 0,
             Written::NoRoom => 0,
         }
     }
@@ -45,7 +48,7 @@ pub fn write(state: State, form: Form, text: &mut [u8]) -> Written
     ensures { λ r. ⌜ outcome r (now (text .exit)) ≡ beaconOf form state (now (text .entry)) ⌝ }
 {
     if !state.in_range() {
-        return Written::StateOutside;
+        return Written::BadState;
     }
     let n = form.bytes();
     if text.len() < n {
