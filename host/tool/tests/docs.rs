@@ -3,7 +3,7 @@
 
 mod common;
 
-use common::{fed, place, root, scratch};
+use common::{fed, place, root, run, scratch};
 use ems::{answer, Craft, REPORT_BYTES};
 use std::os::unix::fs::symlink;
 use std::path::Path;
@@ -61,6 +61,22 @@ fn run_document(document: &str) -> usize {
         }
     }
     commands
+}
+
+/// A newcomer's first command tells a story, and not ten thousand lines.
+#[test]
+fn the_readme_s_first_command_is_short() {
+    let blocks = blocks("README.md", "sh").concat();
+    let commands = blocks
+        .lines()
+        .filter_map(|line| line.strip_prefix("./ems "));
+    let commands: Vec<&str> = commands.collect();
+    assert!(!commands.is_empty());
+    for command in commands {
+        let words = command.split('#').next().unwrap_or_default();
+        let ran = run(&words.split_whitespace().collect::<Vec<&str>>()).status(0);
+        assert!(ran.text().lines().count() < 50, "{command}");
+    }
 }
 
 #[test]
