@@ -5,6 +5,7 @@ mod common;
 
 use common::{fed, place, root, run, scratch};
 use ems::{answer, Craft, REPORT_BYTES};
+use model::image;
 use std::os::unix::fs::symlink;
 use std::path::Path;
 use std::process::Command;
@@ -176,8 +177,8 @@ fn the_way_back_after_9_is_found() {
         assert_eq!(send(&mut board, 32_767), answer::DONE);
         assert_eq!(send(&mut board, own), answer::DONE);
         for step in [ahead / 2, ahead - ahead / 2] {
-            let last = u16::from_be_bytes([board.image()[17], board.image()[18]]);
-            send(&mut board, last.wrapping_add(step));
+            let state = image::load(board.image()).expect("a state in range");
+            send(&mut board, state.last.ground.wrapping_add(step));
         }
         assert_eq!(send(&mut board, own), answer::STALE, "{ahead}");
         let jump = own.wrapping_add(32_767);
