@@ -79,12 +79,14 @@ failed() {
     exit 1
 }
 
-# Makes a file by a command, after saying what is done.
+# Makes a file by a command, after saying what is done. The file is then as old as the command's begin, whether there
+# was anything to do or not: a source that changed in the meantime is newer.
 build() { # FILE SAID COMMAND..
+    local begun
+    begun=$(date +%s.%N)
     say "$2"
     quietly "${@:3}"
-    # A build that finds nothing to do leaves the file as old as it was.
-    touch -c "$1"
+    touch -c -d "@$begun" "$1"
     [ -f "$1" ] || failed
 }
 
@@ -94,5 +96,5 @@ keep() { # FILE WHY
         say "$1 isn't there, and $2"
         exit 1
     fi
-    say "$1 is older than its sources, and $2: it is used as it is"
+    say "$1 is out of date, and $2: it is used as it is"
 }
