@@ -1,7 +1,8 @@
 //! What is measured: an image to start from, and inputs that go round.
 
 use model::state::{Mode, Module, Power};
-use model::{image, State};
+use model::table::{BATTERY, FROM_GROUND, ORDER, PAYLOAD, TICK};
+use model::{image, report, State};
 
 /// A row of the table.
 pub struct Stream {
@@ -62,9 +63,9 @@ pub fn streams() -> Vec<Stream> {
             inputs,
         }
     };
-    let quiet = || vec![vec![0x01, 0x00]];
+    let quiet = || vec![vec![TICK, 0x00]];
     // Every module is shorted in every other second.
-    let shorts = || vec![vec![0x01, 0xFF], vec![0x01, 0x00]];
+    let shorts = || vec![vec![TICK, 0xFF], vec![TICK, 0x00]];
     let text = |name, call, input| Stream {
         name,
         call,
@@ -74,7 +75,8 @@ pub fn streams() -> Vec<Stream> {
     // 1,024 serials, 64 apart: each is fresh, also where they go round.
     let order = |i: u16| {
         let [high, low] = (64 * i).to_be_bytes();
-        vec![0x04, 0x01, high, low, 0x04, i.to_be_bytes()[1] & 1]
+        let wanted = (i % 2) as u8;
+        vec![ORDER, FROM_GROUND, high, low, PAYLOAD, wanted]
     };
     let units = model::morse::key(TEXT).unwrap_or_default();
     vec![
@@ -92,7 +94,7 @@ pub fn streams() -> Vec<Stream> {
         step(
             "battery, refused (6)",
             Mode::Safe,
-            vec![vec![0x02, 0x13, 0x87]],
+            vec![vec![BATTERY, 0x13, 0x87]],
         ),
         text("keying 64 characters", b'k', TEXT.to_vec()),
         text("reading 64 characters", b'r', units),
@@ -103,7 +105,7 @@ pub fn streams() -> Vec<Stream> {
 pub fn drive(stream: &Stream, calls: u64) -> (u128, u64) {
     let mut image = stream.image;
     let mut room = [0; 2_048];
-    let mut written = 11;
+    let mut written = report::BYTES;
     let mut sum: u64 = 0;
     let mut inputs = stream.inputs.iter().cycle();
     let begin = std::time::Instant::now();
@@ -114,7 +116,7 @@ pub fn drive(stream: &Stream, calls: u64) -> (u128, u64) {
         }
         let input = inputs.next().map_or(&[][..], Vec::as_slice);
         let answer = match stream.call {
-            b's' => model::calls::step(&mut image, input, &mut room[..11]),
+            b's' => model::calls::step(&mut image, input, &mut room[..report::BYTES]),
             b'k' => counted(model::calls::key(input, &mut room), &mut written),
             _ => counted(model::calls::read(input, &mut room), &mut written),
         };

@@ -2,7 +2,10 @@
 
 use crate::rng::Rng;
 use crate::shrink::Shot;
-use model::table::{Field, Kind, KINDS};
+use model::report;
+use model::state::Last;
+use model::table::{self, Field, Kind, KINDS};
+use model::State;
 
 /// How the frames of a stream are made.
 #[derive(Clone, Copy, PartialEq, Eq)]
@@ -20,18 +23,17 @@ pub enum Maker {
 /// What a stream keeps from one frame to the next, so that it gets somewhere.
 pub struct Stream {
     maker: Maker,
-    serials: [u16; 2],
+    last: Last,
     shorts: u8,
 }
 
 impl Stream {
     /// A new stream.
     pub fn new(maker: Maker) -> Stream {
-        let (serials, shorts) = ([0, 0], 0);
         Stream {
             maker,
-            serials,
-            shorts,
+            last: State::fresh().last,
+            shorts: 0,
         }
     }
 
@@ -41,7 +43,7 @@ impl Stream {
             Maker::Structured => self.structured(rng),
             Maker::Mutated => self.mutated(rng),
             Maker::ByKind => {
-                let kind = &KINDS[rng.below(KINDS.len())];
+                let kind = rng.one(&KINDS);
                 let mut frame = rng.bytes(kind.total);
                 frame[0] = kind.byte;
                 frame
@@ -54,17 +56,18 @@ impl Stream {
         let room = match rng.below(20) {
             0 => rng.below(13),
             1 => rng.below(60),
-            _ => 11,
+            _ => report::BYTES,
         };
         (frame, room as u8)
     }
 
     fn structured(&mut self, rng: &mut Rng) -> Vec<u8> {
-        let kind = match rng.below(8) {
-            0 => &KINDS[rng.below(KINDS.len())],
-            1 => &KINDS[3],
-            _ => &KINDS[0],
+        let often = match rng.below(8) {
+            0 => None,
+            1 => table::kind(table::ORDER),
+            _ => table::kind(table::TICK),
         };
+        let kind = often.unwrap_or_else(|| rng.one(&KINDS));
         self.of_kind(rng, kind)
     }
 
@@ -96,7 +99,6 @@ impl Stream {
 
     /// A serial that is mostly the next of its origin.
     fn serial(&mut self, rng: &mut Rng, origin: u8) -> u16 {
-        let last = &mut self.serials[usize::from(origin == 2)];
         let distance = match rng.below(12) {
             0 => 0,
             1 => rng.between(32_766, 32_769),
@@ -105,9 +107,9 @@ impl Stream {
             4 => 0_u16.wrapping_sub(rng.between(1, 9)),
             _ => 1,
         };
-        let serial = last.wrapping_add(distance);
+        let serial = self.last.of(origin).wrapping_add(distance);
         if distance < 32_768 {
-            *last = serial;
+            self.last.set(origin, serial);
         }
         serial
     }

@@ -1,38 +1,44 @@
 //! Images from a seed: of states in range, at the ranges' ends, and outside.
 
 use crate::rng::Rng;
-use model::image;
-use model::state::{Mode, Module, Power};
+use model::image::{self, at};
+use model::state::{
+    Last, Mode, Module, Power, CONTROL_TICKS, FAILED_SECONDS, SETTLE_SECONDS, TRIES, WAIT_SECONDS,
+};
+use model::table::{HIGHEST, LOWEST};
 use model::State;
 
 /// A state in range; the ends of a range are as likely as all between.
 pub fn state(rng: &mut Rng) -> State {
     let mode = match rng.below(6) {
-        0 => Mode::Waiting(rng.pick(&[0, 1, 86_398, 86_399])),
-        1 => Mode::Settling(u32::from(number(rng, 1, 900))),
+        0 => Mode::Waiting(rng.pick(&[0, 1, WAIT_SECONDS - 2, WAIT_SECONDS - 1])),
+        1 => Mode::Settling(u32::from(number(rng, 1, SETTLE_SECONDS as u16))),
         2 | 3 => Mode::Recovery,
         _ => Mode::Safe,
     };
     let moving = u16::from(!mode.deploying());
-    let descend = number(rng, 5_000, 9_000);
-    let ascend = number(rng, descend, 9_000);
+    let descend = number(rng, LOWEST, HIGHEST);
+    let ascend = number(rng, descend, HIGHEST);
     let tension = match rng.below(8) {
         0 => 0,
         1 => ascend,
         2 => descend,
-        3 => (ascend + 1).min(9_000),
-        4 => (descend - 1).max(5_000),
-        _ => number(rng, 5_000, 9_000),
+        3 => (ascend + 1).min(HIGHEST),
+        4 => (descend - 1).max(LOWEST),
+        _ => number(rng, LOWEST, HIGHEST),
     };
     State {
         mode,
-        control: (moving * number(rng, 0, 29)) as u8,
+        control: (moving * number(rng, 0, u16::from(CONTROL_TICKS) - 1)) as u8,
         beacon: moving * rng.pick(&[0, 58, 59, 60, 119, 239, 298, 299]),
         antennas: rng.once_in(2),
         tension,
         ascend,
         descend,
-        last: [rng.word(), rng.word()],
+        last: Last {
+            ground: rng.word(),
+            payload: rng.word(),
+        },
         modules: std::array::from_fn(|_| module(rng)),
     }
 }
@@ -40,8 +46,8 @@ pub fn state(rng: &mut Rng) -> State {
 fn module(rng: &mut Rng) -> Module {
     let power = match rng.below(3) {
         0 => Power::On,
-        1 => Power::Off(number(rng, 1, 5)),
-        _ => Power::Failed(number(rng, 0, 600)),
+        1 => Power::Off(number(rng, 1, TRIES)),
+        _ => Power::Failed(number(rng, 0, FAILED_SECONDS)),
     };
     let requested = rng.once_in(2);
     Module { power, requested }
@@ -72,7 +78,7 @@ pub fn damaged(rng: &mut Rng) -> Vec<u8> {
         }
         1 => {
             bytes = rng.bytes(image::BYTES);
-            bytes[0] = image::VERSION;
+            bytes[at::VERSION] = image::VERSION;
         }
         2 => {
             // Small numbers everywhere: the tags are often right.

@@ -47,8 +47,13 @@ impl Rng {
         self.below(times) == 0
     }
 
+    /// One of several, where it stands.
+    pub fn one<'a, T>(&mut self, choices: &'a [T]) -> &'a T {
+        &choices[self.below(choices.len())]
+    }
+
     /// One of several.
     pub fn pick<T: Copy>(&mut self, choices: &[T]) -> T {
-        choices[self.below(choices.len())]
+        *self.one(choices)
     }
 }

@@ -6,7 +6,9 @@ use differential::groups::GROUPS;
 use differential::rng::Rng;
 use differential::shrink::tell_flight;
 use differential::sides::{Calls, MODEL};
-use model::{image, State};
+use model::image::{self, at};
+use model::state::{Mode, CONTROL_TICKS};
+use model::{report, table, State};
 
 /// What a group says of a faulty side.
 fn told(group: &str, faulty: Calls) -> String {
@@ -45,7 +47,7 @@ fn a_wrong_next_state_is_found_and_one_frame_shows_it() {
 /// Clears the room past the report.
 fn clears_the_room(image: &mut [u8], frame: &[u8], room: &mut [u8]) -> u8 {
     let answer = model::calls::step(image, frame, room);
-    if let Some(past) = room.get_mut(11..) {
+    if let Some(past) = room.get_mut(report::BYTES..) {
         past.fill(0);
     }
     answer
@@ -63,12 +65,14 @@ fn a_byte_written_past_the_report_is_found() {
 
 /// Takes the fall into RECOVERY for one at equality too.
 fn judges_at_equality(image: &mut [u8], frame: &[u8], room: &mut [u8]) -> u8 {
-    let crosses = image.len() == 53
-        && (image[1], image[7], frame) == (2, 29, &[0x01, 0])
-        && image[11..13] == image[15..17];
+    let at_descend = |state: State| {
+        let judging = state.mode == Mode::Safe && state.control + 1 == CONTROL_TICKS;
+        judging && state.tension == state.descend
+    };
+    let crosses = frame == [table::TICK, 0] && image::load(image).is_some_and(at_descend);
     let answer = model::calls::step(image, frame, room);
     if crosses && answer == 0 {
-        image[1] = 1;
+        image[at::MODE] = Mode::Recovery.number();
     }
     answer
 }
@@ -86,8 +90,10 @@ fn a_fault_at_one_equality_is_found() {
 /// Stores a reading one millivolt off once the antennas are out.
 fn misreads_when_deployed(image: &mut [u8], frame: &[u8], room: &mut [u8]) -> u8 {
     let answer = model::calls::step(image, frame, room);
-    if answer == 0 && image[10] == 1 && frame[0] == 0x02 {
-        image[12] ^= 1;
+    let reading = frame.first() == Some(&table::BATTERY);
+    if answer == 0 && reading && image[at::ANTENNAS] == 1 {
+        let low = at::TENSION + 1;
+        image[low] ^= 1;
     }
     answer
 }

@@ -1,6 +1,6 @@
 //! One board: the image of a state in range, and what can be asked of it.
 
-use crate::{answer, calls, IMAGE_BYTES};
+use crate::{answer, calls, Report, IMAGE_BYTES, REPORT_BYTES};
 
 /// A board's state. It is always in range, so no call on it answers 1.
 #[derive(Clone, Debug, PartialEq, Eq)]
@@ -35,9 +35,17 @@ impl Craft {
     }
 
     /// Takes one frame and gives the answer; see [`answer::has_report`] for
-    /// whether the first [`crate::REPORT_BYTES`] of the room are a report.
+    /// whether the first [`REPORT_BYTES`] of the room are a report.
     pub fn step(&mut self, frame: &[u8], room: &mut [u8]) -> u8 {
         calls::step(&mut self.image, frame, room)
+    }
+
+    /// Takes one frame, and gives its report or the number that it is refused
+    /// with.
+    pub fn report_on(&mut self, frame: &[u8]) -> Result<Report, u8> {
+        let mut room = [0; REPORT_BYTES];
+        let answer = self.step(frame, &mut room);
+        Report::read(&room).ok_or(answer)
     }
 
     /// Writes the basic beacon's text; answer and length.

@@ -4,16 +4,33 @@
 //! want. The functions of [`calls`] are the C calls as they stand, over slices
 //! of any length, for tests and for callers that keep the image elsewhere.
 //!
-//! Answers are the numbers of document 01, named in [`answer`].
+//! [`Report`] is what comes back; [`Mode`], [`Module`] and [`Beacon`] name its
+//! numbers. Answers are the numbers of document 01, named in [`answer`].
+//!
+//! ```
+//! use ems::{Craft, Mode, Module};
+//!
+//! let mut craft = Craft::fresh();
+//! // An order of the ground, number 1: MCS off.
+//! let report = craft.report_on(&[0x04, 1, 0, 1, Module::Mcs.number(), 0]).expect("a report");
+//! assert_eq!(Mode::of(report.mode), Some(Mode::DeployWait));
+//! assert!(!Module::in_mask(report.requested).any(|module| module == Module::Mcs));
+//! ```
 
 #![deny(missing_docs, unsafe_op_in_unsafe_fn)]
 
 pub mod answer;
 pub mod calls;
 mod craft;
+mod mode;
+mod module;
+mod report;
 
 pub use calls::{key, read};
 pub use craft::Craft;
+pub use mode::Mode;
+pub use module::Module;
+pub use report::{Beacon, Report, REPORT_KIND};
 
 /// The bytes of an image; `EMS_IMAGE_BYTES` of the header.
 pub const IMAGE_BYTES: usize = 53;

@@ -1,6 +1,7 @@
 //! The wrapper's `Craft`: only what the library takes becomes one.
 
-use ems::{answer, Craft, IMAGE_BYTES, REPORT_BYTES};
+use ems::{answer, Craft, Report, IMAGE_BYTES, REPORT_BYTES};
+use model::image::at;
 
 #[test]
 fn an_image_comes_back_as_the_same_craft() {
@@ -17,10 +18,10 @@ fn bytes_that_are_no_image_become_none() {
     assert_eq!(Craft::from_image(&[]), None);
     assert_eq!(Craft::from_image(&fresh[..IMAGE_BYTES - 1]), None);
     let mut other_version = fresh;
-    other_version[0] = 2;
+    other_version[at::VERSION] = 2;
     assert_eq!(Craft::from_image(&other_version), None);
     let mut counting_while_waiting = fresh;
-    counting_while_waiting[7] = 1;
+    counting_while_waiting[at::CONTROL] = 1;
     assert_eq!(Craft::from_image(&counting_while_waiting), None);
 }
 
@@ -30,4 +31,41 @@ fn a_refused_frame_leaves_the_craft() {
     let mut room = [7; REPORT_BYTES];
     assert_eq!(craft.step(&[0x81], &mut room), answer::UNKNOWN_KIND);
     assert_eq!((craft, room), (Craft::fresh(), [7; REPORT_BYTES]));
+}
+
+#[test]
+fn a_report_is_what_the_room_has() {
+    let (mut one, mut other) = (Craft::fresh(), Craft::fresh());
+    // An order that comes too early, the same again, an older one, one for the
+    // payload alone, half a frame.
+    for frame in [
+        &[0x04, 1, 0, 2, 4, 1][..],
+        &[0x04, 1, 0, 2, 4, 1],
+        &[0x04, 1, 0, 1, 4, 0],
+        &[0x04, 2, 0, 1, 3, 1],
+        &[0x04, 1],
+    ] {
+        let mut room = [0; REPORT_BYTES];
+        let given = one.step(frame, &mut room);
+        let report = other.report_on(frame);
+        assert_eq!(report.is_ok(), answer::has_report(given), "{frame:02X?}");
+        match report {
+            Ok(report) => assert_eq!((report.bytes(), report.answer), (room, given)),
+            Err(refusal) => assert_eq!(refusal, given),
+        }
+        assert_eq!(one, other);
+    }
+}
+
+#[test]
+fn bytes_that_are_no_report_become_none() {
+    let mut craft = Craft::fresh();
+    let report = craft.report_on(&[0x03, 1]).expect("a report");
+    let bytes = report.bytes();
+    assert_eq!(Report::read(&bytes), Some(report));
+    assert_eq!(Report::read(&bytes[1..]), None);
+    assert_eq!(Report::read(&[&bytes[..], &[0]].concat()), None);
+    let mut order = bytes;
+    order[0] = 0x04;
+    assert_eq!(Report::read(&order), None);
 }

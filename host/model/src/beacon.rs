@@ -1,12 +1,19 @@
 //! The beacon's two texts.
 
-use crate::state::State;
-use crate::table::MODES;
+use crate::state::{Mode, State};
 
 /// The basic text.
 pub fn basic(state: &State) -> String {
-    let (_, letter) = MODES[usize::from(state.mode.number())];
-    format!("EMS {letter} {:04}", state.tension)
+    format!("EMS {} {:04}", letter(state.mode), state.tension)
+}
+
+/// The letter that a mode has in both texts.
+fn letter(mode: Mode) -> char {
+    match mode {
+        Mode::Waiting(_) | Mode::Settling(_) => 'D',
+        Mode::Recovery => 'R',
+        Mode::Safe => 'S',
+    }
 }
 
 /// The complete text.

@@ -1,11 +1,11 @@
 //! Frames in: checks 3 to 7.
 
-use crate::table::{self, Kind, PAYLOAD};
+use crate::table::{self, Kind, ANTENNAS, BATTERY, FROM_PAYLOAD, ORDER, PAYLOAD, THRESHOLDS, TICK};
 
 /// Who a frame comes from, and its serial.
 #[derive(Clone, Copy, Debug, PartialEq, Eq)]
 pub struct Sender {
-    /// 1 ground, 2 the payload.
+    /// The ground or the payload.
     pub origin: u8,
     /// The frame's serial.
     pub serial: u16,
@@ -65,7 +65,11 @@ pub fn read(input: &[u8]) -> Result<Frame, u8> {
             return Err(6);
         }
     }
-    if frame.sender.is_some_and(|sender| sender.origin == 2) && !for_payload(frame.body) {
+    if frame
+        .sender
+        .is_some_and(|sender| sender.origin == FROM_PAYLOAD)
+        && !for_payload(frame.body)
+    {
         return Err(7);
     }
     Ok(frame)
@@ -91,15 +95,15 @@ fn build(kind: &Kind, values: &[u16]) -> Option<Frame> {
         Some(Sender { origin, serial })
     };
     let (sender, body) = match (kind.byte, values) {
-        (0x01, &[shorts]) => (None, Body::Tick(byte(shorts))),
-        (0x02, &[tension]) => (None, Body::Battery(tension)),
-        (0x03, &[deployed]) => (None, Body::Antennas(deployed == 1)),
-        (0x04, &[origin, serial, module, wanted]) => {
+        (TICK, &[shorts]) => (None, Body::Tick(byte(shorts))),
+        (BATTERY, &[tension]) => (None, Body::Battery(tension)),
+        (ANTENNAS, &[deployed]) => (None, Body::Antennas(deployed == 1)),
+        (ORDER, &[origin, serial, module, wanted]) => {
             let module = byte(module);
             let on = wanted == 1;
             (sender(origin, serial), Body::Order { module, on })
         }
-        (0x05, &[origin, serial, ascend, descend]) => {
+        (THRESHOLDS, &[origin, serial, ascend, descend]) => {
             let body = Body::Thresholds { ascend, descend };
             (sender(origin, serial), body)
         }

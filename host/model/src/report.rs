@@ -2,7 +2,7 @@
 
 use crate::frame::{Frame, Sender};
 use crate::state::State;
-use crate::table::REPORT_KIND;
+use crate::table;
 
 /// The bytes of a report.
 pub const BYTES: usize = 11;
@@ -55,7 +55,7 @@ impl Report {
     pub fn bytes(&self) -> [u8; BYTES] {
         let [high, low] = self.serial.to_be_bytes();
         [
-            REPORT_KIND,
+            table::REPORT,
             self.kind,
             self.origin,
             high,

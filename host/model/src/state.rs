@@ -3,7 +3,7 @@
 //! Numbers are kept as wide as the image holds them, so that a state out of
 //! range can be told from the one it would be cut to.
 
-use crate::table::{HIGHEST, LOWEST, MODULES};
+use crate::table::{FROM_PAYLOAD, HIGHEST, LOWEST, MODULES};
 
 /// A module's power.
 #[derive(Clone, Copy, Debug, PartialEq, Eq)]
@@ -54,6 +54,33 @@ impl Mode {
     }
 }
 
+/// Each origin's last serial.
+#[derive(Clone, Copy, Debug, PartialEq, Eq)]
+pub struct Last {
+    /// The ground's.
+    pub ground: u16,
+    /// The payload's.
+    pub payload: u16,
+}
+
+impl Last {
+    /// An origin's.
+    pub fn of(self, origin: u8) -> u16 {
+        match origin {
+            FROM_PAYLOAD => self.payload,
+            _ => self.ground,
+        }
+    }
+
+    /// Sets an origin's.
+    pub fn set(&mut self, origin: u8, serial: u16) {
+        match origin {
+            FROM_PAYLOAD => self.payload = serial,
+            _ => self.ground = serial,
+        }
+    }
+}
+
 /// Tries of a module that has been switched off.
 pub const TRIES: u16 = 5;
 /// Seconds that a failed module is left alone.
@@ -86,8 +113,8 @@ pub struct State {
     pub ascend: u16,
     /// The tension below which SAFE ends.
     pub descend: u16,
-    /// Each origin's last serial: the ground's, the payload's.
-    pub last: [u16; 2],
+    /// The last serials.
+    pub last: Last,
     /// The modules by number.
     pub modules: [Module; 8],
 }
@@ -103,10 +130,13 @@ impl State {
             tension: 0,
             ascend: 7_400,
             descend: 7_000,
-            last: [0, 0],
-            modules: std::array::from_fn(|i| Module {
+            last: Last {
+                ground: 0,
+                payload: 0,
+            },
+            modules: MODULES.map(|row| Module {
                 power: Power::Off(TRIES),
-                requested: MODULES[i].core,
+                requested: row.core,
             }),
         }
     }
@@ -135,9 +165,9 @@ impl State {
 
     /// The mask of the modules of which something holds.
     fn mask(&self, holds: impl Fn(&Module) -> bool) -> u8 {
-        (0..8)
-            .filter(|&i| holds(&self.modules[i]))
-            .map(|i| 1 << i)
+        let rows = self.modules.iter().zip(&MODULES);
+        rows.filter(|(module, _)| holds(module))
+            .map(|(_, row)| row.bit())
             .sum()
     }
 

@@ -26,7 +26,7 @@ pub fn step(state: &mut State, input: &[u8], room: usize) -> Result<Report, u8> 
 /// Replies 8 and 9, by the distance of a frame's serial.
 fn late(state: &State, sender: Option<Sender>) -> Option<u8> {
     let Sender { origin, serial } = sender?;
-    let last = state.last[place(origin)];
+    let last = state.last.of(origin);
     let distance = (65_536 + u32::from(serial) - u32::from(last)) % 65_536;
     match distance {
         0 => Some(8),
@@ -35,26 +35,23 @@ fn late(state: &State, sender: Option<Sender>) -> Option<u8> {
     }
 }
 
-/// Where an origin's last serial stands.
-fn place(origin: u8) -> usize {
-    usize::from(origin == 2)
-}
-
 /// Acts on a frame that is not late; the answer, and the beacon that is due.
 fn act(state: &mut State, frame: &Frame) -> (u8, u8) {
     if let Some(Sender { origin, serial }) = frame.sender {
-        state.last[place(origin)] = serial;
+        state.last.set(origin, serial);
     }
     match frame.body {
         Body::Tick(shorts) => return (0, tick::tick(state, shorts)),
         Body::Battery(tension) => state.tension = tension,
         Body::Antennas(deployed) => state.antennas = deployed,
         Body::Order { module, on } => {
-            let module = usize::from(module);
-            if on && !MODULES[module].core && state.mode != Mode::Safe {
-                return (10, 0);
+            let rows = state.modules.iter_mut().zip(&MODULES);
+            for (own, row) in rows.filter(|(_, row)| row.number == module) {
+                if on && !row.core && state.mode != Mode::Safe {
+                    return (10, 0);
+                }
+                own.requested = on;
             }
-            state.modules[module].requested = on;
         }
         Body::Thresholds { ascend, descend } => {
             state.ascend = ascend;

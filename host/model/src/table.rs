@@ -1,5 +1,5 @@
-//! The page's tables, each once: kinds of frames with their fields, modules,
-//! modes. A new kind or module is a new row here.
+//! The page's tables, each once: kinds of frames with their fields, modules. A
+//! new kind or module is a new row here.
 
 /// A field of a frame's body: a big-endian number within a range.
 pub struct Field {
@@ -39,42 +39,60 @@ pub const LOWEST: u16 = 5_000;
 /// The greatest tension and threshold, in millivolts.
 pub const HIGHEST: u16 = 9_000;
 
-const ORIGIN: Field = field("origin", 1, 1, 2);
+/// The origin of the ground, through MCS.
+pub const FROM_GROUND: u8 = 1;
+/// The origin of the payload.
+pub const FROM_PAYLOAD: u8 = 2;
+
+const ORIGIN: Field = field("origin", 1, FROM_GROUND as u16, FROM_PAYLOAD as u16);
 const SERIAL: Field = field("serial", 2, 0, u16::MAX);
+
+/// The kind that makes a second pass.
+pub const TICK: u8 = 0x01;
+/// The kind that brings a reading of the tension.
+pub const BATTERY: u8 = 0x02;
+/// The kind that brings the antennas' position.
+pub const ANTENNAS: u8 = 0x03;
+/// The kind that asks for a module, on or off.
+pub const ORDER: u8 = 0x04;
+/// The kind that sets both thresholds.
+pub const THRESHOLDS: u8 = 0x05;
+/// The kind of a report, which is only written.
+pub const REPORT: u8 = 0x81;
 
 /// The kinds that are read.
 pub const KINDS: [Kind; 5] = [
     Kind {
-        byte: 0x01,
+        byte: TICK,
         name: "tick",
         total: 2,
         fields: &[field("shorts", 1, 0, 0xFF)],
     },
     Kind {
-        byte: 0x02,
+        byte: BATTERY,
         name: "battery",
         total: 3,
         fields: &[field("tension", 2, LOWEST, HIGHEST)],
     },
     Kind {
-        byte: 0x03,
+        byte: ANTENNAS,
         name: "antennas",
         total: 2,
         fields: &[field("deployed", 1, 0, 1)],
     },
     Kind {
-        byte: 0x04,
+        byte: ORDER,
         name: "order",
         total: 6,
         fields: &[
             ORIGIN,
             SERIAL,
-            field("module", 1, 0, 7),
+            field("module", 1, 0, MODULES.len() as u16 - 1),
             field("wanted", 1, 0, 1),
         ],
     },
     Kind {
-        byte: 0x05,
+        byte: THRESHOLDS,
         name: "thresholds",
         total: 8,
         fields: &[
@@ -86,9 +104,6 @@ pub const KINDS: [Kind; 5] = [
     },
 ];
 
-/// The kind of a report, which is only written.
-pub const REPORT_KIND: u8 = 0x81;
-
 /// The kind with this first byte, if it is one that is read.
 pub fn kind(byte: u8) -> Option<&'static Kind> {
     KINDS.iter().find(|kind| kind.byte == byte)
@@ -96,30 +111,36 @@ pub fn kind(byte: u8) -> Option<&'static Kind> {
 
 /// A module's place among the others.
 pub struct ModuleRow {
+    /// Its number: its place in the state, and its bit in a mask.
+    pub number: u8,
     /// Its name in source document 001.
     pub name: &'static str,
     /// Whether it is of the core four; the others are the mission four.
     pub core: bool,
 }
 
-const fn module(name: &'static str, core: bool) -> ModuleRow {
-    ModuleRow { name, core }
+impl ModuleRow {
+    /// The mask with its bit alone.
+    pub fn bit(&self) -> u8 {
+        1 << self.number
+    }
+}
+
+const fn module(number: u8, name: &'static str, core: bool) -> ModuleRow {
+    ModuleRow { number, name, core }
 }
 
 /// The modules by number.
 pub const MODULES: [ModuleRow; 8] = [
-    module("MCS", true),
-    module("COMM1", true),
-    module("COMM2", true),
-    module("ADCS", false),
-    module("PAYLOAD", false),
-    module("I2C", true),
-    module("SBAND1", false),
-    module("SBAND2", false),
+    module(0, "MCS", true),
+    module(1, "COMM1", true),
+    module(2, "COMM2", true),
+    module(3, "ADCS", false),
+    module(PAYLOAD, "PAYLOAD", false),
+    module(5, "I2C", true),
+    module(6, "SBAND1", false),
+    module(7, "SBAND2", false),
 ];
 
 /// The one module that the payload may order.
 pub const PAYLOAD: u8 = 4;
-
-/// The modes by number, with their letter in a beacon.
-pub const MODES: [(&str, char); 3] = [("DEPLOY_WAIT", 'D'), ("RECOVERY", 'R'), ("SAFE", 'S')];

@@ -13,10 +13,10 @@ pub fn tick(state: &mut State, shorts: u8) -> u8 {
         return 0;
     }
     control(state);
-    for (i, module) in state.modules.iter_mut().enumerate() {
-        let allowed = MODULES[i].core || state.mode == Mode::Safe;
+    for (module, row) in state.modules.iter_mut().zip(&MODULES) {
+        let allowed = row.core || state.mode == Mode::Safe;
         let wanted = module.requested && allowed;
-        module.power = second(module.power, wanted, shorts >> i & 1 == 1);
+        module.power = second(module.power, wanted, shorts & row.bit() != 0);
     }
     beacon(state)
 }

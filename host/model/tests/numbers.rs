@@ -1,8 +1,9 @@
 //! The page's "Numbers on either side", and its example of a log.
 
 use model::frame::{Body, Frame};
-use model::state::{Mode, Power};
-use model::{image, morse, report, step, step_log, table, State};
+use model::state::{Mode, Module, Power};
+use model::table::{self, ModuleRow};
+use model::{image, morse, report, step, step_log, State};
 
 fn answer(state: &mut State, frame: &[u8]) -> u8 {
     match step::step(state, frame, report::BYTES) {
@@ -21,7 +22,7 @@ fn order(serial: u16) -> [u8; 6] {
 fn serials_around_the_wrap() {
     for (last, serial, wanted) in [(65_535, 0, 0), (0, 0, 8), (0, 32_767, 0), (0, 32_768, 9)] {
         let mut state = State::fresh();
-        state.last[0] = last;
+        state.last.ground = last;
         assert_eq!(
             answer(&mut state, &order(serial)),
             wanted,
@@ -47,15 +48,22 @@ fn crossings_at_equality() {
     }
 }
 
+/// A module by its name.
+fn module<'a>(state: &'a mut State, name: &str) -> &'a mut Module {
+    let mut rows = state.modules.iter_mut().zip(&table::MODULES);
+    let found = rows.find(|(_, row)| row.name == name);
+    found.expect("there is such a module").0
+}
+
 #[test]
 fn a_module_at_its_last_try_and_its_last_second() {
     let mut state = State::fresh();
     state.mode = Mode::Recovery;
-    state.modules[0].power = Power::Off(1);
-    state.modules[1].power = Power::Failed(1);
+    module(&mut state, "MCS").power = Power::Off(1);
+    module(&mut state, "COMM1").power = Power::Failed(1);
     assert_eq!(answer(&mut state, &[0x01, 0x01]), 0);
-    assert_eq!(state.modules[0].power, Power::Failed(600));
-    assert_eq!(state.modules[1].power, Power::Failed(0));
+    assert_eq!(module(&mut state, "MCS").power, Power::Failed(600));
+    assert_eq!(module(&mut state, "COMM1").power, Power::Failed(0));
 }
 
 #[test]
@@ -120,9 +128,12 @@ fn the_table_agrees_with_itself() {
         let body: usize = kind.fields.iter().map(|field| field.bytes).sum();
         assert_eq!(kind.total, 1 + body, "{}", kind.name);
     }
-    let core = (0..8).filter(|&i| table::MODULES[i].core).map(|i| 1 << i);
-    assert_eq!(core.sum::<u8>(), 0x27);
-    assert_eq!(table::MODULES[usize::from(table::PAYLOAD)].name, "PAYLOAD");
+    for (place, row) in table::MODULES.iter().enumerate() {
+        assert_eq!(usize::from(row.number), place, "{}", row.name);
+        assert_eq!(row.name == "PAYLOAD", row.number == table::PAYLOAD);
+    }
+    let core = table::MODULES.iter().filter(|row| row.core);
+    assert_eq!(core.map(ModuleRow::bit).sum::<u8>(), 0x27);
 }
 
 #[test]
@@ -150,7 +161,7 @@ fn a_body_is_read_as_the_page_has_it() {
 fn the_fresh_image_is_loaded_and_no_other_version() {
     let mut saved = image::save(&State::fresh());
     assert_eq!(image::load(&saved), Some(State::fresh()));
-    assert_eq!(image::load(&saved[..52]), None);
-    saved[0] = 2;
+    assert_eq!(image::load(&saved[..image::BYTES - 1]), None);
+    saved[image::at::VERSION] = 2;
     assert_eq!(image::load(&saved), None);
 }

@@ -2,7 +2,7 @@
 //! by two programs that nobody here wrote, Debian's `multimon-ng` and
 //! `morse2ascii`.
 
-use ems::{answer, Craft, REPORT_BYTES, UNITS_BYTES};
+use ems::{answer, Craft, BEACON_BASIC_BYTES, BEACON_COMPLETE_BYTES, REPORT_BYTES, UNITS_BYTES};
 use std::io::{self, Write};
 use std::{env, fs, path::Path, process::Command};
 
@@ -55,15 +55,18 @@ fn beacons() -> Vec<Vec<u8>> {
     send(&mut craft, &[0x02, 0x21, 0x34], 1);
     send(&mut craft, &[0x01, 0x26], 60);
     texts.extend(said(&craft));
-    assert_eq!(texts[3], b"EMS R 7000 27 00");
-    assert_eq!(texts[5], b"EMS S 8500 01 26");
+    for text in [b"EMS R 7000 27 00", b"EMS S 8500 01 26"] {
+        assert!(texts.iter().any(|own| own == text));
+    }
     texts
 }
 
 fn said(craft: &Craft) -> Vec<Vec<u8>> {
-    let (mut basic, mut complete) = (vec![0; 10], vec![0; 16]);
-    assert_eq!(craft.beacon_basic(&mut basic), (answer::DONE, 10));
-    assert_eq!(craft.beacon_complete(&mut complete), (answer::DONE, 16));
+    let mut basic = vec![0; BEACON_BASIC_BYTES];
+    let mut complete = vec![0; BEACON_COMPLETE_BYTES];
+    let done = |text: &[u8]| (answer::DONE, text.len());
+    assert_eq!(craft.beacon_basic(&mut basic), done(&basic));
+    assert_eq!(craft.beacon_complete(&mut complete), done(&complete));
     vec![basic, complete]
 }
 

@@ -3,7 +3,7 @@
 
 use crate::image::Image;
 use crate::tables::TICK;
-use ems::{answer, Craft, REPORT_BYTES};
+use ems::{Beacon, Craft, Report, BEACON_COMPLETE_BYTES};
 
 /// A board, and how far its flight has come.
 pub struct Board {
@@ -24,40 +24,6 @@ pub struct Step {
     pub outcome: Result<Report, u8>,
 }
 
-/// What a report says.
-#[derive(Clone, Copy, Debug, PartialEq, Eq)]
-pub struct Report {
-    /// As it stands in the room.
-    pub bytes: [u8; REPORT_BYTES],
-    pub kind: u8,
-    pub origin: u8,
-    pub serial: u16,
-    pub answer: u8,
-    pub mode: u8,
-    pub requested: u8,
-    pub on: u8,
-    pub failed: u8,
-    pub beacon: u8,
-}
-
-impl Report {
-    pub fn of(bytes: &[u8; REPORT_BYTES]) -> Report {
-        let [_, kind, origin, high, low, answer, mode, requested, on, failed, beacon] = *bytes;
-        Report {
-            bytes: *bytes,
-            kind,
-            origin,
-            serial: u16::from_be_bytes([high, low]),
-            answer,
-            mode,
-            requested,
-            on,
-            failed,
-            beacon,
-        }
-    }
-}
-
 impl Board {
     pub fn fresh() -> Board {
         Board {
@@ -70,13 +36,7 @@ impl Board {
     /// Gives the board one frame.
     pub fn step(&mut self, frame: &[u8]) -> Step {
         let before = self.image();
-        let mut room = [0; REPORT_BYTES];
-        let answer = self.craft.step(frame, &mut room);
-        let outcome = if answer::has_report(answer) {
-            Ok(Report::of(&room))
-        } else {
-            Err(answer)
-        };
+        let outcome = self.craft.report_on(frame);
         self.frames += 1;
         self.seconds += u64::from(outcome.is_ok_and(|report| report.kind == TICK));
         Step {
@@ -92,12 +52,12 @@ impl Board {
         Image::of(self.craft.image())
     }
 
-    /// The text of the beacon with this number: 1 basic, 2 complete.
-    pub fn beacon(&self, number: u8) -> String {
-        let mut text = [0; ems::BEACON_COMPLETE_BYTES];
-        let (_, length) = match number {
-            1 => self.craft.beacon_basic(&mut text),
-            _ => self.craft.beacon_complete(&mut text),
+    /// A beacon's text.
+    pub fn beacon(&self, which: Beacon) -> String {
+        let mut text = [0; BEACON_COMPLETE_BYTES];
+        let (_, length) = match which {
+            Beacon::Basic => self.craft.beacon_basic(&mut text),
+            Beacon::Complete => self.craft.beacon_complete(&mut text),
         };
         String::from_utf8_lossy(&text[..length]).into_owned()
     }

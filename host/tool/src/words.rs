@@ -1,6 +1,6 @@
 //! Numbers, lists and times as people read them.
 
-use crate::tables::MODULES;
+use ems::Module;
 
 /// `7450` as `7,450`.
 pub fn thousands(number: u64) -> String {
@@ -26,9 +26,9 @@ pub fn list(items: &[String]) -> String {
 
 /// The modules of a mask.
 pub fn modules(mask: u8) -> Vec<String> {
-    let set = |i: &usize| mask >> i & 1 == 1;
-    let names = (0..MODULES.len()).filter(set).map(|i| MODULES[i]);
-    names.map(str::to_string).collect()
+    Module::in_mask(mask)
+        .map(|module| module.to_string())
+        .collect()
 }
 
 /// Seconds since the start as `hours:minutes:seconds`.

@@ -3,8 +3,9 @@
 
 mod common;
 
-use common::{fed, place, root, scratch};
+use common::{fed, place, root, run, scratch};
 use ems::{answer, Craft, REPORT_BYTES};
+use model::image;
 use std::os::unix::fs::symlink;
 use std::path::Path;
 use std::process::Command;
@@ -61,6 +62,22 @@ fn run_document(document: &str) -> usize {
         }
     }
     commands
+}
+
+/// A newcomer's first command tells a story, and not ten thousand lines.
+#[test]
+fn the_readme_s_first_command_is_short() {
+    let blocks = blocks("README.md", "sh").concat();
+    let commands = blocks
+        .lines()
+        .filter_map(|line| line.strip_prefix("./ems "));
+    let commands: Vec<&str> = commands.collect();
+    assert!(!commands.is_empty());
+    for command in commands {
+        let words = command.split('#').next().unwrap_or_default();
+        let ran = run(&words.split_whitespace().collect::<Vec<&str>>()).status(0);
+        assert!(ran.text().lines().count() < 50, "{command}");
+    }
 }
 
 #[test]
@@ -160,8 +177,8 @@ fn the_way_back_after_9_is_found() {
         assert_eq!(send(&mut board, 32_767), answer::DONE);
         assert_eq!(send(&mut board, own), answer::DONE);
         for step in [ahead / 2, ahead - ahead / 2] {
-            let last = u16::from_be_bytes([board.image()[17], board.image()[18]]);
-            send(&mut board, last.wrapping_add(step));
+            let state = image::load(board.image()).expect("a state in range");
+            send(&mut board, state.last.ground.wrapping_add(step));
         }
         assert_eq!(send(&mut board, own), answer::STALE, "{ahead}");
         let jump = own.wrapping_add(32_767);

@@ -1,13 +1,16 @@
 //! Frames: whole flights, every room, every serial.
 
-use super::{beacons, fly, Verdict};
+use super::{beacons, fly, Verdict, ROOM};
 use crate::compare::hex;
 use crate::frames::{Maker, Stream};
 use crate::images;
 use crate::rng::Rng;
 use crate::shrink::Shot;
 use crate::sides::Calls;
-use model::{image, table, State};
+use model::image::{self, at};
+use model::state::{Last, Mode};
+use model::table::{self, FROM_GROUND, FROM_PAYLOAD};
+use model::State;
 
 /// Flights from the fresh start, deployed, and from any state in range.
 pub fn of(sides: &[Calls; 2], rng: &mut Rng, maker: Maker, calls: u64) -> Verdict {
@@ -19,7 +22,7 @@ pub fn of(sides: &[Calls; 2], rng: &mut Rng, maker: Maker, calls: u64) -> Verdic
         let start = if rng.once_in(3) {
             if frames > 1_000 {
                 // Antennas out, so that the flight gets beyond the waiting.
-                shots.insert(0, (vec![0x03, 1], 11));
+                shots.insert(0, (vec![table::ANTENNAS, 1], ROOM));
             }
             image::save(&State::fresh()).to_vec()
         } else {
@@ -34,10 +37,13 @@ pub fn of(sides: &[Calls; 2], rng: &mut Rng, maker: Maker, calls: u64) -> Verdic
 /// A day of waiting for antennas that are never reported, the settling, and the
 /// first minutes of RECOVERY.
 pub fn longest_wait(sides: &[Calls; 2], rng: &mut Rng) -> Verdict {
-    let tick = |rng: &mut Rng| (vec![0x01, if rng.once_in(9) { rng.byte() } else { 0 }], 11);
+    let tick = |rng: &mut Rng| {
+        let shorts = if rng.once_in(9) { rng.byte() } else { 0 };
+        (vec![table::TICK, shorts], ROOM)
+    };
     let shots = (0..88_000).map(|_| tick(rng)).collect();
     let (steps, end) = fly(sides, &image::save(&State::fresh()), shots)?;
-    if end[1] != 1 {
+    if end[at::MODE] != Mode::Recovery.number() {
         return Err(format!("not in RECOVERY: {}", hex(&end)));
     }
     Ok(steps)
@@ -66,18 +72,25 @@ pub fn serials(sides: &[Calls; 2], rng: &mut Rng) -> Verdict {
     let mut made = 0;
     let lasts = [0, 1, 2, 32_766, 32_767, 32_768, 32_769, 65_534, 65_535];
     for last in lasts.into_iter().chain([rng.word(), rng.word()]) {
-        for (kind, origin) in [(0x04, 1), (0x04, 2), (0x05, 1)] {
+        for (kind, origin) in [
+            (table::ORDER, FROM_GROUND),
+            (table::ORDER, FROM_PAYLOAD),
+            (table::THRESHOLDS, FROM_GROUND),
+        ] {
             let mut state = images::state(rng);
-            state.last = [last, last];
+            state.last = Last {
+                ground: last,
+                payload: last,
+            };
             let start = image::save(&state);
             for serial in 0..=u16::MAX {
                 let [high, low] = serial.to_be_bytes();
                 let mut frame = vec![kind, origin, high, low];
                 match kind {
-                    0x04 => frame.extend([table::PAYLOAD, rng.byte() & 1]),
+                    table::ORDER => frame.extend([table::PAYLOAD, rng.byte() & 1]),
                     _ => frame.extend([0x1C, 0xE8, 0x1B, 0x58]),
                 }
-                made += fly(sides, &start, vec![(frame, 11)])?.0;
+                made += fly(sides, &start, vec![(frame, ROOM)])?.0;
             }
         }
     }

@@ -1,12 +1,12 @@
 //! Images: the fresh one, and those in and out of range.
 
-use super::{beacons, fly, Verdict};
+use super::{beacons, fly, Verdict, ROOM};
 use crate::compare;
 use crate::frames::{Maker, Stream};
 use crate::images;
 use crate::rng::Rng;
 use crate::sides::Calls;
-use model::table::KINDS;
+use model::table::{KINDS, TICK};
 
 /// The fresh start into every length up to the longest.
 pub fn fresh_starts(sides: &[Calls; 2], rng: &mut Rng) -> Verdict {
@@ -34,7 +34,7 @@ pub fn image_bytes(sides: &[Calls; 2], rng: &mut Rng) -> Verdict {
             for value in 0..=u8::MAX {
                 let mut bytes = good.clone();
                 bytes[place] = value;
-                made += fly(sides, &bytes, vec![(vec![0x01, value], 11)])?.0;
+                made += fly(sides, &bytes, vec![(vec![TICK, value], ROOM)])?.0;
             }
             made += beacons(sides, rng, &good)?;
         }
@@ -47,9 +47,9 @@ pub fn damaged_images(sides: &[Calls; 2], rng: &mut Rng) -> Verdict {
     let mut made = 0;
     while made < 1_000_000 {
         let bytes = images::damaged(rng);
-        let kind = &KINDS[rng.below(KINDS.len())];
+        let kind = rng.one(&KINDS);
         let frame = Stream::new(Maker::Structured).of_kind(rng, kind);
-        made += fly(sides, &bytes, vec![(frame, 11)])?.0;
+        made += fly(sides, &bytes, vec![(frame, ROOM)])?.0;
         made += beacons(sides, rng, &bytes)?;
     }
     Ok(made)

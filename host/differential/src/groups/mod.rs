@@ -9,6 +9,10 @@ use crate::frames::Maker;
 use crate::rng::Rng;
 use crate::shrink::{flight, tell_counted, tell_flight, Shot};
 use crate::sides::{Calls, Counted};
+use model::report;
+
+/// The reply room that a report just fits.
+const ROOM: u8 = report::BYTES as u8;
 
 /// The calls that a group has made, or the telling of a difference.
 pub type Verdict = Result<u64, String>;

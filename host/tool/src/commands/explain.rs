@@ -2,14 +2,15 @@
 
 use super::refused;
 use crate::args::Flight;
-use crate::board::{Board, Report, Step};
+use crate::board::{Board, Step};
 use crate::failure::Failure;
 use crate::output::Output;
 use crate::script::in_words;
 use crate::story;
 use crate::stream::Stream;
-use crate::tables::{meaning, name, BEACONS, TICK};
+use crate::tables::{meaning, shorts, TICK};
 use crate::words::{clock, count, list, modules};
+use ems::{Beacon, Report};
 use std::io::{self, Write};
 
 const HEADER: &str = "    time    frame  what was sent, and what came of it";
@@ -20,8 +21,8 @@ struct Quiet {
     first: u64,
     last: u64,
     seconds: u64,
-    /// How many basic and complete beacons fell due, and the last one's text.
-    beacons: [u64; BEACONS.len()],
+    /// How many beacons of each kind fell due, and the last one's text.
+    beacons: [(Beacon, u64); Beacon::ALL.len()],
     text: String,
 }
 
@@ -44,28 +45,23 @@ pub fn run(flight: &Flight) -> Result<(), Failure> {
                 return Err(refused(&stream, step.n, refusal));
             }
         };
-        let text = if report.beacon > 0 {
-            board.beacon(report.beacon)
-        } else {
-            String::new()
-        };
+        let due = Beacon::of(report.beacon).map(|beacon| (beacon, board.beacon(beacon)));
         match happened(stream.frame(), &step, &report) {
             Some(mut said) => {
                 end(&mut output, &mut quiet)?;
-                if report.beacon > 0 {
-                    let kind = name(&BEACONS, report.beacon);
-                    said += &format!("; {kind} beacon due: {text}");
+                if let Some((beacon, text)) = due {
+                    said += &format!("; {beacon} beacon due: {text}");
                 }
                 line(&mut output, step.seconds, step.n, &said)?;
             }
             None => {
-                let shorts = stream.frame()[1];
+                let shorts = shorts(stream.frame());
                 if quiet.as_ref().is_some_and(|quiet| quiet.shorts != shorts) {
                     end(&mut output, &mut quiet)?;
                 }
                 quiet
                     .get_or_insert_with(|| Quiet::new(shorts, &step))
-                    .add(&step, &report, text);
+                    .add(&step, due);
             }
         }
     }
@@ -76,7 +72,7 @@ pub fn run(flight: &Flight) -> Result<(), Failure> {
 /// What a frame did; none for a tick in which nothing happened.
 fn happened(frame: &[u8], step: &Step, report: &Report) -> Option<String> {
     let came = if report.kind == TICK {
-        let changes = story::changes(&step.before, &step.after, frame[1]);
+        let changes = story::changes(&step.before, &step.after, shorts(frame));
         (!changes.is_empty()).then(|| changes.join("; "))
     } else {
         Some(story::outcome(frame, step, report))
@@ -91,18 +87,18 @@ impl Quiet {
             first: step.n,
             last: step.n,
             seconds: step.seconds,
-            beacons: [0; BEACONS.len()],
+            beacons: Beacon::ALL.map(|beacon| (beacon, 0)),
             text: String::new(),
         }
     }
 
-    fn add(&mut self, step: &Step, report: &Report, text: String) {
+    fn add(&mut self, step: &Step, due: Option<(Beacon, String)>) {
         self.last = step.n;
         self.seconds = step.seconds;
-        if report.beacon > 0 {
+        if let Some((beacon, text)) = due {
             self.text = text;
-            if let Some(count) = self.beacons.get_mut(usize::from(report.beacon)) {
-                *count += 1;
+            for (kind, fell) in &mut self.beacons {
+                *fell += u64::from(*kind == beacon);
             }
         }
     }
@@ -122,12 +118,12 @@ fn end(output: &mut Output, quiet: &mut Option<Quiet>) -> io::Result<()> {
         text += &format!(", shorts {}", list(&modules(quiet.shorts)));
     }
     text += ": nothing changed";
-    for (kind, &fell) in BEACONS.iter().zip(&quiet.beacons) {
+    for (kind, fell) in quiet.beacons {
         if fell > 0 {
             text += &format!("; {}", count(fell, &format!("{kind} beacon")));
         }
     }
-    match quiet.beacons.iter().sum() {
+    match quiet.beacons.iter().map(|(_, fell)| fell).sum() {
         0_u64 => {}
         1 => text += &format!(", {}", quiet.text),
         _ => text += &format!(", the last {}", quiet.text),

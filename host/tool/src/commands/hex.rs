@@ -7,12 +7,13 @@ use crate::failure::Failure;
 use crate::output::Output;
 use crate::stream::Stream;
 use crate::words::{hex, thousands};
+use ems::Report;
 use std::io::{self, Write};
 
 /// A frame and its report, and how often they come in a row.
 struct Exchange {
     frame: Vec<u8>,
-    report: Vec<u8>,
+    report: Report,
     times: u64,
 }
 
@@ -25,13 +26,13 @@ pub fn run(flight: &Flight) -> Result<(), Failure> {
         let frame = stream.frame();
         let step = board.step(frame);
         match (step.outcome, &mut last) {
-            (Ok(report), Some(last)) if last.frame == frame && last.report == report.bytes => {
+            (Ok(report), Some(last)) if last.frame == frame && last.report == report => {
                 last.times += 1;
             }
             (Ok(report), _) => {
                 let next = Exchange {
                     frame: frame.to_vec(),
-                    report: report.bytes.to_vec(),
+                    report,
                     times: 1,
                 };
                 end(&mut output, last.replace(next))?;
@@ -61,5 +62,10 @@ fn end(output: &mut Output, exchange: Option<Exchange>) -> io::Result<()> {
         1 => String::new(),
         times => format!("   {} times", thousands(times)),
     };
-    writeln!(output, "> {}{times}\n< {}", hex(&frame), hex(&report))
+    writeln!(
+        output,
+        "> {}{times}\n< {}",
+        hex(&frame),
+        hex(&report.bytes())
+    )
 }

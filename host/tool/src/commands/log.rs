@@ -2,10 +2,11 @@
 
 use super::refused;
 use crate::args::Flight;
-use crate::board::{Board, Report};
+use crate::board::Board;
 use crate::failure::Failure;
 use crate::output::Output;
 use crate::stream::Stream;
+use ems::Report;
 use std::io::Write;
 
 const HEADER: &str = "n kind origin serial answer mode requested on failed beacon";
@@ -41,7 +42,6 @@ fn line(report: &Report) -> String {
         on,
         failed,
         beacon,
-        ..
     } = report;
     let masks = format!("{requested:02X} {on:02X} {failed:02X}");
     format!("{kind:02X} {origin} {serial} {answer} {mode} {masks} {beacon}")

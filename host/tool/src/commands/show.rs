@@ -2,14 +2,14 @@
 //! again, whatever they are.
 
 use crate::args::Show;
-use crate::board::{Board, Report};
+use crate::board::Board;
 use crate::failure::Failure;
 use crate::output::Output;
 use crate::script;
 use crate::source;
-use crate::tables::{self, kind_of, meaning, name, Kind, BEACONS, MODES, REPORT};
+use crate::tables::{self, kind_of, meaning, Kind};
 use crate::words;
-use ems::{answer, REPORT_BYTES};
+use ems::{answer, Report, REPORT_BYTES, REPORT_KIND};
 use std::io::{self, Write};
 
 /// Where comments begin.
@@ -44,11 +44,11 @@ pub fn run(show: &Show) -> Result<(), Failure> {
 /// no known kind up to what does.
 fn length(bytes: &[u8]) -> usize {
     let total = match bytes[0] {
-        REPORT => REPORT_BYTES,
+        REPORT_KIND => REPORT_BYTES,
         byte => match kind_of(byte) {
             Some(kind) => kind.total(),
             None => {
-                let known = |&byte: &u8| byte == REPORT || kind_of(byte).is_some();
+                let known = |&byte: &u8| byte == REPORT_KIND || kind_of(byte).is_some();
                 let unknown = bytes.iter().position(known).unwrap_or(bytes.len());
                 unknown.min(ROW)
             }
@@ -79,22 +79,16 @@ fn loses_the_cut(piece: &[u8]) -> bool {
         refusal(piece),
         Some(answer::UNKNOWN_KIND | answer::BAD_LENGTH)
     );
-    lost && report(piece).is_none()
+    lost && Report::read(piece).is_none()
 }
 
 /// What a comment says of a piece.
 fn about(piece: &[u8]) -> String {
-    if let Some(report) = report(piece) {
+    if let Some(report) = Report::read(piece) {
         return in_words(&report);
     }
     let refused = |refusal| format!("refused: {refusal}, {}", meaning(refusal));
     refusal(piece).map(refused).unwrap_or_default()
-}
-
-/// A piece as a report, if it is one.
-fn report(piece: &[u8]) -> Option<Report> {
-    let bytes = piece.try_into().ok()?;
-    (piece[0] == REPORT).then(|| Report::of(bytes))
 }
 
 /// A report in words.
@@ -109,11 +103,11 @@ fn in_words(report: &Report) -> String {
         |name: &str, mask: u8| format!("{name} {mask:02X} {}", words::modules(mask).join(","));
     let parts = [
         format!("a report: {kind}{order}: {}", tables::answer(report.answer)),
-        name(&MODES, report.mode),
+        tables::mode(report.mode),
         mask("requested", report.requested),
         mask("on", report.on),
         mask("failed", report.failed),
-        format!("{} beacon", name(&BEACONS, report.beacon)),
+        format!("{} beacon", tables::beacon(report.beacon)),
     ];
     parts.map(|part| part.trim_end().to_string()).join("; ")
 }

@@ -1,9 +1,9 @@
 //! The two-craft promise: what it asks of two flights, and what it says of them.
 
-use crate::board::Report;
 use crate::script::in_words;
-use crate::tables::{name, BATTERY, MISSION, MODES, TICK};
+use crate::tables::{mode, shorts, BATTERY};
 use crate::words::{list, modules, thousands};
+use ems::{Module, Report};
 
 /// A frame as it was sent, and what came of it.
 type Sent<'a> = (&'a [u8], Result<Report, u8>);
@@ -52,17 +52,17 @@ impl Promise {
     /// Looks at what the two boards report after frame n.
     pub fn found(&mut self, n: u64, a: &Report, b: &Report) {
         if a.mode > b.mode {
-            let (a, b) = (name(&MODES, a.mode), name(&MODES, b.mode));
+            let (a, b) = (mode(a.mode), mode(b.mode));
             let said = || format!("frame {}, A in {a} and B in {b}", thousands(n));
             self.mode.get_or_insert_with(said);
         }
         let n = thousands(n);
         let alone = |mask: u8| format!("frame {n}, {} at A alone", list(&modules(mask)));
-        let requested = a.requested & !b.requested & MISSION;
+        let requested = a.requested & !b.requested & Module::MISSION;
         if requested != 0 {
             self.requested.get_or_insert_with(|| alone(requested));
         }
-        let on = a.on & !b.on & MISSION & !self.shorted;
+        let on = a.on & !b.on & Module::MISSION & !self.shorted;
         if on != 0 {
             self.on.get_or_insert_with(|| alone(on));
         }
@@ -92,7 +92,7 @@ impl Promise {
             Some(at) => format!("DOES NOT HOLD: {at}"),
             None => "holds".to_string(),
         };
-        let unshorted = list(&modules(MISSION & !self.shorted));
+        let unshorted = list(&modules(Module::MISSION & !self.shorted));
         let promised = match self.premises {
             Some(_) => "nothing is promised, and after every frame:",
             None => "it is promised that after every frame:",
@@ -103,7 +103,7 @@ impl Promise {
              requested  of {}, all that A has requested, B has: {}\n  \
              on         of {unshorted}, which saw no short, all that A has on, B has: {}\n",
             holds(&self.mode),
-            list(&modules(MISSION)),
+            list(&modules(Module::MISSION)),
             holds(&self.requested),
             holds(&self.on),
         )
@@ -123,12 +123,4 @@ fn out_of_range(sent: Sent, which: &str) -> Option<String> {
     sent.1
         .is_err()
         .then(|| format!("{which}'s reading is out of range"))
-}
-
-/// The shorts in a frame that is a tick.
-fn shorts(frame: &[u8]) -> u8 {
-    match frame {
-        [TICK, mask] => *mask,
-        _ => 0,
-    }
 }

@@ -1,9 +1,9 @@
 //! Where two craft differ: a block for each stretch of frames with the same
 //! difference.
 
-use crate::board::Report;
-use crate::tables::{answer, name, MODES};
+use crate::tables::{answer, mode};
 use crate::words::{clock, modules};
+use ems::Report;
 use std::io::{self, Write};
 
 /// The width of A's column.
@@ -95,7 +95,7 @@ fn differences(a: &Report, b: &Report) -> Vec<String> {
         line("answer", answer(a.answer), answer(b.answer));
     }
     if a.mode != b.mode {
-        line("mode", name(&MODES, a.mode), name(&MODES, b.mode));
+        line("mode", mode(a.mode), mode(b.mode));
     }
     let masks = [
         ("requested", a.requested, b.requested),

@@ -1,11 +1,11 @@
 //! What the shapes mean.
 
-use super::modes::FILLS;
+use super::modes::fill;
 use super::orders::mark;
 use super::svg::{Align, Svg};
 use super::LEFT;
-use crate::tables::{self, name, BEACONS, MODES};
-use ems::answer;
+use crate::tables;
+use ems::{answer, Beacon, Mode};
 
 /// A row's height, and the space before a group's next sign.
 const ROW: f64 = 22.0;
@@ -43,16 +43,16 @@ pub fn draw(svg: &mut Svg, y: f64) -> f64 {
     let x = LEFT;
     let mut row = Row { svg, x, y };
     row.word("Mode:");
-    for mode in 0..MODES.len() as u8 {
-        let fill = FILLS.get(usize::from(mode)).map_or("", |fills| fills.0);
+    for mode in Mode::ALL {
+        let fill = fill(mode.number()).map(|fill| fill.strip);
         row.sign(
             |svg, x, y| {
                 svg.rect(x, y - 7.0, 20.0, 14.0, "box");
-                if !fill.is_empty() {
+                if let Some(fill) = fill {
                     svg.rect(x, y - 7.0, 20.0, 14.0, fill);
                 }
             },
-            &name(&MODES, mode),
+            mode.name(),
         );
     }
     let line = |class: &'static str| {
@@ -94,11 +94,10 @@ pub fn draw(svg: &mut Svg, y: f64) -> f64 {
         "short",
     );
     row.word("Beacon:");
-    for number in 1..BEACONS.len() as u8 {
-        let tall = 8.0 * f64::from(number);
+    for (beacon, tall) in [(Beacon::Basic, 8.0), (Beacon::Complete, 16.0)] {
         row.sign(
             |svg, x, y| svg.line(x + 10.0, y + 7.0, x + 10.0, y + 7.0 - tall, "thin"),
-            &name(&BEACONS, number),
+            beacon.name(),
         );
     }
 

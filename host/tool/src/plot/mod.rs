@@ -13,6 +13,7 @@ mod tension;
 pub use record::Record;
 
 use crate::words::{clock, count, thousands};
+use ems::Beacon;
 use scale::Scale;
 use svg::{Align, Svg};
 
@@ -66,8 +67,8 @@ fn beacons(svg: &mut Svg, scale: &Scale, record: &Record, y: f64) -> f64 {
     svg.text(LEFT - 8.0, bottom - 6.0, 12, Align::End, "beacons");
     let due = format!("{} due", thousands(record.beacons.len() as u64));
     svg.text(RIGHT + 4.0, bottom - 6.0, 12, Align::Start, &due);
-    for (number, height) in [(1, BEACONS / 2.0), (2, BEACONS)] {
-        let times = record.beacons.iter().filter(|beacon| beacon.1 == number);
+    for (kind, height) in [(Beacon::Basic, BEACONS / 2.0), (Beacon::Complete, BEACONS)] {
+        let times = record.beacons.iter().filter(|beacon| beacon.1 == kind);
         // Ticks that would touch are one.
         let mut places: Vec<i64> = times
             .map(|beacon| (2.0 * scale.x(beacon.0)) as i64)

@@ -3,23 +3,37 @@
 use super::scale::Scale;
 use super::svg::{Align, Svg};
 use super::{Record, LEFT};
-use crate::tables::{name, MODES};
+use crate::tables;
+use ems::Mode;
 
 const HEIGHT: f64 = 22.0;
 
-/// A mode's fill in the strip and behind; the best one is white.
-pub const FILLS: [(&str, &str); 2] = [("wait", "wait-light"), ("low", "low-light")];
+/// What a mode is filled with.
+pub struct Fill {
+    pub strip: &'static str,
+    pub behind: &'static str,
+}
+
+/// A mode's fill; the best one is white.
+pub fn fill(mode: u8) -> Option<Fill> {
+    let (strip, behind) = match Mode::of(mode)? {
+        Mode::DeployWait => ("wait", "wait-light"),
+        Mode::Recovery => ("low", "low-light"),
+        Mode::Safe => return None,
+    };
+    Some(Fill { strip, behind })
+}
 
 /// The strip; gives where it ends.
 pub fn draw(svg: &mut Svg, scale: &Scale, record: &Record, y: f64) -> f64 {
     svg.text(LEFT - 8.0, y + 15.0, 12, Align::End, "mode");
     for (from, to, mode) in record.mode.stretches(record.end()) {
         let (x, width) = (scale.x(from), scale.x(to) - scale.x(from));
-        if let Some((strip, _)) = FILLS.get(usize::from(mode)) {
-            svg.rect(x, y, width, HEIGHT, strip);
+        if let Some(fill) = fill(mode) {
+            svg.rect(x, y, width, HEIGHT, fill.strip);
         }
         svg.line(x, y, x, y + HEIGHT, "thin");
-        let name = name(&MODES, mode);
+        let name = tables::mode(mode);
         let wide = 8.5 * name.len() as f64 + 10.0;
         if width > wide {
             let middle = x + width / 2.0;
@@ -36,9 +50,9 @@ pub fn draw(svg: &mut Svg, scale: &Scale, record: &Record, y: f64) -> f64 {
 /// The shade behind everything from a top to a bottom.
 pub fn shade(svg: &mut Svg, scale: &Scale, record: &Record, top: f64, bottom: f64) {
     for (from, to, mode) in record.mode.stretches(record.end()) {
-        if let Some((_, behind)) = FILLS.get(usize::from(mode)) {
+        if let Some(fill) = fill(mode) {
             let (x, width) = (scale.x(from), scale.x(to) - scale.x(from));
-            svg.rect(x, top, width, bottom - top, behind);
+            svg.rect(x, top, width, bottom - top, fill.behind);
         }
     }
 }

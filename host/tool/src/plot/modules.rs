@@ -3,16 +3,16 @@
 use super::scale::Scale;
 use super::svg::{short, Align, Svg};
 use super::{Record, LEFT, RIGHT};
-use crate::tables::MODULES;
+use ems::Module;
 use std::fmt::Write;
 
 /// The lanes; gives where they end.
 pub fn draw(svg: &mut Svg, scale: &Scale, record: &Record, y: f64, lane: f64) -> f64 {
-    for (i, module) in MODULES.iter().enumerate() {
-        let top = y + lane * i as f64;
-        svg.text(LEFT - 8.0, top + 0.7 * lane, 12, Align::End, module);
+    let mut top = y;
+    for module in Module::ALL {
+        svg.text(LEFT - 8.0, top + 0.7 * lane, 12, Align::End, module.name());
         svg.line(LEFT, top + lane, RIGHT, top + lane, "faint");
-        let is = |mask: u8| mask >> i & 1 == 1;
+        let is = |mask: u8| mask & module.bit() != 0;
         let end = record.end();
         for (from, to) in record.requested.spans(end, is) {
             bar(svg, scale, from, to, top + 4.0, lane - 10.0, "box");
@@ -25,8 +25,9 @@ pub fn draw(svg: &mut Svg, scale: &Scale, record: &Record, y: f64, lane: f64) ->
         }
         let marks = shorts(scale, &record.shorts.spans(end, is), top + lane - 1.0);
         svg.path(&marks, "short");
+        top += lane;
     }
-    y + lane * MODULES.len() as f64
+    top
 }
 
 fn bar(svg: &mut Svg, scale: &Scale, from: u64, to: u64, y: f64, height: f64, class: &str) {

@@ -1,8 +1,9 @@
 //! What a picture needs of a flight: when what changed.
 
-use crate::board::{Report, Step};
+use crate::board::Step;
 use crate::image::Image;
-use crate::tables::TICK;
+use crate::tables::{shorts, TICK};
+use ems::{Beacon, Report};
 
 /// A value over time: each with the second from which on it stands.
 pub struct Track<T>(Vec<(u64, T)>);
@@ -61,7 +62,7 @@ pub struct Record {
     /// Frames with a serial: when, in words, and the answer.
     pub orders: Vec<(u64, String, u8)>,
     /// When a beacon was due, and which.
-    pub beacons: Vec<(u64, u8)>,
+    pub beacons: Vec<(u64, Beacon)>,
     /// The frame that was refused, and with what.
     pub refused: Option<(u64, u8)>,
 }
@@ -97,7 +98,7 @@ impl Record {
     pub fn add(&mut self, frame: &[u8], step: &Step, report: &Report, words: impl Fn() -> String) {
         self.frames = step.n;
         if report.kind == TICK {
-            self.shorts.at(self.seconds, frame[1]);
+            self.shorts.at(self.seconds, shorts(frame));
             self.seconds = step.seconds;
             self.shorts.at(self.seconds, 0);
         }
@@ -105,8 +106,8 @@ impl Record {
         if report.origin != 0 {
             self.orders.push((self.seconds, words(), report.answer));
         }
-        if report.beacon != 0 {
-            self.beacons.push((self.seconds, report.beacon));
+        if let Some(beacon) = Beacon::of(report.beacon) {
+            self.beacons.push((self.seconds, beacon));
         }
     }
 

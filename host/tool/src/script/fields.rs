@@ -1,7 +1,8 @@
 //! A frame's fields as words of a script, and back.
 
-use crate::tables::{kind_of, Field, Kind, Written, MODULES};
+use crate::tables::{kind_of, Field, Kind, Written};
 use crate::words;
+use ems::Module;
 
 /// The greatest number that a field's bytes hold.
 fn greatest(field: &Field) -> u64 {
@@ -14,9 +15,12 @@ pub fn expected(field: &Field) -> String {
     let numbers = format!("a number 0 to {}", greatest(field));
     match field.written {
         Written::Number => format!("expected {name}: {numbers}"),
-        Written::Named(_, names) => format!("expected {name}: {}, or {numbers}", names.join(", ")),
+        Written::Named(names) => {
+            let names: Vec<&str> = names.iter().map(|row| row.1).collect();
+            format!("expected {name}: {}, or {numbers}", names.join(", "))
+        }
         Written::Modules => {
-            let names = MODULES.join(", ");
+            let names = Module::ALL.map(Module::name).join(", ");
             format!("expected modules with commas between: {names}")
         }
     }
@@ -26,22 +30,19 @@ pub fn expected(field: &Field) -> String {
 pub fn value(field: &Field, word: &str) -> Option<u64> {
     match field.written {
         Written::Number => decimal(word, greatest(field)),
-        Written::Named(first, names) => match place(names, word) {
-            Some(at) => Some(u64::from(first) + at as u64),
-            None => decimal(word, greatest(field)),
-        },
+        Written::Named(names) => {
+            let named = names.iter().find(|row| row.1.eq_ignore_ascii_case(word));
+            named.map_or_else(
+                || decimal(word, greatest(field)),
+                |&(number, _)| Some(u64::from(number)),
+            )
+        }
         Written::Modules => word.split(',').try_fold(0, |mask, name| {
-            let module = place(&MODULES, name)?;
-            Some(mask | 1 << module)
+            let mut all = Module::ALL.into_iter();
+            let module = all.find(|module| module.name().eq_ignore_ascii_case(name))?;
+            Some(mask | u64::from(module.bit()))
         }),
     }
-}
-
-/// Where a name stands in a list, capitals or not.
-fn place(names: &[&str], word: &str) -> Option<usize> {
-    names
-        .iter()
-        .position(|name| name.eq_ignore_ascii_case(word))
 }
 
 /// A number in digits only, up to a greatest one.
@@ -91,10 +92,9 @@ fn words_of(kind: &Kind, frame: &[u8]) -> Vec<(&'static str, String)> {
 fn word(field: &Field, value: u64) -> Option<String> {
     match field.written {
         Written::Number => Some(value.to_string()),
-        Written::Named(first, names) => {
-            let at = value.checked_sub(u64::from(first));
-            let name = at.and_then(|at| names.get(at as usize));
-            Some(name.map_or_else(|| value.to_string(), |name| (*name).to_string()))
+        Written::Named(names) => {
+            let named = names.iter().find(|row| u64::from(row.0) == value);
+            Some(named.map_or_else(|| value.to_string(), |&(_, name)| name.to_string()))
         }
         Written::Modules => {
             let names = words::modules(value as u8).join(",");

@@ -3,12 +3,12 @@
 
 mod powers;
 
-use crate::board::{Report, Step};
+use crate::board::Step;
 use crate::image::{Image, Phase};
 use crate::script::word_of;
-use crate::tables::{self, name, MODES};
+use crate::tables;
 use crate::words::{list, modules, thousands};
-use ems::answer;
+use ems::{answer, Report};
 use std::cmp::Ordering;
 
 /// What changed from one image to the next, in a tick with these shorts.
@@ -48,11 +48,8 @@ fn millivolts(number: u16) -> String {
 
 /// A change of mode, with the numbers that it was judged by.
 fn crossing(before: &Image, after: &Image) -> String {
-    let modes = format!(
-        "{} to {}",
-        name(&MODES, before.mode()),
-        name(&MODES, after.mode())
-    );
+    let (from, to) = (tables::mode(before.mode()), tables::mode(after.mode()));
+    let modes = format!("{from} to {to}");
     if before.phase() != Phase::Over {
         format!("{modes}, settling is over")
     } else if after.mode() > before.mode() {
@@ -115,7 +112,7 @@ pub fn outcome(frame: &[u8], step: &Step, report: &Report) -> String {
             )
         }
         answer::NOT_NOW => {
-            let (module, mode) = (word_of(frame, "module"), name(&MODES, report.mode));
+            let (module, mode) = (word_of(frame, "module"), tables::mode(report.mode));
             format!("10, {module} is not switched on in {mode}; {serial} is used up")
         }
         other => tables::answer(other),

@@ -1,18 +1,18 @@
 //! What became of the modules, in words.
 
 use crate::image::{Image, Power};
-use crate::tables::MODULES;
 use crate::words::{count, list};
+use ems::Module;
 
 /// The modules whose power changed, those with the same fate together.
 pub fn changes(before: &Image, after: &Image, shorts: u8) -> Vec<String> {
     let mut fates: Vec<(String, Vec<String>)> = Vec::new();
-    for (i, module) in MODULES.iter().enumerate() {
-        let short = shorts >> i & 1 == 1;
-        let Some(fate) = fate(before.power(i), after.power(i), short) else {
+    for module in Module::ALL {
+        let short = shorts & module.bit() != 0;
+        let Some(fate) = fate(before.power(module), after.power(module), short) else {
             continue;
         };
-        let module = (*module).to_string();
+        let module = module.to_string();
         match fates.iter_mut().find(|(other, _)| *other == fate) {
             Some((_, modules)) => modules.push(module),
             None => fates.push((fate, vec![module])),

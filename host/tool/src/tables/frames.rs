@@ -1,15 +1,15 @@
 //! The kinds of frames and their fields. A new kind is a new row.
 
-use super::MODULES;
+use ems::Module;
 
 /// How a field is written in a pass script.
 #[derive(Clone, Copy, Debug, PartialEq, Eq)]
 pub enum Written {
     /// As a decimal number.
     Number,
-    /// By name, the names in the order of their values from the first one's on;
-    /// or as a number, so that a script can hold what the board refuses.
-    Named(u8, &'static [&'static str]),
+    /// By the name of its value; or as a number, so that a script can hold what
+    /// the board refuses.
+    Named(&'static [(u8, &'static str)]),
     /// As names of modules with commas between, after the field's own name; left
     /// out where no bit is set.
     Modules,
@@ -52,8 +52,8 @@ const fn number(name: &'static str, bytes: usize) -> Field {
     }
 }
 
-const fn named(name: &'static str, first: u8, names: &'static [&'static str]) -> Field {
-    let written = Written::Named(first, names);
+const fn named(name: &'static str, names: &'static [(u8, &'static str)]) -> Field {
+    let written = Written::Named(names);
     Field {
         name,
         bytes: 1,
@@ -70,9 +70,20 @@ const fn modules(name: &'static str) -> Field {
     }
 }
 
-const ORIGIN: Field = named("origin", 1, &["ground", "payload"]);
+const ORIGIN: Field = named("origin", &[(1, "ground"), (2, "payload")]);
 const SERIAL: Field = number("serial", 2);
-const MODULE: Field = named("module", 0, &MODULES);
+const MODULE: Field = named("module", &MODULES);
+
+/// The modules' numbers and names.
+const MODULES: [(u8, &str); Module::ALL.len()] = {
+    let mut rows = [(0, ""); Module::ALL.len()];
+    let mut i = 0;
+    while i < rows.len() {
+        rows[i] = (Module::ALL[i].number(), Module::ALL[i].name());
+        i += 1;
+    }
+    rows
+};
 
 const fn kind(byte: u8, name: &'static str, fields: &'static [Field]) -> Kind {
     let repeats = false;
@@ -84,36 +95,53 @@ const fn kind(byte: u8, name: &'static str, fields: &'static [Field]) -> Kind {
     }
 }
 
+/// The kind that makes a second pass.
+pub const TICK: u8 = 0x01;
+/// The kind that brings a reading of the tension.
+pub const BATTERY: u8 = 0x02;
+/// The kind that brings the antennas' position.
+const ANTENNAS: u8 = 0x03;
+/// The kind that asks for a module, on or off.
+const ORDER: u8 = 0x04;
+/// The kind that sets both thresholds.
+const THRESHOLDS: u8 = 0x05;
+
 /// The kinds that are read.
 pub const KINDS: [Kind; 5] = [
     Kind {
         repeats: true,
         ..kind(TICK, "tick", &[modules("shorts")])
     },
-    kind(0x02, "battery", &[number("millivolts", 2)]),
+    kind(BATTERY, "battery", &[number("millivolts", 2)]),
     kind(
-        0x03,
+        ANTENNAS,
         "antennas",
-        &[named("position", 0, &["folded", "deployed"])],
+        &[named("position", &[(0, "folded"), (1, "deployed")])],
     ),
     kind(
-        0x04,
+        ORDER,
         "order",
-        &[ORIGIN, SERIAL, MODULE, named("wanted", 0, &["off", "on"])],
+        &[
+            ORIGIN,
+            SERIAL,
+            MODULE,
+            named("wanted", &[(0, "off"), (1, "on")]),
+        ],
     ),
     kind(
-        0x05,
+        THRESHOLDS,
         "thresholds",
         &[ORIGIN, SERIAL, number("ascend", 2), number("descend", 2)],
     ),
 ];
 
-/// The kind that makes a second pass.
-pub const TICK: u8 = 0x01;
-/// The kind that brings a reading of the tension.
-pub const BATTERY: u8 = 0x02;
-/// The kind of a report, which is only written.
-pub const REPORT: u8 = 0x81;
+/// The shorts of a frame that is a tick; none of any other.
+pub fn shorts(frame: &[u8]) -> u8 {
+    match frame {
+        [TICK, mask] => *mask,
+        _ => 0,
+    }
+}
 
 /// The kind with this first byte, if it is one that is read.
 pub fn kind_of(byte: u8) -> Option<&'static Kind> {

@@ -1,11 +1,12 @@
-//! The interface's names and sizes, each once: kinds with their fields, modules,
-//! origins, modes, answers. There is no range and no rule: those are the library's.
+//! The interface's names and sizes, each once: kinds with their fields, origins,
+//! answers. There is no range and no rule: those are the library's. Modules and
+//! modes are the wrapper's.
 
 mod frames;
 mod names;
 
-pub use frames::{kind_of, Field, Kind, Written, BATTERY, KINDS, REPORT, TICK};
-pub use names::{answer, meaning, name, BEACONS, MISSION, MODES, MODULES};
+pub use frames::{kind_of, shorts, Field, Kind, Written, BATTERY, KINDS, TICK};
+pub use names::{answer, beacon, meaning, mode};
 
 /// The library is asked whether it sees the same.
 #[cfg(test)]
@@ -35,15 +36,5 @@ mod tests {
                 assert_eq!(bad, length != kind.total(), "{}, {length} bytes", kind.name);
             }
         }
-    }
-
-    #[test]
-    fn the_mission_modules_are_the_library_s() {
-        for module in 0..MODULES.len() as u8 {
-            let not_now = answer_to(&[0x04, 1, 0, 1, module, 1]) == answer::NOT_NOW;
-            assert_eq!(not_now, MISSION >> module & 1 == 1, "module {module}");
-        }
-        let no_module = [0x04, 1, 0, 1, MODULES.len() as u8, 1];
-        assert_eq!(answer_to(&no_module), answer::BAD_FIELD);
     }
 }

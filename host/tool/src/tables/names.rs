@@ -1,72 +1,68 @@
-//! What numbers are called: modules, modes, beacons, answers.
+//! What numbers are called: modes, beacons, answers.
 
-/// The modules by number.
-pub const MODULES: [&str; 8] = [
-    "MCS", "COMM1", "COMM2", "ADCS", "PAYLOAD", "I2C", "SBAND1", "SBAND2",
-];
+use ems::{answer, Beacon, Mode};
 
-/// The mission four, as a mask.
-pub const MISSION: u8 = 0xD8;
+/// A mode's name, or its number where there is no such mode.
+pub fn mode(number: u8) -> String {
+    Mode::of(number).map_or_else(|| number.to_string(), |mode| mode.to_string())
+}
 
-/// The modes by number; the higher is the better one.
-pub const MODES: [&str; 3] = ["DEPLOY_WAIT", "RECOVERY", "SAFE"];
-
-/// What a tick makes due, by number.
-pub const BEACONS: [&str; 3] = ["no", "basic", "complete"];
-
-/// The answers by number: the name, and what it says.
-const ANSWERS: [(&str, &str); 16] = [
-    ("done", "done by the rules"),
-    ("bad state", "the state is outside its ranges"),
-    ("short room", "there is no room for the report"),
-    ("no input", "there are no input bytes"),
-    (
-        "unknown kind",
-        "no frame that is read begins with this byte",
-    ),
-    ("bad length", "the length is not the kind's total"),
-    (
-        "bad field",
-        "a field is outside its range, or descend is above ascend",
-    ),
-    (
-        "not permitted",
-        "the payload asks for what only the ground may",
-    ),
-    ("repeat", "the serial is that of the origin's last order"),
-    (
-        "stale",
-        "the serial lies behind that of the origin's last order",
-    ),
-    (
-        "not now",
-        "a mission module is switched on in SAFE only; the serial is used up",
-    ),
-    ("too long", "the text is too long"),
-    ("not keyable", "a character is outside the alphabet"),
-    ("bad space", "a space is first, last or doubled"),
-    ("no room", "the room is shorter than the result"),
-    (
-        "not a keying",
-        "the units are not exactly the keying of a text",
-    ),
-];
-
-/// The name at a number, or the number where there is none.
-pub fn name(names: &[&str], number: u8) -> String {
-    match names.get(usize::from(number)) {
-        Some(name) => (*name).to_string(),
+/// The name of the beacon that is due, or its number where there is no such one.
+pub fn beacon(number: u8) -> String {
+    match Beacon::of(number) {
+        Some(beacon) => beacon.to_string(),
+        None if number == 0 => "no".to_string(),
         None => number.to_string(),
     }
 }
 
 /// An answer's number and name.
 pub fn answer(number: u8) -> String {
-    let name = ANSWERS.get(usize::from(number)).map_or("", |row| row.0);
-    format!("{number} {name}")
+    format!("{number} {}", row(number).0)
 }
 
 /// What an answer's number says.
 pub fn meaning(number: u8) -> &'static str {
-    ANSWERS.get(usize::from(number)).map_or("", |row| row.1)
+    row(number).1
+}
+
+/// An answer's name and what it says; nothing where there is no such answer.
+fn row(number: u8) -> (&'static str, &'static str) {
+    match number {
+        answer::DONE => ("done", "done by the rules"),
+        answer::BAD_STATE => ("bad state", "the state is outside its ranges"),
+        answer::SHORT_ROOM => ("short room", "there is no room for the report"),
+        answer::NO_INPUT => ("no input", "there are no input bytes"),
+        answer::UNKNOWN_KIND => (
+            "unknown kind",
+            "no frame that is read begins with this byte",
+        ),
+        answer::BAD_LENGTH => ("bad length", "the length is not the kind's total"),
+        answer::BAD_FIELD => (
+            "bad field",
+            "a field is outside its range, or descend is above ascend",
+        ),
+        answer::NOT_PERMITTED => (
+            "not permitted",
+            "the payload asks for what only the ground may",
+        ),
+        answer::REPEAT => ("repeat", "the serial is that of the origin's last order"),
+        answer::STALE => (
+            "stale",
+            "the serial lies behind that of the origin's last order",
+        ),
+        answer::NOT_NOW => (
+            "not now",
+            "a mission module is switched on in SAFE only; the serial is used up",
+        ),
+        answer::TEXT_TOO_LONG => ("too long", "the text is too long"),
+        answer::NOT_KEYABLE => ("not keyable", "a character is outside the alphabet"),
+        answer::BAD_SPACE => ("bad space", "a space is first, last or doubled"),
+        answer::NO_ROOM => ("no room", "the room is shorter than the result"),
+        answer::NOT_A_KEYING => (
+            "not a keying",
+            "the units are not exactly the keying of a text",
+        ),
+        _ => ("", ""),
+    }
 }

@@ -1,0 +1,86 @@
+//! The names of modules, modes and beacons, and their numbers: those of the
+//! library, the model and the header.
+
+use ems::{answer, Beacon, Craft, Mode, Module};
+use model::table::{FROM_GROUND, MODULES, ORDER};
+
+const HEADER: &str = include_str!("../../../include/ems.h");
+
+#[test]
+fn the_modules_are_the_model_s() {
+    assert_eq!(Module::ALL.len(), MODULES.len());
+    for (module, row) in Module::ALL.into_iter().zip(&MODULES) {
+        assert_eq!(module.name(), row.name);
+        assert_eq!(module.number(), row.number);
+        assert_eq!(module.bit(), row.bit());
+        assert_eq!(Module::MISSION & module.bit() == 0, row.core);
+    }
+}
+
+#[test]
+fn the_modules_are_those_that_the_library_takes() {
+    for number in 0..=u8::MAX {
+        let order = [ORDER, FROM_GROUND, 0, 1, number, 1];
+        let wanted = match Module::of(number) {
+            Some(module) if Module::MISSION & module.bit() != 0 => answer::NOT_NOW,
+            Some(_) => answer::DONE,
+            None => answer::BAD_FIELD,
+        };
+        let report = Craft::fresh().report_on(&order);
+        let given = report.map_or_else(|refusal| refusal, |report| report.answer);
+        assert_eq!(given, wanted, "module {number}");
+    }
+}
+
+#[test]
+fn a_mask_is_read_as_its_modules() {
+    for mask in 0..=u8::MAX {
+        let bits = Module::in_mask(mask).map(Module::bit);
+        assert_eq!(bits.sum::<u8>(), mask);
+    }
+}
+
+#[test]
+fn the_modes_are_the_header_s() {
+    let modes = Mode::ALL.map(|mode| format!("{} {mode}", mode.number()));
+    assert!(HEADER.contains(&format!("mode: {}\n", modes.join(", "))));
+    for number in 0..=u8::MAX {
+        let found = Mode::of(number);
+        assert!(found.is_none_or(|mode| mode.number() == number));
+        assert_eq!(found.is_some(), usize::from(number) < Mode::ALL.len());
+    }
+}
+
+/// From the fresh start to SAFE and to RECOVERY again, a mode after the other,
+/// with the beacon that each has.
+#[test]
+fn a_flight_meets_the_modes_and_both_beacons() {
+    let mut craft = Craft::fresh();
+    let (mut modes, mut beacons) = (Vec::new(), Vec::new());
+    let frames = [
+        (&[0x03, 1][..], 1),
+        (&[0x02, 0x1E, 0x78], 1),
+        (&[0x01, 0], 1_200),
+    ];
+    let then = [(&[0x02, 0x13, 0x88][..], 1), (&[0x01, 0], 600)];
+    for (frame, times) in frames.into_iter().chain(then) {
+        for _ in 0..times {
+            let report = craft.report_on(frame).expect("a report");
+            modes.extend(Mode::of(report.mode));
+            beacons.extend(Beacon::of(report.beacon));
+        }
+    }
+    modes.dedup();
+    beacons.dedup();
+    let (recovery, safe) = (Mode::Recovery, Mode::Safe);
+    assert_eq!(modes, [Mode::DeployWait, recovery, safe, recovery]);
+    assert_eq!(beacons, [Beacon::Complete, Beacon::Basic]);
+    assert!(Mode::DeployWait < recovery && recovery < safe);
+}
+
+#[test]
+fn the_beacons_are_the_icd_s() {
+    let icd = include_str!("../../../docs/ICD.md");
+    let names = Beacon::ALL.map(|beacon| format!("{} {beacon}", beacon.number()));
+    assert!(icd.contains(&format!("| beacon | 0 none, {}:", names.join(", "))));
+}
