@@ -1,4 +1,4 @@
--- What a reading is about, for whoever looks at a flight from outside: a tick, a command, or neither.
+-- What a reading is about, for whoever looks at a flight from outside.
 -- Assumes nothing.
 use Prim.Native.Nat.{ℕ}
 use mathlib.Core.Bool.{Bool, true, false}
@@ -12,6 +12,7 @@ use Rattle.frames.specs.declared.frame.Frame.the-variants as frame
 use Rattle.frames.specs.declared.reading.Reading.{Reading}
 use Rattle.frames.specs.declared.reading.Reading.the-variants.{Refused, Accepted}
 
+-- a tick, a command, or neither
 pub data About : Type 0 where
   -- a tick, with the mask of its shorts
   aTick : (shorts : ℕ) → About
@@ -20,6 +21,7 @@ pub data About : Type 0 where
   -- other news, or bytes that are refused
   neither : About
 
+-- what a reading is about
 abbrev pub about : Reading → About
 about (Refused answer) = neither
 about (Accepted (frame.Tick shorts)) = aTick shorts

@@ -2,8 +2,11 @@
 -- Assumes nothing.
 use Prim.Native.Nat.{ℕ}
 use Rattle.frames.specs.declared.answer.Answer.{Answer}
-use Rattle.frames.specs.declared.answer.Answer.the-variants.{Done, BadState, ShortRoom, NoInput, UnknownKind, BadLength, BadField, NotPermitted, Repeat, Stale, NotNow}
+use Rattle.frames.specs.declared.answer.Answer.the-variants.{Done, BadState, ShortRoom, NoInput}
+use Rattle.frames.specs.declared.answer.Answer.the-variants.{UnknownKind, BadLength, BadField, NotPermitted}
+use Rattle.frames.specs.declared.answer.Answer.the-variants.{Repeat, Stale, NotNow}
 
+-- the number of an answer
 abbrev pub answerNumber : Answer → ℕ
 answerNumber Done = 0
 answerNumber BadState = 1

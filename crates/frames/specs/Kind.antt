@@ -4,24 +4,27 @@ use Prim.Native.Nat.{ℕ}
 use lib.Dec.{eqb}
 use Rattle.basics.specs.Choice.{if_then_else_}
 
--- the kinds that are read
-
+-- 01 tick: mask of shorts seen in this second
 abbrev pub tickKind : ℕ
 tickKind = 1
 
+-- 02 battery: millivolts
 abbrev pub batteryKind : ℕ
 batteryKind = 2
 
+-- 03 antennas: 0 folded, 1 deployed
 abbrev pub antennasKind : ℕ
 antennasKind = 3
 
+-- 04 order: origin, serial, module, wanted
 abbrev pub orderKind : ℕ
 orderKind = 4
 
+-- 05 thresholds: origin, serial, ascend, descend
 abbrev pub thresholdsKind : ℕ
 thresholdsKind = 5
 
--- the kind of a report; it is only written
+-- 81 report, which is only written
 abbrev pub reportKind : ℕ
 reportKind = 0x81
 

@@ -8,34 +8,39 @@ use lib.Dec.{eqb, leb}
 use Rattle.basics.specs.Choice.{if_then_else_, within, word}
 use Rattle.frames.specs.Kind.{tickKind, batteryKind, antennasKind, orderKind, totalOf}
 use Rattle.frames.specs.Sender.{payloadOrigin, isOrigin, originFrom}
-use Rattle.frames.specs.declared.answer.Answer.the-variants.{NoInput, UnknownKind, BadLength, BadField, NotPermitted}
+use Rattle.frames.specs.declared.answer.Answer.the-variants.{NoInput, UnknownKind, BadLength}
+use Rattle.frames.specs.declared.answer.Answer.the-variants.{BadField, NotPermitted}
 use Rattle.frames.specs.declared.sender.Sender.{Sender}
 use Rattle.frames.specs.declared.command.Command.the-variants.{Order, Thresholds}
 use Rattle.frames.specs.declared.frame.Frame.the-variants.{Tick, Battery, Antennas, Command}
 use Rattle.frames.specs.declared.reading.Reading.{Reading}
 use Rattle.frames.specs.declared.reading.Reading.the-variants.{Refused, Accepted}
 
--- byte i of a frame, and the two-byte number at i
+-- byte i of a frame
 abbrev pub byteAt : ℕ → List ℕ → ℕ
 byteAt i bytes = getD bytes i 0
 
+-- the two-byte number at i
 abbrev pub wordAt : ℕ → List ℕ → ℕ
 wordAt i bytes = word (byteAt i bytes) (byteAt (i + 1) bytes)
 
--- modules are 0 to 7; the payload's own is 4
+-- modules are 0 to 7
 abbrev pub lastModule : ℕ
 lastModule = 7
 
+-- the payload's own
 abbrev pub payloadModule : ℕ
 payloadModule = 4
 
--- millivolts, 5,000 to 9,000
+-- the lowest millivolts of a battery
 abbrev pub lowestReading : ℕ
 lowestReading = 5000
 
+-- and the highest
 abbrev pub highestReading : ℕ
 highestReading = 9000
 
+-- millivolts, 5,000 to 9,000
 abbrev pub isReading : ℕ → Bool
 isReading millivolts = within lowestReading highestReading millivolts
 
@@ -45,9 +50,11 @@ areThresholds ascend descend = isReading ascend && isReading descend && leb desc
 
 -- what each kind's fields say; a field outside its range is 6, what the payload may not ask is 7
 
+-- a tick's mask may hold any value
 abbrev pub tickFields : List ℕ → Reading
 tickFields bytes = Accepted (Tick (byteAt 1 bytes))
 
+-- a reading in range
 unfoldable pub batteryFields : List ℕ → Reading
 batteryFields bytes =
     if isReading (wordAt 1 bytes) then Accepted (Battery (wordAt 1 bytes)) else Refused BadField

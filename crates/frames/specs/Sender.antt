@@ -7,11 +7,11 @@ use Rattle.basics.specs.Choice.{if_then_else_, within}
 use Rattle.frames.specs.declared.sender.Origin.{Origin}
 use Rattle.frames.specs.declared.sender.Origin.the-variants.{Ground, Payload}
 
--- the numbers of the two origins
-
+-- ground's number
 abbrev pub groundOrigin : ℕ
 groundOrigin = 1
 
+-- the payload's
 abbrev pub payloadOrigin : ℕ
 payloadOrigin = 2
 
@@ -19,10 +19,11 @@ payloadOrigin = 2
 abbrev pub isOrigin : ℕ → Bool
 isOrigin byte = within groundOrigin payloadOrigin byte
 
--- from an origin to its number, and back
+-- from an origin to its number
 abbrev pub originNumber : Origin → ℕ
 originNumber Ground = groundOrigin
 originNumber Payload = payloadOrigin
 
+-- and back
 abbrev pub originFrom : ℕ → Origin
 originFrom byte = if eqb byte groundOrigin then Ground else Payload

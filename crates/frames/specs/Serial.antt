@@ -9,10 +9,11 @@ use Rattle.frames.specs.declared.serial.Class.{Class}
 use Rattle.frames.specs.declared.serial.Class.the-variants.{Repeat, Fresh, Stale}
 use Rattle.frames.specs.declared.serial.Serials.{Serials}
 
--- how many serials there are, and the distance from which on one is stale
+-- how many serials there are
 abbrev pub serialCount : ℕ
 serialCount = 65536
 
+-- the distance from which on one is stale
 abbrev pub staleFrom : ℕ
 staleFrom = 32768
 

@@ -2,6 +2,7 @@
 ghost use mathlib.Core.Path.{_≡_};
 ghost use Rattle.frames.specs.Answer.{answerNumber};
 
+// The answer, by its case.
 pub enum Answer {
     // 0: done
     Done,

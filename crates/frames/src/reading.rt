@@ -24,9 +24,10 @@ pub enum Reading {
     Accepted(Frame),
 }
 
-// The range of a reading of the battery, and of the thresholds: millivolts.
+// The lowest reading of the battery, and the lowest threshold: millivolts.
 const LOWEST_READING: u16 = 5000;
 
+// And the highest.
 const HIGHEST_READING: u16 = 9000;
 
 // Modules are 0 to 7.

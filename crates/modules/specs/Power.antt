@@ -66,10 +66,10 @@ isFailed On = false
 isFailed (Off tries) = false
 isFailed (Failed left) = true
 
--- a module with another power, or another request
-
+-- a module with another power
 abbrev pub withPower : Power → Module → Module
 withPower power m = record { power = power; requested = m .requested }
 
+-- a module with another request
 abbrev pub withRequest : Bool → Module → Module
 withRequest requested m = record { power = m .power; requested = requested }

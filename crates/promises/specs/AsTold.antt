@@ -1,4 +1,5 @@
--- As told: a module is requested on or off as the last word on it was, and no mission module runs that nobody asked for.
+-- As told: a module is requested on or off as the last word on it was, and no mission module runs that nobody
+-- asked for.
 -- Assumes nothing.
 use Prim.Native.Nat.{ℕ, _<_}
 use mathlib.Core.Path.{_≡_}
@@ -32,20 +33,23 @@ orders i neither word = word
 abbrev pub ordered : ℕ → State → Call → (word : Bool) → Bool
 ordered i s c word = if isDone (answered s c) then orders i (aboutOf c) word else word
 
--- a crossing down, SAFE before and RECOVERY after, says "off" to a mission module; a crossing up says "on" to a core module
+-- a crossing down, SAFE before and RECOVERY after, says "off" to a mission module; a crossing up says "on" to a
+-- core module
 abbrev pub crossing : (mission : Bool) → (before after : Mode) → (word : Bool) → Bool
 crossing true before after word = if isSafe before && isRecovery after then false else word
 crossing false before after word = if isRecovery before && isSafe after then true else word
 
 -- what a call says
 abbrev pub said : (mission : Bool) → ℕ → State → Call → (word : Bool) → Bool
-said mission i s c word = crossing mission (s .watch .mode) (called s c .result .state .watch .mode) (ordered i s c word)
+said mission i s c word =
+    crossing mission (s .watch .mode) (called s c .result .state .watch .mode) (ordered i s c word)
 
 -- the last word on module i after a history, given the word before it
 abbrev pub lastWord : (mission : Bool) → ℕ → (word : Bool) → State → List Call → Bool
 lastWord mission i word s [] = word
 lastWord mission i word s (c ∷ cs) = lastWord mission i (said mission i s c word) (called s c .result .state) cs
 
+-- the last word, and what came of it
 pub record AsTold : Type 0 where
   -- a mission module is requested on exactly when the last word on it was "on"
   pub mission :

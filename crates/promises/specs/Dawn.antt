@@ -50,6 +50,7 @@ pub record NotTaken (s : State) (late : Call) : Type 0 where
   pub answer : T (within 8 9 (answered s late))
   pub state : called s late .result .state ≡ s
 
+-- what is late is not taken
 pub record Dawn : Type 0 where
   pub old :
       (origin : Origin) (s : State) (first : Call) (since : List Call) (late : Call) → Late origin s first since late →

@@ -1,4 +1,5 @@
--- Deployment ends: however the antennas fare and whatever else is sent, the board leaves DEPLOY_WAIT, once and for all.
+-- Deployment ends: however the antennas fare and whatever else is sent, the board leaves DEPLOY_WAIT,
+-- once and for all.
 -- Assumes nothing.
 use Prim.Native.Nat.{ℕ, _≤_}
 use mathlib.Core.Path.{_≡_}
@@ -13,6 +14,7 @@ use Rattle.supervisor.specs.declared.state.State.{State}
 abbrev pub longestDeployment : ℕ
 longestDeployment = 87300
 
+-- the end of DEPLOY_WAIT
 pub record Deployment : Type 0 where
   -- after so many done ticks from the fresh start the board is out of DEPLOY_WAIT
   pub ends :

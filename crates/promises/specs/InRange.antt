@@ -8,6 +8,7 @@ use Rattle.supervisor.specs.Fresh.{freshState}
 use Rattle.supervisor.specs.History.{Call, called, answered, after}
 use Rattle.supervisor.specs.declared.state.State.{State}
 
+-- check 1 always passes
 pub record InRange : Type 0 where
   -- a call on a state in range leaves one in range, whatever its bytes and its room
   pub kept : (s : State) (c : Call) → T (inRange s) → T (inRange (called s c .result .state))

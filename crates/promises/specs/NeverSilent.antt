@@ -28,12 +28,14 @@ someDue s (c ∷ cs) = beaconDue s c || someDue (called s c .result .state) cs
 abbrev pub SafeTicks : State → List Call → Type 0
 SafeTicks s [] = Unit {0}
 SafeTicks s (c ∷ cs) =
-    (T (doneTick s c) → isSafe (called s c .result .state .watch .mode) ≡ true) × SafeTicks (called s c .result .state) cs
+    (T (doneTick s c) → isSafe (called s c .result .state .watch .mode) ≡ true)
+    × SafeTicks (called s c .result .state) cs
 
 -- done ticks without a beacon are fewer than these
 abbrev pub fiveMinutes : ℕ
 fiveMinutes = basicTicks
 
+-- and in SAFE than these
 abbrev pub oneMinute : ℕ
 oneMinute = completeTicks
 

@@ -1,6 +1,7 @@
--- Numbers on either side: the fourteen that the page marks to be proved, each through the definition that a public call's contract cites.
+-- Numbers on either side: the fourteen that the page marks to be proved, each through the definition that a public
+-- call's contract cites.
 -- Assumes nothing.
-use Prim.Native.Nat.{ℕ, _/_, _%_}
+use Prim.Native.Nat.{ℕ, _-_, _/_, _%_}
 use mathlib.Core.Path.{_≡_}
 use mathlib.Core.Bool.{Bool, true, false}
 use mathlib.Core.List.{List, [], _∷_}
@@ -10,10 +11,12 @@ use Rattle.modules.specs.Power.{switched}
 use Rattle.modules.specs.declared.power.Power.{Power}
 use Rattle.modules.specs.declared.power.Power.the-variants.{Off, Failed}
 use Rattle.frames.specs.Kind.{tickKind, orderKind}
+use Rattle.frames.specs.Sender.{groundOrigin}
 use Rattle.frames.specs.declared.serial.Class.{Class}
 use Rattle.frames.specs.declared.serial.Class.the-variants.{Repeat, Fresh, Stale}
 use Rattle.supervisor.specs.State.{withMode, withControl, withTension, withSerials}
 use Rattle.supervisor.specs.Fresh.{freshState}
+use Rattle.supervisor.specs.Range.{judgeTicks}
 use Rattle.supervisor.specs.History.{Call, called, answered}
 use Rattle.supervisor.specs.declared.state.Mode.{Mode}
 use Rattle.supervisor.specs.declared.state.Mode.the-variants.{Recovery, Safe}
@@ -36,23 +39,34 @@ pub data Row : Type 0 where
 abbrev room : List ℕ
 room = replicate 64 0
 
--- a call on a board fresh but for what a row says
+-- a board fresh but for ground's last serial
 abbrev lastAt : ℕ → State
 lastAt last = withSerials (record { ground = last; payload = 0 }) freshState
 
+-- one that the next tick judges, fresh but for its mode and tension
 abbrev judgedNext : Mode → ℕ → State
-judgedNext mode tension = withControl 29 (withMode mode (withTension tension freshState))
+judgedNext mode tension = withControl (judgeTicks - 1) (withMode mode (withTension tension freshState))
 
+-- a call with these bytes
 abbrev send : List ℕ → Call
 send bytes = record { input = bytes; room = room }
 
+-- ground's order to switch MCS off, with a serial
+abbrev orderWith : ℕ → List ℕ
+orderWith n = orderKind ∷ groundOrigin ∷ n / 256 ∷ n % 256 ∷ 0 ∷ 0 ∷ []
+
+-- a tick without shorts
+abbrev quietTick : List ℕ
+quietTick = tickKind ∷ 0 ∷ []
+
+-- what a row says
 abbrev pub Holds : Row → Type 0
-Holds (serial last n class) = verdict (answered (lastAt last) (send (orderKind ∷ 1 ∷ n / 256 ∷ n % 256 ∷ 0 ∷ 0 ∷ []))) ≡ class
-Holds (tick mode tension next) = called (judgedNext mode tension) (send (tickKind ∷ 0 ∷ [])) .result .state .watch .mode ≡ next
+Holds (serial last n class) = verdict (answered (lastAt last) (send (orderWith n))) ≡ class
+Holds (tick mode tension next) = called (judgedNext mode tension) (send quietTick) .result .state .watch .mode ≡ next
 Holds (power wanted short before next) = switched wanted short before ≡ next
 Holds (units text count) = keyReply (keyOf text room .result) ≡ reply 0 count
 
--- `E`, `E E`, `R`, `PARIS`
+-- the rows; the texts are `E`, `E E`, `R`, `PARIS`
 abbrev pub rows : List Row
 rows =
     serial 65535 0 Fresh
@@ -71,9 +85,11 @@ rows =
     ∷ units (80 ∷ 65 ∷ 82 ∷ 73 ∷ 83 ∷ []) 43
     ∷ []
 
+-- each row of a table holds
 abbrev pub Each : List Row → Type 0
 Each [] = Unit {0}
 Each (row ∷ rest) = Holds row × Each rest
 
+-- all fourteen
 abbrev pub Numbers : Type 0
 Numbers = Each rows

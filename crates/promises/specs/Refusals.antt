@@ -43,6 +43,7 @@ pub record Unwritten (r : Reply) (before after : List ℕ) : Type 0 where
   pub count : r .count ≡ 0
   pub room : after ≡ before
 
+-- each call, by the numbers of its refusals
 pub record Refusals : Type 0 where
   -- `step`
   pub oneToSeven : (s : State) (c : Call) → T (within 1 7 (answered s c)) → Untouched s c
@@ -53,9 +54,11 @@ pub record Refusals : Type 0 where
       (text room : List ℕ) → T (within 11 14 (keyReply (keyOf text room .result) .number)) →
       Unwritten (keyReply (keyOf text room .result)) room (keyOf text room .room)
   pub reading :
-      (units room : List ℕ) (after : Outcome Heard) → Read units room after → T (within 14 15 (readReply (after .result) .number)) →
+      (units room : List ℕ) (after : Outcome Heard) → Read units room after →
+      T (within 14 15 (readReply (after .result) .number)) →
       Unwritten (readReply (after .result)) room (after .room)
   -- the beacon's text
   pub beacon :
-      (form : Form) (s : State) (room : List ℕ) → T (within 1 14 (writtenReply (beaconOf form s room .result) .number)) →
+      (form : Form) (s : State) (room : List ℕ) →
+      T (within 1 14 (writtenReply (beaconOf form s room .result) .number)) →
       Unwritten (writtenReply (beaconOf form s room .result)) room (beaconOf form s room .room)

@@ -1,4 +1,5 @@
--- Serials by themselves: whether a frame is a repeat, stale or neither hangs on its own serial and its origin's earlier frames only.
+-- Serials by themselves: whether a frame is a repeat, stale or neither hangs on its own serial and its origin's
+-- earlier frames only.
 -- Assumes nothing.
 use Prim.Native.Nat.{ℕ}
 use mathlib.Core.Path.{_≡_}
@@ -21,8 +22,8 @@ serialsOf origin (c ∷ cs) = serialFrom origin (aboutOf c) ++ serialsOf origin 
 abbrev pub verdict : (answer : ℕ) → Class
 verdict answer = if eqb answer 8 then Repeat else if eqb answer 9 then Stale else Fresh
 
--- two flights from the fresh start, with room for every report, in which an origin sent the same serials in the same order:
--- a frame of that origin, with the same serial in both, has the same verdict in both
+-- two flights from the fresh start, with room for every report, in which an origin sent the same serials in the same
+-- order: a frame of that origin, with the same serial in both, has the same verdict in both
 abbrev pub Serials : Type 0
 Serials =
     (origin : Origin) (cs ds : List Call) → Roomy cs → Roomy ds → serialsOf origin cs ≡ serialsOf origin ds →

@@ -1,4 +1,5 @@
--- The better battery: of two craft with the same frames but for higher battery readings on the second, the second is as good or better.
+-- The better battery: of two craft with the same frames but for higher battery readings on the second, the second
+-- is as good or better.
 -- Assumes nothing.
 use Prim.Native.Nat.{ℕ, _≤_}
 use mathlib.Core.Path.{_≡_}
@@ -21,7 +22,8 @@ use Rattle.supervisor.specs.declared.state.State.{State}
 pub data AsGood : List ℕ → List ℕ → Type 0 where
   same : {bytes : List ℕ} → AsGood bytes bytes
   higher :
-      (high low high′ low′ : ℕ) → T (isReading (word high low)) → T (isReading (word high′ low′)) → word high low ≤ word high′ low′ →
+      (high low high′ low′ : ℕ) → T (isReading (word high low)) → T (isReading (word high′ low′)) →
+      word high low ≤ word high′ low′ →
       AsGood (batteryKind ∷ high ∷ low ∷ []) (batteryKind ∷ high′ ∷ low′ ∷ [])
 
 -- the calls of the two craft, one by one; their rooms may differ
@@ -47,9 +49,10 @@ pub record Better (cs : List Call) (a b : State) : Type 0 where
   -- each of the mission four that is requested on in the first is requested on in the second
   pub requested : (i : ℕ) → isMission i ≡ true → T (moduleAt i a .requested) → T (moduleAt i b .requested)
   -- each of them that was never reported shorted and is on in the first is on in the second
-  pub on : (i : ℕ) → isMission i ≡ true → NeverShorted i cs → T (isOn (moduleAt i a .power)) → T (isOn (moduleAt i b .power))
+  pub on :
+      (i : ℕ) → isMission i ≡ true → NeverShorted i cs → T (isOn (moduleAt i a .power)) → T (isOn (moduleAt i b .power))
 
--- from the fresh start, with room for every report: after every call, that is, after the first n, for each n
+-- from the fresh start, with room for every report: after every call
 abbrev pub TwoCraft : Type 0
 TwoCraft =
     (cs ds : List Call) → Roomy cs → Roomy ds → Paired cs ds →

@@ -18,6 +18,7 @@ dueNumber Complete = 2
 abbrev pub silent : Answer → State → Acted
 silent answer s = record { state = s; answer = answer; due = Nothing }
 
+-- done, with no beacon due
 abbrev pub done : State → Acted
 done s = silent Done s
 

@@ -54,5 +54,6 @@ byClass Fresh sender command s = taken command (serialUsed sender s)
 abbrev pub classIn : State → Sender → Class
 classIn s sender = classOf (sender .serial) (lastOf (sender .origin) (s .serials))
 
+-- once checks 1 to 7 pass, a command is judged by its serial
 unfoldable pub bySerial : Sender → Command → State → Acted
 bySerial sender command s = byClass (classIn s sender) sender command s

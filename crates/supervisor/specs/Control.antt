@@ -15,7 +15,8 @@ use Rattle.supervisor.specs.declared.state.State.{State}
 use Rattle.supervisor.specs.declared.control.Crossing.{Crossing}
 use Rattle.supervisor.specs.declared.control.Crossing.the-variants.{Level, Upward, Downward}
 
--- in RECOVERY with tension above ascend, upward; in SAFE with tension below descend, downward; equality crosses nothing
+-- in RECOVERY with tension above ascend, upward; in SAFE with tension below descend, downward;
+-- equality crosses nothing
 abbrev pub crossingOf : Mode → Battery → Crossing
 crossingOf (DeployWait phase) battery = Level
 crossingOf Recovery battery = if ltb (battery .ascend) (battery .tension) then Upward else Level

@@ -16,10 +16,11 @@ use Rattle.supervisor.specs.declared.state.State.{State}
 abbrev pub freshModules : List Module
 freshModules = requestedBy coreFour true (replicate moduleCount offModule)
 
--- the thresholds at the start
+-- ascend at the start
 abbrev pub freshAscend : ℕ
 freshAscend = 7400
 
+-- descend at the start
 abbrev pub freshDescend : ℕ
 freshDescend = 7000
 

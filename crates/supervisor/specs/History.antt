@@ -46,10 +46,11 @@ abbrev pub after : State → List Call → State
 after s [] = s
 after s (c ∷ cs) = after (called s c .result .state) cs
 
--- room for the report, and for every report of a history
+-- room for the report
 abbrev pub HasRoom : Call → Type 0
 HasRoom c = reportBytes ≤ length (c .room)
 
+-- room for every report of a history
 abbrev pub Roomy : List Call → Type 0
 Roomy [] = Unit {0}
 Roomy (c ∷ cs) = HasRoom c × Roomy cs

@@ -25,10 +25,11 @@ settleSeconds = 900
 abbrev pub judgeTicks : ℕ
 judgeTicks = 30
 
--- the ticks from one basic beacon to the next, and from one complete beacon to the next
+-- the ticks from one basic beacon to the next
 abbrev pub basicTicks : ℕ
 basicTicks = 300
 
+-- the ticks from one complete beacon to the next
 abbrev pub completeTicks : ℕ
 completeTicks = 60
 

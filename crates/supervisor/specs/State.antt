@@ -20,23 +20,25 @@ modeNumber (DeployWait phase) = 0
 modeNumber Recovery = 1
 modeNumber Safe = 2
 
--- the mode is DEPLOY_WAIT; is RECOVERY; is SAFE
+-- the mode is DEPLOY_WAIT
 abbrev pub isDeployWait : Mode → Bool
 isDeployWait (DeployWait phase) = true
 isDeployWait Recovery = false
 isDeployWait Safe = false
 
+-- the mode is RECOVERY
 abbrev pub isRecovery : Mode → Bool
 isRecovery (DeployWait phase) = false
 isRecovery Recovery = true
 isRecovery Safe = false
 
+-- the mode is SAFE
 abbrev pub isSafe : Mode → Bool
 isSafe (DeployWait phase) = false
 isSafe Recovery = false
 isSafe Safe = true
 
--- of a state
+-- a state is in DEPLOY_WAIT
 abbrev pub inDeployWait : State → Bool
 inDeployWait s = isDeployWait (s .watch .mode)
 
@@ -48,46 +50,52 @@ offModule = record { power = Off fullTries; requested = false }
 abbrev pub moduleAt : ℕ → State → Module
 moduleAt i s = getD (s .modules) i offModule
 
--- the state with another watch, battery, serials, antennas, modules
-
+-- the state with another watch
 abbrev pub withWatch : Watch → State → State
 withWatch watch s =
     record { watch = watch; antennas = s .antennas; battery = s .battery; serials = s .serials; modules = s .modules }
 
+-- with another report of the antennas
 abbrev pub withAntennas : Bool → State → State
 withAntennas deployed s =
     record { watch = s .watch; antennas = deployed; battery = s .battery; serials = s .serials; modules = s .modules }
 
+-- with another battery
 abbrev pub withBattery : Battery → State → State
 withBattery battery s =
     record { watch = s .watch; antennas = s .antennas; battery = battery; serials = s .serials; modules = s .modules }
 
+-- with other last serials
 abbrev pub withSerials : Serials → State → State
 withSerials serials s =
     record { watch = s .watch; antennas = s .antennas; battery = s .battery; serials = serials; modules = s .modules }
 
+-- with other modules
 abbrev pub withModules : List Module → State → State
 withModules modules s =
     record { watch = s .watch; antennas = s .antennas; battery = s .battery; serials = s .serials; modules = modules }
 
--- and with one number or the mode alone
-
+-- with another mode
 abbrev pub withMode : Mode → State → State
 withMode mode s =
     withWatch (record { mode = mode; control = s .watch .control; beacon = s .watch .beacon }) s
 
+-- with another control count
 abbrev pub withControl : ℕ → State → State
 withControl count s =
     withWatch (record { mode = s .watch .mode; control = count; beacon = s .watch .beacon }) s
 
+-- with another beacon count
 abbrev pub withBeacon : ℕ → State → State
 withBeacon count s =
     withWatch (record { mode = s .watch .mode; control = s .watch .control; beacon = count }) s
 
+-- with another tension
 abbrev pub withTension : ℕ → State → State
 withTension tension s =
     withBattery (record { tension = tension; ascend = s .battery .ascend; descend = s .battery .descend }) s
 
+-- with other thresholds
 abbrev pub withThresholds : (ascend descend : ℕ) → State → State
 withThresholds ascend descend s =
     withBattery (record { tension = s .battery .tension; ascend = ascend; descend = descend }) s

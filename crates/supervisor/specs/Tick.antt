@@ -38,5 +38,6 @@ tickedIn (DeployWait phase) shorts s = done (withMode (phaseTicked (s .antennas)
 tickedIn Recovery shorts s = stages shorts s
 tickedIn Safe shorts s = stages shorts s
 
+-- a tick, by the mode before it
 unfoldable pub ticked : (shorts : ℕ) → State → Acted
 ticked shorts s = tickedIn (s .watch .mode) shorts s

@@ -12,9 +12,10 @@ use modules::power::Module;
 use modules::power::Power;
 use modules::power::TRIES;
 
-// The thresholds at the start: millivolts.
+// Ascend at the start: millivolts.
 const ASCEND: u16 = 7400;
 
+// Descend at the start.
 const DESCEND: u16 = 7000;
 
 // The state at the start of a flight.

@@ -27,7 +27,12 @@ returns-5 c = simp (c .match .keys5)
 
 returns-6 : tie.Need-returns-6
 unfolding totalOf
-returns-6 c = simp (ne-eqb _ _ (c .match .rest .0 .0 .0 .0 .1), ne-eqb _ _ (c .match .rest .0 .0 .0 .1), ne-eqb _ _ (c .match .rest .0 .0 .1), ne-eqb _ _ (c .match .rest .0 .1), ne-eqb _ _ (c .match .rest .1))
+returns-6 c =
+    let (known, fifth) = c .match .rest in
+    let (three, fourth) = known in
+    let (two, third) = three in
+    let (one, second) = two in
+    simp (ne-eqb _ _ (one .1), ne-eqb _ _ second, ne-eqb _ _ third, ne-eqb _ _ fourth, ne-eqb _ _ fifth)
 
 pub total-spec : {M : Type 1} → statement M
 total-spec = tie.close (tie.spec returns returns-2 returns-3 returns-4 returns-5 returns-6)

@@ -1,7 +1,8 @@
 -- `read` meets its contract.
 -- Assumes nothing.
 use Prim.Native.Nat.{ℕ}
-use mathlib.Core.Path.{_≡_, sym, ap, _∙_}
+use mathlib.Core.Path.{_≡_, refl, sym, ap, _∙_}
+use mathlib.Core.List.{List}
 use native.Mathlib.Omega.{arith}
 use lib.ListN.{length}
 use borrow.Author.Tests.{eq-eqb, ne-eqb}
@@ -28,14 +29,24 @@ returns-2 c = simp (ne-eqb _ _ (c .before .before .before .if1 .left), eq-eqb _ 
 
 returns-3 : tie.Need-returns-3
 unfolding readFrame
-returns-3 c = simp (ne-eqb _ _ (c .before .before .before .before .if1 .left), ne-eqb _ _ (rw (c .before .before .total .ensures) at (c .before .if2 .left)), ne-eqb _ _ (rw (c .before .before .total .ensures) at (c .if3 .taken)))
+returns-3 c =
+    simp (
+      ne-eqb _ _ (c .before .before .before .before .if1 .left),
+      ne-eqb _ _ (rw (c .before .before .total .ensures) at (c .before .if2 .left)),
+      ne-eqb _ _ (rw (c .before .before .total .ensures) at (c .if3 .taken)),
+    )
 
--- what is known once checks 3 to 5 have passed
-told : (c : tie.Else3) → length (c .before .before .before .before .before .before .args .bytes .now) ≡ totalOf (byteAt 0 (c .before .before .before .before .before .before .args .bytes .now))
+-- the bytes, once checks 3 to 5 have passed, and what is known of them
+abbrev all : tie.Else3 → List ℕ
+all c = c .before .before .before .before .before .before .args .bytes .now
+
+told : (c : tie.Else3) → length (all c) ≡ totalOf (byteAt 0 (all c))
 told c = rw (c .before .before .total .ensures) at (c .if3 .left)
 
-by-kind : (c : tie.Else3) → readFrame (c .before .before .before .before .before .before .args .bytes .now) ≡ fieldsOf (byteAt 0 (c .before .before .before .before .before .before .args .bytes .now)) (c .before .before .before .before .before .before .args .bytes .now)
-by-kind c = read-fields (c .before .before .before .before .before .before .args .bytes .now) (c .before .before .before .before .if1 .left) (rw (c .before .before .total .ensures) at (c .before .if2 .left)) (told c)
+by-kind : (c : tie.Else3) (kind : ℕ) → byteAt 0 (all c) ≡ kind → readFrame (all c) ≡ fieldsOf kind (all c)
+by-kind c kind e =
+    read-fields (all c) (c .before .before .before .before .if1 .left) (rw (c .before .before .total .ensures) at (c .before .if2 .left)) (told c)
+    ∙ ap (λ (k : ℕ). fieldsOf k (all c)) e
 
 shared-slice-read-t13 : tie.Need-shared-slice-read-t13
 unfolding totalOf
@@ -55,22 +66,29 @@ order-requires c κs = told (c .before) ∙ ap totalOf (c .match .keys4)
 
 thresholds-requires : tie.Need-thresholds-requires
 unfolding totalOf
-thresholds-requires c κs = told (c .before) ∙ last-total _ (c .match .rest .0 .0 .0 .1) (c .match .rest .0 .0 .1) (c .match .rest .0 .1) (c .match .rest .1) (rw (c .before .before .before .total .ensures) at (c .before .before .if2 .left))
+thresholds-requires c κs =
+    told (c .before)
+    ∙ last-total _ (c .match .rest .0 .0 .0 .1) (c .match .rest .0 .0 .1) (c .match .rest .0 .1) (c .match .rest .1)
+    (rw (c .before .before .before .total .ensures) at (c .before .before .if2 .left))
 
 returns-4 : tie.Need-returns-4
-returns-4 c = sym (by-kind (c .before .before) ∙ ap (λ (k : ℕ). fieldsOf k (c .before .before .before .before .before .before .before .before .args .bytes .now)) (c .before .match .keys1))
+returns-4 c = sym (by-kind (c .before .before) _ (c .before .match .keys1))
 
 returns-5 : tie.Need-returns-5
-returns-5 c = c .battery .ensures ∙ sym (by-kind (c .before .before) ∙ ap (λ (k : ℕ). fieldsOf k (c .before .before .before .before .before .before .before .before .args .bytes .now)) (c .before .match .keys2))
+returns-5 c = c .battery .ensures ∙ sym (by-kind (c .before .before) _ (c .before .match .keys2))
 
 returns-6 : tie.Need-returns-6
-returns-6 c = c .antennas .ensures ∙ sym (by-kind (c .before .before) ∙ ap (λ (k : ℕ). fieldsOf k (c .before .before .before .before .before .before .before .before .args .bytes .now)) (c .before .match .keys3))
+returns-6 c = c .antennas .ensures ∙ sym (by-kind (c .before .before) _ (c .before .match .keys3))
 
 returns-7 : tie.Need-returns-7
-returns-7 c = c .order .ensures ∙ sym (by-kind (c .before .before) ∙ ap (λ (k : ℕ). fieldsOf k (c .before .before .before .before .before .before .before .before .args .bytes .now)) (c .before .match .keys4))
+returns-7 c = c .order .ensures ∙ sym (by-kind (c .before .before) _ (c .before .match .keys4))
 
 returns-8 : tie.Need-returns-8
-returns-8 c = c .thresholds .ensures ∙ sym (by-kind (c .before .before) ∙ simp (ne-eqb _ _ (c .before .match .rest .0 .0 .0 .1), ne-eqb _ _ (c .before .match .rest .0 .0 .1), ne-eqb _ _ (c .before .match .rest .0 .1), ne-eqb _ _ (c .before .match .rest .1)))
+returns-8 c =
+    let rest : tie.At-match-rest = c .before in
+    c .thresholds .ensures
+    ∙ sym (by-kind (c .before .before) _ refl
+    ∙ simp (ne-eqb _ _ (rest .match .rest .0 .0 .0 .1), ne-eqb _ _ (rest .match .rest .0 .0 .1), ne-eqb _ _ (rest .match .rest .0 .1), ne-eqb _ _ (rest .match .rest .1)))
 
 pub read-spec : {M : Type 1} → statement M
 read-spec =

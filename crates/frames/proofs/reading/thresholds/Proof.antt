@@ -36,15 +36,32 @@ sender-from-requires c κs = search needs
 
 returns : tie.Need-returns
 unfolding thresholdsFields
-returns c = simp (rw (c .before .before .are-thresholds .ensures, c .before .before .before .is-origin .ensures, c .before .before .before .before .word2 .ensures, c .before .before .before .before .before .before .before .word .ensures) at (c .before .if1 .taken), eq-eqb _ _ (c .if2 .taken))
+returns c =
+    simp (
+      rw (c .before .before .are-thresholds .ensures, c .before .before .before .is-origin .ensures, c .before .before .before .before .word2 .ensures, c .before .before .before .before .before .before .before .word .ensures) at (c .before .if1 .taken),
+      eq-eqb _ _ (c .if2 .taken),
+    )
 
 returns-2 : tie.Need-returns-2
 unfolding thresholdsFields
-returns-2 c = simp (rw (c .before .before .before .are-thresholds .ensures, c .before .before .before .before .is-origin .ensures, c .before .before .before .before .before .word2 .ensures, c .before .before .before .before .before .before .before .before .word .ensures) at (c .before .before .if1 .taken), ne-eqb _ _ (c .before .if2 .left), c .sender-from .ensures, c .before .before .before .before .before .word2 .ensures, c .before .before .before .before .before .before .before .before .word .ensures)
+returns-2 c =
+    simp (
+      rw (
+        c .before .before .before .are-thresholds .ensures,
+        c .before .before .before .before .is-origin .ensures,
+        c .before .before .before .before .before .word2 .ensures,
+        c .before .before .before .before .before .before .before .before .word .ensures,
+      ) at (c .before .before .if1 .taken),
+      ne-eqb _ _ (c .before .if2 .left),
+      c .sender-from .ensures,
+      c .before .before .before .before .before .word2 .ensures,
+      c .before .before .before .before .before .before .before .before .word .ensures,
+    )
 
 returns-3 : tie.Need-returns-3
 unfolding thresholdsFields
-returns-3 c = simp (rw (c .before .are-thresholds .ensures, c .before .before .is-origin .ensures, c .before .before .before .word2 .ensures, c .before .before .before .before .before .before .word .ensures) at (c .if1 .left))
+returns-3 c =
+    simp (rw (c .before .are-thresholds .ensures, c .before .before .is-origin .ensures, c .before .before .before .word2 .ensures, c .before .before .before .before .before .before .word .ensures) at (c .if1 .left))
 
 pub thresholds-spec : {M : Type 1} → statement M
 thresholds-spec =

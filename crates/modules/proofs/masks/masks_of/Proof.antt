@@ -31,14 +31,24 @@ array-copy-out-m : tie.Need-array-copy-out-m Inv-loop μ-loop
 array-copy-out-m c = search needs
 
 with-requires : tie.Need-with-requires Inv-loop μ-loop
-with-requires c κs = let l : length (c .before .before .before .args .t1) ≡ 8 = search (needs, length-mapped) in rw (c .before .before .loop .inv .done) (masksOf-small _ (simp length-drop (omega arith)))
+with-requires c κs =
+    let eight : length (c .before .before .before .args .t1) ≡ 8 = search (needs, length-mapped) in
+    rw (c .before .before .loop .inv .done) (masksOf-small _ (simp length-drop (omega arith)))
 
 loop-less : tie.Need-loop-less Inv-loop μ-loop
 loop-less c = search needs
 
 loop-again : tie.Need-loop-again Inv-loop μ-loop
 unfolding maskOf masksOf withModule
-loop-again c = let l : length (c .before .before .before .before .args .t1) ≡ 8 = search (needs, length-mapped) in record { low = omega arith; done = simp (c .with .ensures, c .before .before .before .loop .inv .done) (gathered-turn masksOf withModule (λ m ms. refl) (c .before .before .before .loop .i) (c .before .before .before .before .args .t1) _ (search needs) (omega arith)) }
+loop-again c =
+    let here : tie.At-loop Inv-loop μ-loop = c .before .before .before in
+    let eight : length (here .before .args .t1) ≡ 8 = search (needs, length-mapped) in
+    record {
+      low = omega arith;
+      done =
+          simp (c .with .ensures, here .loop .inv .done)
+          (gathered-turn masksOf withModule (λ m ms. refl) (here .loop .i) (here .before .args .t1) _ (search needs) (omega arith));
+    }
 
 returns : tie.Need-returns Inv-loop μ-loop
 returns c = let e : c .before .loop .i ≡ 0 = omega arith in rw e at (c .before .loop .inv .done)

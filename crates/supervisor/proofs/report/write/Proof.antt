@@ -70,7 +70,8 @@ returns : tie.Need-returns
 unfolding reportOf
 returns c =
     let start : tie.Start = c .before .before .before .before .before .before .before .before .before .before .before in
-    simp (c .number3 .ensures, c .before .number2 .ensures, c .before .before .number .ensures, c .before .before .before .before .before .masks-of .ensures, c .before .before .before .before .before .before .before .before .before .head .ensures)
+    let gathered : tie.After-masks-of = c .before .before .before .before .before in
+    simp (c .number3 .ensures, c .before .number2 .ensures, c .before .before .number .ensures, gathered .masks-of .ensures, gathered .before .before .before .before .head .ensures)
     (sets-eq (reportOf (start .args .frame) (start .args .acted)) (now (start .args .room)) 0 (start .pre))
 
 pub write-spec : {M : Type 1} → statement M

@@ -1,5 +1,8 @@
 -- `step` meets its contract.
 -- Assumes nothing.
+use mathlib.Core.Path.{_≡_}
+use mathlib.Core.Bool.{true}
+use Rattle.supervisor.specs.Range.{inRange}
 use borrow.Author.Tests.{le-leb, lt-leb, not-false, not-true}
 use borrow.Author.Needs.{needs}
 use Rattle.supervisor.specs.Step.{stepOf}
@@ -13,9 +16,13 @@ returns : tie.Need-returns
 unfolding stepOf
 returns c = simp (rw (c .before .in-range .ensures) at (not-true (c .before .in-range .result) (c .if1 .taken)))
 
+-- check 1 passed
+valid : (c : tie.Else1) → inRange (c .before .before .before .before .args .state) ≡ true
+valid c = rw (c .before .in-range .ensures) at (not-false (c .before .in-range .result) (c .if1 .left))
+
 returns-2 : tie.Need-returns-2
 unfolding stepOf
-returns-2 c = simp (rw (c .before .before .in-range .ensures) at (not-false (c .before .before .in-range .result) (c .before .if1 .left)), lt-leb _ _ (c .if2 .taken))
+returns-2 c = simp (valid (c .before), lt-leb _ _ (c .if2 .taken))
 
 read-requires : tie.Need-read-requires
 read-requires c κs = search needs
@@ -27,21 +34,30 @@ enum-known-frame : tie.Need-enum-known-frame
 enum-known-frame c = search needs
 
 act-requires : tie.Need-act-requires
-act-requires c κs = rw (c .before .before .before .before .before .before .in-range .ensures) at (not-false (c .before .before .before .before .before .before .in-range .result) (c .before .before .before .before .before .if1 .left))
+act-requires c κs = valid (c .before .before .before .before .before)
 
 write-requires : tie.Need-write-requires
 write-requires c κs = search needs
 
 returns-3 : tie.Need-returns-3
 unfolding stepOf
-returns-3 c = simp (rw (c .before .before .before .before .before .before .in-range .ensures) at (not-false (c .before .before .before .before .before .before .in-range .result) (c .before .before .before .before .before .if1 .left)), le-leb _ _ (c .before .before .before .before .if2 .left), rw (c .before .before .before .read .ensures) at (c .before .answer .given .1))
+returns-3 c =
+    simp (valid (c .before .before .before .before .before), le-leb _ _ (c .before .before .before .before .if2 .left), rw (c .before .before .before .read .ensures) at (c .before .answer .given .1))
 
 same-length : tie.Need-same-length
 same-length c = search needs
 
 returns-4 : tie.Need-returns-4
 unfolding stepOf
-returns-4 c = simp (rw (c .before .before .before .before .before .before .before .before .before .before .before .before .in-range .ensures) at (not-false (c .before .before .before .before .before .before .before .before .before .before .before .before .in-range .result) (c .before .before .before .before .before .before .before .before .before .before .before .if1 .left)), le-leb _ _ (c .before .before .before .before .before .before .before .before .before .before .if2 .left), rw (c .before .before .before .before .before .before .before .before .before .read .ensures) at (c .before .before .before .before .before .before .before .frame .given .1), c .before .before .before .write .ensures, c .before .before .before .before .before .act .ensures)
+returns-4 c =
+    let heard : tie.After-read = c .before .before .before .before .before .before .before .before .before in
+    simp (
+      valid (heard .before .before),
+      le-leb _ _ (heard .before .if2 .left),
+      rw (heard .read .ensures) at (c .before .before .before .before .before .before .before .frame .given .1),
+      c .before .before .before .write .ensures,
+      c .before .before .before .before .before .act .ensures,
+    )
 
 pub step-spec : {M : Type 1} → statement M
 step-spec =

@@ -1,5 +1,6 @@
 -- `Phase::tick` meets its contract.
 -- Assumes nothing.
+use Prim.Native.Nat.{ℕ}
 use native.Mathlib.Omega.{arith}
 use borrow.Author.Tests.{ltb-true, eq-eqb, ne-eqb}
 use borrow.Author.Needs.{needs}
@@ -19,7 +20,9 @@ enum-known-self-2 : tie.Need-enum-known-self-2
 enum-known-self-2 c = search needs
 
 sub-now : tie.Need-sub-now
-sub-now c = omega (arith, within-low 1 settleSeconds (c .before .self2 .given .0 .0) (holds (within 1 settleSeconds (c .before .self2 .given .0 .0)) (rw (c .before .self2 .given .1) at (c .before .before .before .pre))))
+sub-now c =
+    let left : ℕ = c .before .self2 .given .0 .0 in
+    omega (arith, within-low 1 settleSeconds left (holds (within 1 settleSeconds left) (rw (c .before .self2 .given .1) at (c .before .before .before .pre))))
 
 returns : tie.Need-returns
 returns c = simp (c .before .before .self .given .1, c .if1 .taken)

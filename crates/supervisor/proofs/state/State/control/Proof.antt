@@ -37,11 +37,13 @@ returns-2 c = simp (eq-eqb _ _ (c .before .before .before .before .before .if1 .
 
 returns-3 : tie.Need-returns-3
 unfolding controlled
-returns-3 c = simp (eq-eqb _ _ (c .before .before .before .before .before .before .if1 .left), (rw (c .before .before .before .crossing .ensures) at (c .before .enum-told2 .given .1)), c .crossed .ensures)
+returns-3 c =
+    simp (eq-eqb _ _ (c .before .before .before .before .before .before .if1 .left), rw (c .before .before .before .crossing .ensures) at (c .before .enum-told2 .given .1), c .crossed .ensures)
 
 returns-4 : tie.Need-returns-4
 unfolding controlled
-returns-4 c = simp (eq-eqb _ _ (c .before .before .before .before .before .before .if1 .left), (rw (c .before .before .before .crossing .ensures) at (c .before .enum-told3 .given .1)), c .crossed2 .ensures)
+returns-4 c =
+    simp (eq-eqb _ _ (c .before .before .before .before .before .before .if1 .left), rw (c .before .before .before .crossing .ensures) at (c .before .enum-told3 .given .1), c .crossed2 .ensures)
 
 pub control-spec : {M : Type 1} → statement M
 control-spec =

@@ -26,7 +26,13 @@ silent-requires-2 c κs = search needs
 
 returns-2 : tie.Need-returns-2
 unfolding requestSet
-returns-2 c = simp (c .silent2 .ensures, c .before .with-modules .ensures, c .before .before .request-one .ensures, rw (c .before .before .before .before .before .is-ill-timed .ensures) at (c .before .before .before .before .if1 .left))
+returns-2 c =
+    simp (
+      c .silent2 .ensures,
+      c .before .with-modules .ensures,
+      c .before .before .request-one .ensures,
+      rw (c .before .before .before .before .before .is-ill-timed .ensures) at (c .before .before .before .before .if1 .left),
+    )
 
 pub order-spec : {M : Type 1} → statement M
 order-spec =
