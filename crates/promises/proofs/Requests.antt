@@ -12,8 +12,6 @@ use Rattle.modules.specs.Groups.{coreFour, missionFour, isMission, moduleCount}
 use Rattle.frames.specs.Answer.{answerNumber}
 use Rattle.frames.specs.About.{isTick, about}
 use Rattle.frames.specs.declared.answer.Answer.the-variants.{NotNow}
-use Rattle.frames.specs.declared.serial.Class.{Class}
-use Rattle.frames.specs.declared.serial.Class.the-variants.{Repeat, Fresh, Stale}
 use Rattle.frames.specs.declared.frame.Frame.{Frame}
 use Rattle.frames.specs.declared.reading.Reading.the-variants.{Accepted}
 use Rattle.frames.specs.declared.sender.Sender.{Sender}
@@ -24,7 +22,7 @@ use Rattle.supervisor.specs.State.{withControl, moduleAt}
 use Rattle.supervisor.specs.Acted.{silent, done}
 use Rattle.supervisor.specs.Tick.{ticked, beforeModules, moduleStage}
 use Rattle.supervisor.specs.Act.{actOf}
-use Rattle.supervisor.specs.Command.{isIllTimed, requestSet, taken, byClass, serialUsed, bySerial, classIn}
+use Rattle.supervisor.specs.Command.{isIllTimed, requestSet, taken, serialUsed}
 use Rattle.supervisor.specs.Deploy.{phaseTicked}
 use Rattle.supervisor.specs.Due.{beaconStage}
 use Rattle.supervisor.specs.History.{Call, called, isDone}
@@ -40,6 +38,7 @@ use Rattle.supervisor.proofs.ControlLaws.{Controls, level, upward, downward, co
 use Rattle.supervisor.proofs.HistoryLaws.{Comes, stopped, ticking, other, comes}
 use Rattle.supervisor.proofs.ModuleLaws.{Eight, at-stage, at-crossed, at-asked, core-or-mission}
 use Rattle.supervisor.proofs.TickLaws.{Ticks, waits, runs, ticks, ticked-done}
+use Rattle.supervisor.proofs.CommandLaws.{by-serial}
 use Rattle.promises.specs.AsTold.{orders, crossing, said}
 
 module _ (i : ℕ) (low : i < moduleCount) where
@@ -59,17 +58,14 @@ module _ (i : ℕ) (low : i < moduleCount) where
       (ap (λ m. m .requested) (at-asked t n i low which on) ∙ ap (λ (word : Bool). if eqb i which then on else word) same)
   taken-told sender (Thresholds ascend descend) s t same n = same
 
-  class-told : (class : Class) (sender : Sender) (command : Command) (s : State) → Eight s → Told (frame.Command sender command) s (byClass class sender command s)
-  class-told Repeat sender command s n = refl
-  class-told Stale sender command s n = refl
-  class-told Fresh sender command s n = taken-told sender command s (serialUsed sender s) refl n
-
   act-told : (f : Frame) → isTick (about (Accepted f)) ≡ false → (s : State) → Eight s → Told f s (actOf f s)
-  unfolding actOf bySerial
+  unfolding actOf
   act-told (frame.Tick shorts) e s n = absurd (true≢false e)
   act-told (frame.Battery tension) e s n = refl
   act-told (frame.Antennas deployed) e s n = refl
-  act-told (frame.Command sender command) e s n = class-told (classIn s sender) sender command s n
+  act-told (frame.Command sender command) e s n =
+      by-serial sender command s (λ class. Told (frame.Command sender command) s) refl refl
+      (taken-told sender command s (serialUsed sender s) refl n)
 
   -- the same mode before and after is no crossing
   no-crossing : (mission : Bool) (m : Mode) (word : Bool) → crossing mission m m word ≡ word

@@ -2,7 +2,7 @@
 -- Assumes nothing.
 use Prim.Native.Nat.{ℕ, _≤_}
 use native.Mathlib.Nat.{le-refl}
-use mathlib.Core.Path.{_≡_, refl, sym, ap, _∙_, subst}
+use mathlib.Core.Path.{_≡_, refl, sym, ap, _∙_}
 use mathlib.Core.Bool.{Bool, true, false, not, _&&_, true≢false, false≢true}
 use lib.Dec.{T, eqb, leb, leb→le}
 use borrow.Author.Tests.{eqb-true}
@@ -12,8 +12,6 @@ use Rattle.modules.specs.Groups.{isMission}
 use Rattle.frames.specs.Serial.{classOf, lastOf, movedTo}
 use Rattle.frames.specs.Reading.{isReading}
 use Rattle.frames.specs.declared.answer.Answer.the-variants.{NotNow}
-use Rattle.frames.specs.declared.serial.Class.{Class}
-use Rattle.frames.specs.declared.serial.Class.the-variants.{Repeat, Fresh, Stale}
 use Rattle.frames.specs.declared.frame.Frame.{Frame}
 use Rattle.frames.specs.declared.sender.Sender.{Sender}
 use Rattle.frames.specs.declared.command.Command.{Command}
@@ -23,10 +21,11 @@ use Rattle.frames.proofs.ReadingLaws.{Fits, FitsCommand}
 use Rattle.supervisor.specs.State.{withTension, isSafe}
 use Rattle.supervisor.specs.Acted.{silent, done}
 use Rattle.supervisor.specs.Act.{actOf}
-use Rattle.supervisor.specs.Command.{isIllTimed, requestSet, orderTaken, thresholdsTaken, taken, byClass, serialUsed, bySerial, classIn}
+use Rattle.supervisor.specs.Command.{isIllTimed, requestSet, orderTaken, thresholdsTaken, taken, serialUsed, bySerial}
 use Rattle.supervisor.specs.declared.acted.Acted.{Acted}
 use Rattle.supervisor.specs.declared.state.State.{State}
 use Rattle.supervisor.proofs.ModuleLaws.{asked-eight, at-asked, mission-low}
+use Rattle.supervisor.proofs.CommandLaws.{by-serials}
 use Rattle.promises.proofs.TwoModes.{safe-at-most}
 use Rattle.promises.proofs.TwoControl.{Beside}
 use Rattle.promises.proofs.TwoTick.{ticked-beside}
@@ -137,27 +136,22 @@ module _ (i : ℕ) (mission : isMission i ≡ true) where
   taken-beside sender (Thresholds ascend descend) fits a b h =
       thresholds-beside ascend descend (leb→le descend ascend (and-right (isReading ascend && isReading descend) (leb descend ascend) (fits .fair))) a b h
 
-  module _ (sender : Sender) (command : Command) (fits : FitsCommand sender command) where
-    class-beside : (class : Class) (a b : State) → Beside i a b → Beside i (byClass class sender command a .state) (byClass class sender command b .state)
-    class-beside Repeat a b h = h
-    class-beside Stale a b h = h
-    class-beside Fresh a b h =
-        taken-beside sender command fits (serialUsed sender a) (serialUsed sender b)
-        (record {
-          flown = h .flown;
-          shared = record {
-            antennas = h .shared .antennas;
-            battery = h .shared .battery;
-            serials = ap (movedTo (sender .origin) (sender .serial)) (h .shared .serials);
-          };
-        })
-
-    -- a serial has the same class on both
-    serial-beside : (a b : State) → Beside i a b → Beside i (bySerial sender command a .state) (bySerial sender command b .state)
-    unfolding bySerial
-    serial-beside a b h =
-        subst (λ (class : Class). Beside i (byClass (classIn a sender) sender command a .state) (byClass class sender command b .state))
-        (ap (λ s. classOf (sender .serial) (lastOf (sender .origin) s)) (h .shared .serials)) (class-beside (classIn a sender) a b h)
+  -- a serial has the same class on both
+  serial-beside :
+      (sender : Sender) (command : Command) → FitsCommand sender command → (a b : State) → Beside i a b →
+      Beside i (bySerial sender command a .state) (bySerial sender command b .state)
+  serial-beside sender command fits a b h =
+      by-serials sender command a b (λ class x y. Beside i (x .state) (y .state))
+      (ap (λ s. classOf (sender .serial) (lastOf (sender .origin) s)) (h .shared .serials)) h h
+      (taken-beside sender command fits (serialUsed sender a) (serialUsed sender b)
+      (record {
+        flown = h .flown;
+        shared = record {
+          antennas = h .shared .antennas;
+          battery = h .shared .battery;
+          serials = ap (movedTo (sender .origin) (sender .serial)) (h .shared .serials);
+        };
+      }))
 
   pub act-beside : (f : Frame) → Fits f → (a b : State) → Beside i a b → Beside i (actOf f a .state) (actOf f b .state)
   unfolding actOf

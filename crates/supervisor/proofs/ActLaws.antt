@@ -8,19 +8,18 @@ use Rattle.basics.proofs.ChoiceLaws.{decided}
 use Rattle.frames.specs.Reading.{isReading, areThresholds}
 use Rattle.frames.specs.About.{about, isTick}
 use Rattle.frames.specs.declared.sender.Sender.{Sender}
-use Rattle.frames.specs.declared.serial.Class.{Class}
-use Rattle.frames.specs.declared.serial.Class.the-variants.{Repeat, Fresh, Stale}
 use Rattle.frames.specs.declared.command.Command.{Command}
 use Rattle.frames.specs.declared.command.Command.the-variants.{Order, Thresholds}
 use Rattle.frames.specs.declared.frame.Frame.{Frame}
-use Rattle.frames.specs.declared.frame.Frame.the-variants as frame
 use Rattle.frames.specs.declared.reading.Reading.the-variants.{Accepted}
+use Rattle.frames.specs.declared.frame.Frame.the-variants as frame
 use Rattle.frames.proofs.ReadingLaws.{Fits, FitsCommand}
 use Rattle.supervisor.specs.State.{withTension, withAntennas, withThresholds}
-use Rattle.supervisor.specs.Command.{isIllTimed, requestSet, taken, serialUsed, byClass, classIn, bySerial}
+use Rattle.supervisor.specs.Command.{isIllTimed, requestSet, taken, serialUsed}
 use Rattle.supervisor.specs.Act.{actOf}
 use Rattle.supervisor.specs.declared.acted.Acted.{Acted}
 use Rattle.supervisor.specs.declared.state.State.{State}
+use Rattle.supervisor.proofs.CommandLaws.{by-serial}
 
 -- a tension, an antennas report, a serial, a request, thresholds: each keeps P
 abbrev pub Still : (State → Type 0) → Type 0
@@ -39,19 +38,13 @@ module _ (P : State → Type 0) (still : Still P) where
       decided (λ (a : Acted). P (a .state)) (isIllTimed which on (s .watch .mode)) (λ e. p) (λ e. still .request which on s e p)
   taken-still sender (Thresholds ascend descend) fits s p = still .thresholds ascend descend (fits .fair) s p
 
-  class-still :
-      (class : Class) (sender : Sender) (command : Command) → FitsCommand sender command → (s : State) → P s →
-      P (byClass class sender command s .state)
-  class-still Repeat sender command fits s p = p
-  class-still Stale sender command fits s p = p
-  class-still Fresh sender command fits s p = taken-still sender command fits (serialUsed sender s) (still .serial sender s p)
-
   pub act-still : (f : Frame) → Fits f → isTick (about (Accepted f)) ≡ false → (s : State) → P s → P (actOf f s .state)
-  unfolding actOf bySerial
+  unfolding actOf
   act-still (frame.Tick shorts) fits e s p = absurd (true≢false e)
   act-still (frame.Battery tension) fits e s p = still .tension tension fits s p
   act-still (frame.Antennas deployed) fits e s p = still .antennas deployed s p
-  act-still (frame.Command sender command) fits e s p = class-still (classIn s sender) sender command fits s p
+  act-still (frame.Command sender command) fits e s p =
+      by-serial sender command s (λ class a. P (a .state)) p p (taken-still sender command fits (serialUsed sender s) (still .serial sender s p))
 
 -- a frame other than a tick leaves the mode and both counts
 pub watch-still : (f : Frame) → Fits f → isTick (about (Accepted f)) ≡ false → (s : State) → actOf f s .state .watch ≡ s .watch

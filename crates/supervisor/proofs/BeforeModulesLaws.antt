@@ -1,14 +1,12 @@
 -- Laws of the state that the module stage finds: what the stages before it leave, and what they may change.
 -- Assumes nothing.
 use Prim.Native.Nat.{ℕ, _<_}
-use mathlib.Core.Path.{_≡_, refl, ap, _∙_}
-use mathlib.Core.Bool.{Bool, true, false, true≢false}
-use lib.Dec.{T}
-use Rattle.modules.specs.Groups.{moduleCount, coreFour, missionFour, isMission}
+use mathlib.Core.Path.{_≡_, refl, ap}
+use mathlib.Core.Bool.{true, false}
+use Rattle.modules.specs.Groups.{moduleCount, coreFour, missionFour}
 use Rattle.supervisor.specs.State.{isDeployWait, moduleAt, withControl}
 use Rattle.supervisor.specs.Control.{controlled}
 use Rattle.supervisor.specs.Tick.{beforeModules}
-use Rattle.supervisor.specs.declared.state.Mode.{Mode}
 use Rattle.supervisor.specs.declared.state.Mode.the-variants.{Recovery, Safe}
 use Rattle.supervisor.specs.declared.state.State.{State}
 use Rattle.supervisor.proofs.ControlLaws.{Controls, level, upward, downward, controls}

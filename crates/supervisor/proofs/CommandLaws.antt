@@ -2,7 +2,7 @@
 -- Assumes nothing.
 use Prim.Native.Nat.{ℕ}
 use native.Mathlib.Omega.{arith}
-use mathlib.Core.Path.{_≡_, refl, ap}
+use mathlib.Core.Path.{_≡_, refl, ap, subst}
 use mathlib.Core.Bool.{Bool, true, false, _||_}
 use mathlib.Core.List.{[], _∷_}
 use mathlib.Core.Logic.{_⊎_, inl, inr, ⊎-elim}
@@ -12,7 +12,6 @@ use Rattle.basics.proofs.ChoiceLaws.{either}
 use Rattle.frames.specs.Answer.{answerNumber}
 use Rattle.frames.specs.Serial.{movedTo}
 use Rattle.frames.specs.About.{about, sameOrigin, serialFrom}
-use Rattle.frames.specs.declared.answer.Answer.the-variants.{Done, NotNow}
 use Rattle.frames.specs.declared.sender.Origin.{Origin}
 use Rattle.frames.specs.declared.sender.Origin.the-variants.{Ground, Payload}
 use Rattle.frames.specs.declared.sender.Sender.{Sender}
@@ -21,8 +20,9 @@ use Rattle.frames.specs.declared.serial.Class.the-variants.{Repeat, Fresh, Stal
 use Rattle.frames.specs.declared.command.Command.{Command}
 use Rattle.frames.specs.declared.command.Command.the-variants.{Order, Thresholds}
 use Rattle.frames.specs.declared.frame.Frame.{Frame}
-use Rattle.frames.specs.declared.frame.Frame.the-variants as frame
 use Rattle.frames.specs.declared.reading.Reading.the-variants.{Accepted}
+use Rattle.frames.specs.declared.answer.Answer.the-variants as answer
+use Rattle.frames.specs.declared.frame.Frame.the-variants as frame
 use Rattle.supervisor.specs.Acted.{silent, done}
 use Rattle.supervisor.specs.Command.{isIllTimed, requestSet, taken, serialUsed, byClass, classIn, bySerial}
 use Rattle.supervisor.specs.Act.{actOf}
@@ -30,6 +30,33 @@ use Rattle.supervisor.specs.History.{isTaken}
 use Rattle.supervisor.specs.declared.acted.Acted.{Acted}
 use Rattle.supervisor.specs.declared.state.State.{State}
 use Rattle.supervisor.proofs.TickLaws.{ticked-done, ticked-serials}
+
+-- what holds of a repeat, of a stale serial and of a command that is taken, class by class and on two states at once, holds of
+-- a command judged by its serial, if the serial has the same class on both
+module _ (sender : Sender) (command : Command) (a b : State) (R : Class → Acted → Acted → Type 0) where
+  by-class :
+      (class : Class) → R Repeat (silent answer.Repeat a) (silent answer.Repeat b) → R Stale (silent answer.Stale a) (silent answer.Stale b) →
+      R Fresh (taken command (serialUsed sender a)) (taken command (serialUsed sender b)) →
+      R class (byClass class sender command a) (byClass class sender command b)
+  by-class Repeat repeated stale fresh = repeated
+  by-class Stale repeated stale fresh = stale
+  by-class Fresh repeated stale fresh = fresh
+
+  pub by-serials :
+      classIn a sender ≡ classIn b sender → R Repeat (silent answer.Repeat a) (silent answer.Repeat b) →
+      R Stale (silent answer.Stale a) (silent answer.Stale b) →
+      R Fresh (taken command (serialUsed sender a)) (taken command (serialUsed sender b)) →
+      R (classIn a sender) (bySerial sender command a) (bySerial sender command b)
+  unfolding bySerial
+  by-serials e repeated stale fresh =
+      subst (λ (class : Class). R (classIn a sender) (byClass (classIn a sender) sender command a) (byClass class sender command b)) e
+      (by-class (classIn a sender) repeated stale fresh)
+
+-- on one state
+pub by-serial :
+    (sender : Sender) (command : Command) (s : State) (R : Class → Acted → Type 0) → R Repeat (silent answer.Repeat s) →
+    R Stale (silent answer.Stale s) → R Fresh (taken command (serialUsed sender s)) → R (classIn s sender) (bySerial sender command s)
+by-serial sender command s R = by-serials sender command s s (λ class x y. R class x) refl
 
 -- what comes of a command, by the class of its serial; at 10 the serial alone moves
 abbrev pub Judged : Class → Sender → State → Acted → Type 0
@@ -44,7 +71,7 @@ Judged Fresh sender s a =
 
 -- news bears no serial, is done and moves none; a command bears its sender's, and is judged by it
 pub data Answers (f : Frame) (s : State) (a : Acted) : Type 0 where
-  news : ((origin : Origin) → serialFrom origin (about (Accepted f)) ≡ []) → a .answer ≡ Done → a .state .serials ≡ s .serials → Answers f s a
+  news : ((origin : Origin) → serialFrom origin (about (Accepted f)) ≡ []) → a .answer ≡ answer.Done → a .state .serials ≡ s .serials → Answers f s a
   judged :
       (sender : Sender) →
       ((origin : Origin) → serialFrom origin (about (Accepted f)) ≡ (if sameOrigin origin (sender .origin) then sender .serial ∷ [] else [])) →
@@ -61,22 +88,19 @@ not-ten e = omega arith
 taken-judged : (command : Command) (sender : Sender) (s t : State) → t ≡ serialUsed sender s → Judged Fresh sender s (taken command t)
 unfolding requestSet
 taken-judged (Order which on) sender s t e =
-    either (Judged Fresh sender s) (isIllTimed which on (t .watch .mode)) {x = silent NotNow t} {y = done (requestSet which on t)}
+    either (Judged Fresh sender s) (isIllTimed which on (t .watch .mode)) {x = silent answer.NotNow t} {y = done (requestSet which on t)}
     (record { taken = tt; serials = ap (λ r. r .serials) e; ill = λ ten. e })
     (record { taken = tt; serials = ap (λ r. r .serials) e; ill = λ ten. absurd (not-ten ten) })
 taken-judged (Thresholds ascend descend) sender s t e = record { taken = tt; serials = ap (λ r. r .serials) e; ill = λ ten. absurd (not-ten ten) }
 
-class-judged : (class : Class) (sender : Sender) (command : Command) (s : State) → Judged class sender s (byClass class sender command s)
-class-judged Repeat sender command s = (refl, refl)
-class-judged Stale sender command s = (refl, refl)
-class-judged Fresh sender command s = taken-judged command sender s (serialUsed sender s) refl
-
 pub act-answers : (f : Frame) (s : State) → Answers f s (actOf f s)
-unfolding actOf bySerial
+unfolding actOf
 act-answers (frame.Tick shorts) s = news (λ origin. refl) (ticked-done shorts s) (ticked-serials shorts s)
 act-answers (frame.Battery tension) s = news (λ origin. refl) refl refl
 act-answers (frame.Antennas deployed) s = news (λ origin. refl) refl refl
-act-answers (frame.Command sender command) s = judged sender (λ origin. refl) (class-judged (classIn s sender) sender command s)
+act-answers (frame.Command sender command) s =
+    judged sender (λ origin. refl)
+    (by-serial sender command s (λ class. Judged class sender s) (refl, refl) (refl, refl) (taken-judged command sender s (serialUsed sender s) refl))
 
 -- what is taken is answered 0 or 10
 pub zero-or-ten : (n : ℕ) → T (isTaken n) → (n ≡ 0) ⊎ (n ≡ 10)

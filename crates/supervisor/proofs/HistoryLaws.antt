@@ -17,9 +17,9 @@ use Rattle.frames.specs.About.{about, isTick}
 use Rattle.frames.specs.declared.answer.Answer.{Answer}
 use Rattle.frames.specs.declared.answer.Answer.the-variants.{BadState, ShortRoom}
 use Rattle.frames.specs.declared.frame.Frame.{Frame}
-use Rattle.frames.specs.declared.frame.Frame.the-variants as frame
 use Rattle.frames.specs.declared.reading.Reading.{Reading}
 use Rattle.frames.specs.declared.reading.Reading.the-variants.{Refused, Accepted}
+use Rattle.frames.specs.declared.frame.Frame.the-variants as frame
 use Rattle.frames.proofs.ReadingLaws.{Fits, Sound, read-sound}
 use Rattle.supervisor.specs.Range.{inRange}
 use Rattle.supervisor.specs.Tick.{ticked}

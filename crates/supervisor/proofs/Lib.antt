@@ -5,8 +5,8 @@ pub mod FreshLaws
 pub mod BeforeModulesLaws
 pub mod DueLaws
 pub mod TickLaws
-pub mod ActLaws
 pub mod CommandLaws
+pub mod ActLaws
 pub mod SerialLaws
 pub mod RangeKept
 pub mod HistoryLaws

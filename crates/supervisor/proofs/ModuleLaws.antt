@@ -5,7 +5,7 @@ use native.Mathlib.Omega.{arith}
 use mathlib.Core.Path.{_≡_, refl, sym, _∙_}
 use mathlib.Core.Bool.{Bool, true, false, not, true≢false}
 use lib.ListN.{length}
-use lib.Dec.{T, lit<, leb}
+use lib.Dec.{lit<, leb}
 use borrow.Author.Tests.{leb-true, leb-false}
 use Rattle.basics.specs.Choice.{if_then_else_, bit}
 use Rattle.basics.proofs.ChoiceLaws.{is-true, agreed}

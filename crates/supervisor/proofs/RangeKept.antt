@@ -29,7 +29,8 @@ use Rattle.supervisor.specs.declared.state.Mode.{Mode}
 use Rattle.supervisor.specs.declared.state.Mode.the-variants.{DeployWait, Recovery, Safe}
 use Rattle.supervisor.specs.declared.state.Battery.{Battery}
 use Rattle.supervisor.specs.declared.state.State.{State}
-use Rattle.supervisor.proofs.RangeLaws.{Valid, parts, whole, phase-in-range, counts-zero, phase-watch, Low, low-tested, counts-watch, counts-of}
+use Rattle.supervisor.proofs.RangeLaws.{Valid, parts, whole, phase-in-range, counts-zero, phase-watch, Low, low-tested, counts-watch}
+use Rattle.supervisor.proofs.RangeLaws.{counts-of}
 use Rattle.supervisor.proofs.ControlLaws.{Controls, level, upward, downward, controls}
 use Rattle.supervisor.proofs.DueLaws.{count-low}
 use Rattle.supervisor.proofs.TickLaws.{Ticks, waits, runs, ticks}

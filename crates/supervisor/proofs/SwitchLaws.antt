@@ -9,8 +9,8 @@ use Rattle.basics.proofs.ChoiceLaws.{and-left}
 use Rattle.modules.specs.Groups.{moduleCount}
 use Rattle.modules.specs.Power.{switched, isOn}
 use Rattle.modules.specs.Stage.{isWanted}
-use Rattle.modules.proofs.PowerLaws.{unwanted-switched}
 use Rattle.modules.specs.declared.power.Power.{Power}
+use Rattle.modules.proofs.PowerLaws.{unwanted-switched}
 use Rattle.frames.specs.About.{about, isTick}
 use Rattle.frames.specs.declared.frame.Frame.{Frame}
 use Rattle.frames.specs.declared.reading.Reading.the-variants.{Accepted}

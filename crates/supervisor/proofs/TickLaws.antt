@@ -1,8 +1,8 @@
 -- A tick by its cases: a second of DEPLOY_WAIT, or the three stages; and what it leaves.
 -- Assumes nothing.
 use Prim.Native.Nat.{ℕ}
-use mathlib.Core.Path.{_≡_, refl, sym, _∙_}
-use mathlib.Core.Bool.{Bool, true, false, true≢false}
+use mathlib.Core.Path.{_≡_, refl, sym}
+use mathlib.Core.Bool.{true, false, true≢false}
 use Rattle.frames.specs.declared.answer.Answer.the-variants.{Done}
 use Rattle.supervisor.specs.State.{isDeployWait, withMode}
 use Rattle.supervisor.specs.Acted.{done}
