@@ -27,17 +27,19 @@ decimal n = digits 10 (digitCountUpTo 19 n) n
 unfoldable pub hex : ℕ → List ℕ
 hex byte = twoHex byte
 
+-- what stands between two columns
 abbrev pub space : ℕ
 space = 32
 
--- a space before a word
+-- a space before a text
 unfoldable pub spaced : List ℕ → List ℕ
-spaced word = space ∷ word
+spaced text = space ∷ text
 
--- at most so many bytes for a space and a number, and so many for a space and a byte in hex
-abbrev pub mostNumber : ℕ
-mostNumber = 1 + mostDigits
+-- at most so many bytes for a space and a number in decimal
+abbrev pub mostDecimal : ℕ
+mostDecimal = 1 + mostDigits
 
+-- so many bytes for a space and a byte in hex
 abbrev pub mostHex : ℕ
 mostHex = 3
 
@@ -46,3 +48,7 @@ pub record Put (text : List ℕ) (most at : ℕ) (room : List ℕ) (next : ℕ) 
   pub after : next ≡ at + length text
   pub near : next ≤ at + most
   pub stored : later ≡ sets room at text
+
+-- a text of its own length
+abbrev pub PutText : (text : List ℕ) (at : ℕ) (room : List ℕ) (next : ℕ) (later : List ℕ) → Type 0
+PutText text at room next later = Put text (length text) at room next later
