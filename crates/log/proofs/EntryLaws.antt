@@ -1,14 +1,14 @@
 -- Laws of entries: what an entry counts lies within the bytes and the room.
 -- Assumes nothing.
 use Prim.Native.Nat.{ℕ, _+_, _-_, _%_, _^_, _<_, _≤_}
-use mathlib.Core.Path.{_≡_}
+use mathlib.Core.Path.{_≡_, refl}
 use mathlib.Core.Bool.{Bool, true, false}
 use mathlib.Core.List.{List}
 use native.Mathlib.Nat.{le-refl}
 use native.Mathlib.Omega.{arith}
 use borrow.Author.Tests.{le-leb, leb-true, ltb-false, eqb-false}
 use lib.Dec.{leb, eqb, ltb}
-use lib.ListN.{length, take, replicate}
+use lib.ListN.{length, take, replicate, length-append, length-drop}
 use lib.Seq.{length-take-le}
 use Rattle.basics.specs.Outcome.{Outcome, outcome}
 use Rattle.basics.proofs.ChoiceLaws.{either, decided}
@@ -87,6 +87,40 @@ unfolding enterOf
 enter-within log bytes ended room =
     decided (λ (o : Outcome Entered). Within (o .result .entry) (length bytes) (length room)) (leb longest (length room))
     (λ t. entered-within log room (leb-true longest (length room) t) (cutOf bytes) bytes ended (cut-within bytes)) (λ t. tt)
+
+-- an entry leaves the room as long as it was
+placed-length : (text room : List ℕ) → length text ≤ longest → length (placed text room .room) ≡ length room
+unfolding placed
+placed-length text room h =
+    decided (λ (o : Outcome ℕ). length (o .room) ≡ length room) (leb longest (length room))
+    (λ t. rw (length-append, length-drop) (omega (arith, leb-true longest (length room) t))) (λ t. refl)
+
+module _ (log : Log) (room : List ℕ) where
+  printed-length : (answer : Answer) (s : State) (report frame : List ℕ) → length (printed answer s report log frame room .room) ≡ length room
+  printed-length answer s report frame =
+      either (λ (o : Outcome Entered). length (o .room) ≡ length room) (isReported answer)
+      {x = goesOn (placed (lineOf (log .n) report) room) (length frame) s log}
+      {y = ends (placed (refusedLine (log .n) answer) room) log}
+      (placed-length _ room (length-line _ _)) (placed-length _ room (length-refused _ _))
+
+  worked-length : (frame : List ℕ) → length (worked log frame room .room) ≡ length room
+  unfolding worked
+  worked-length frame =
+      let step = stepOf (log .state) frame (replicate reportBytes 0) in
+      printed-length (step .answer) (step .state) (step .room) frame
+
+  entered-length : (f : Front) (bytes : List ℕ) (ended : Bool) → length (enteredAt f log bytes ended room .room) ≡ length room
+  entered-length (front.Frame total) bytes ended = worked-length (take total bytes)
+  entered-length front.Unknown bytes ended = worked-length bytes
+  entered-length front.Short bytes true = worked-length bytes
+  entered-length front.Short bytes false = refl
+  entered-length front.Empty bytes ended = refl
+
+pub enter-length : (log : Log) (bytes : List ℕ) (ended : Bool) (room : List ℕ) → length (enterOf log bytes ended room .room) ≡ length room
+unfolding enterOf
+enter-length log bytes ended room =
+    either (λ (o : Outcome Entered). length (o .room) ≡ length room) (leb longest (length room))
+    {x = enteredAt (cutOf bytes) log bytes ended room} (entered-length log room (cutOf bytes) bytes ended) refl
 
 -- what a step leaves is printed: a line, or a refusal
 module _ (answer : Answer) (s : State) (report : List ℕ) (log : Log) (frame room : List ℕ) (count : ℕ) (later : List ℕ) where
