@@ -2,7 +2,8 @@
 use mathlib.Core.Path.{_≡_}
 use native.Mathlib.Omega.{arith}
 use borrow.Author.Needs.{needs}
-use Rattle.stream.proofs.PieceLaws.{fill-within, keep-count}
+use Rattle.stream.proofs.FillLaws.{fill-within}
+use Rattle.stream.proofs.KeepLaws.{keep-count}
 use Rattle.stream.proofs.turn.Statement.{statement}
 use Rattle.stream.proofs.turn.Tie as tie
 

@@ -4,7 +4,7 @@ use native.Mathlib.Omega.{arith}
 use lib.ListN.{length}
 use Rattle.log.proofs.EntryLaws.{line-within, last-within}
 use borrow.Author.Needs.{needs}
-use Rattle.stream.proofs.PieceLaws.{Underway, underway-start, underway-line, underway-last, underway-stop}
+use Rattle.stream.proofs.FillLaws.{Underway, underway-start, underway-line, underway-last, underway-stop}
 use Rattle.stream.proofs.piece.fill.Statement.{statement}
 use Rattle.stream.proofs.piece.fill.Tie as tie
 

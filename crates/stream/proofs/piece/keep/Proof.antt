@@ -4,7 +4,7 @@ use Prim.Native.Nat.{_+_, _-_, _≤_}
 use native.Mathlib.Omega.{arith}
 use lib.ListN.{length}
 use borrow.Author.Needs.{needs}
-use Rattle.stream.proofs.PieceLaws.{moved, moved-turn, moved-all}
+use Rattle.stream.proofs.KeepLaws.{moved, moved-turn, moved-all}
 use Rattle.stream.proofs.piece.keep.Statement.{statement}
 use Rattle.stream.proofs.piece.keep.Tie as tie
 

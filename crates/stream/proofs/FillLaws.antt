@@ -1,4 +1,4 @@
--- Laws of a piece: its frames entered one a turn, and its bytes moved to the front one a turn.
+-- Laws of a piece filled: its frames entered one a turn, and what it counts within the bytes and the room.
 -- Assumes nothing.
 use Prim.Native.Nat.{ℕ, zero, suc, _+_, _-_, _<_, _≤_}
 use mathlib.Core.Path.{_≡_, refl, ap, sym, _∙_}
@@ -6,12 +6,11 @@ use mathlib.Core.Bool.{Bool}
 use mathlib.Core.Logic.{_⊎_, inl, inr, ⊎-elim}
 use mathlib.Core.List.{List, [], _∷_, _++_, append-assoc, append-nil}
 use native.Mathlib.Nat.{zero-add, add-zero, add-assoc, le-refl}
-use native.Mathlib.Numerals.{add-one}
 use native.Mathlib.Omega.{arith}
 use types.Run.{OneOf}
 use denote.Enum.Declared.{tagOf}
-use lib.ListN.{length, getD, set, take, drop, length-append, length-drop, drop-of-length-le}
-use lib.Seq.{length-take-le, take-all, take-append-add, drop-at, drop-append-add, drop-drop, getD-drop, paste-suc}
+use lib.ListN.{length, take, drop, length-append, length-drop, drop-of-length-le}
+use lib.Seq.{length-take-le, take-all, take-append-add, drop-append-add, drop-drop}
 use Rattle.basics.specs.Outcome.{Outcome, outcome}
 use Rattle.log.specs.Entry.{enterOf}
 use Rattle.log.specs.declared.entry.Entered.{Entered}
@@ -20,41 +19,8 @@ use Rattle.log.specs.declared.entry.Entry.the-variants.{Line, Last, More, Full}
 use Rattle.log.specs.declared.entry.Log.{Log}
 use Rattle.log.proofs.entry.Entry.{the-type}
 use Rattle.log.proofs.EntryLaws.{Within, enter-within, enter-length, line-within}
-use Rattle.stream.specs.Piece.{ending, following, continued, fillUpTo, fillOf, keepOf}
+use Rattle.stream.specs.Piece.{ending, following, continued, fillUpTo, fillOf}
 use Rattle.stream.specs.declared.piece.Filled.{Filled}
-
--- Bytes moved to the front
-
--- the bytes where so many are moved
-abbrev pub moved : (bytes : List ℕ) (from kept : ℕ) → List ℕ
-moved bytes from kept = take kept (drop from bytes) ++ drop kept bytes
-
--- a byte that is moved is still where it was
-moved-getD : (bytes : List ℕ) (from kept : ℕ) → from + kept < length bytes → getD (moved bytes from kept) (from + kept) 0 ≡ getD (drop from bytes) kept 0
-moved-getD bytes from kept h =
-    let l : kept ≤ length (drop from bytes) = rw length-drop (omega arith) in
-    let e : from + kept ≡ kept + from = omega arith in
-    ap (λ (k : ℕ). getD (moved bytes from kept) k 0) e
-    ∙ sym (getD-drop kept (moved bytes from kept) from 0)
-    ∙ ap (λ (past : List ℕ). getD past from 0) (drop-at (take kept (drop from bytes)) (drop kept bytes) kept (length-take-le kept (drop from bytes) l))
-    ∙ getD-drop kept bytes from 0
-    ∙ ap (λ (k : ℕ). getD bytes k 0) (sym e)
-    ∙ sym (getD-drop from bytes kept 0)
-
-pub moved-turn : (bytes : List ℕ) (from kept i : ℕ) (now : List ℕ) → now ≡ moved bytes from kept → from + kept ≡ i → i < length bytes → set now kept (getD now i 0) ≡ moved bytes from (kept + 1)
-moved-turn bytes from kept i now same e h =
-    let l : from + kept < length bytes = omega arith in
-    let s : kept < length (drop from bytes) = rw length-drop (omega arith) in
-    rw (same, ← e, moved-getD bytes from kept l, add-one) (simp zero-add at (paste-suc bytes 0 (drop from bytes) kept 0 (omega arith) s))
-
-pub moved-all : (bytes : List ℕ) (from kept to : ℕ) (now : List ℕ) → now ≡ moved bytes from kept → from + kept ≡ to → to ≤ length bytes → outcome kept now ≡ keepOf bytes from to
-unfolding keepOf
-moved-all bytes from kept to now same e h =
-    let n : to - from ≡ kept = omega arith in
-    let l : kept ≤ length (drop from bytes) = rw length-drop (omega arith) in
-    rw (n, same, length-take-le kept (drop from bytes) l)
-
--- Frames entered one after the other
 
 -- two stretches are one
 following-both : (used lines frame line : ℕ) (room later : List ℕ) (rest : Outcome Filled) → lines ≤ length room → following used lines room (following frame line later rest) ≡ following (used + frame) (lines + line) (take lines room ++ later) rest
@@ -106,9 +72,16 @@ underway-start log bytes ended room =
       rest = simp zero-add;
     }
 
+-- what is lent of a slice from a place on, and a room whose part from there on has come back
+abbrev partFrom : (xs : List ℕ) (from : ℕ) → List ℕ
+partFrom xs from = take (length xs - from) (drop from xs)
+
+abbrev lentBack : (room : List ℕ) (from : ℕ) (later : List ℕ) → List ℕ
+lentBack room from later = take from room ++ (later ++ drop (length room - from) (drop from room))
+
 -- one entry: the bytes and the room are parts, and the room's part comes back as it was left
-module _ {log₀ : Log} {bytes : List ℕ} {ended : Bool} {room₀ : List ℕ} {log : Log} {room : List ℕ} {used lines : ℕ} (u : Underway log₀ bytes ended room₀ log room used lines) (entered : Entered) (later : List ℕ) (k : outcome entered later ≡ enterOf log (take (length bytes - used) (drop used bytes)) ended (take (length room - lines) (drop lines room))) where
-  whole : (xs : List ℕ) (from : ℕ) → take (length xs - from) (drop from xs) ≡ drop from xs
+module _ {log₀ : Log} {bytes : List ℕ} {ended : Bool} {room₀ : List ℕ} {log : Log} {room : List ℕ} {used lines : ℕ} (u : Underway log₀ bytes ended room₀ log room used lines) (entered : Entered) (later : List ℕ) (k : outcome entered later ≡ enterOf log (partFrom bytes used) ended (partFrom room lines)) where
+  whole : (xs : List ℕ) (from : ℕ) → partFrom xs from ≡ drop from xs
   whole xs from = take-all (length xs - from) (drop from xs) (rw length-drop (le-refl (length xs - from)))
 
   -- the entry is that of what is left
@@ -116,7 +89,7 @@ module _ {log₀ : Log} {bytes : List ℕ} {ended : Bool} {room₀ : List ℕ} {
   entry-left = sym (rw (whole bytes used, whole room lines) at k)
 
   -- the room after it
-  room-after : take lines room ++ (later ++ drop (length room - lines) (drop lines room)) ≡ take lines room ++ later
+  room-after : lentBack room lines later ≡ take lines room ++ later
   room-after =
       let end : drop (length room - lines) (drop lines room) ≡ [] = drop-of-length-le (drop lines room) {i = length room - lines} (rw length-drop (le-refl (length room - lines))) in
       rw (end, append-nil)
@@ -125,7 +98,7 @@ module _ {log₀ : Log} {bytes : List ℕ} {ended : Bool} {room₀ : List ℕ} {
   length-later = ap (λ (o : Outcome Entered). length (o .room)) (sym entry-left) ∙ enter-length log (drop used bytes) ended (drop lines room) ∙ length-drop lines room
 
   -- a line: the turns go on
-  pub underway-line : (frame line : ℕ) → entered .entry ≡ Line frame line → Underway log₀ bytes ended room₀ (entered .log) (take lines room ++ (later ++ drop (length room - lines) (drop lines room))) (used + frame) (lines + line)
+  pub underway-line : (frame line : ℕ) → entered .entry ≡ Line frame line → Underway log₀ bytes ended room₀ (entered .log) (lentBack room lines later) (used + frame) (lines + line)
   underway-line frame line e =
       let b = line-within log (drop used bytes) ended (drop lines room) (sym entry-left) e in
       let some : 0 < frame = b .0 in
@@ -149,14 +122,12 @@ module _ {log₀ : Log} {bytes : List ℕ} {ended : Bool} {room₀ : List ℕ} {
       })
 
   -- a last line: the piece ends with it
-  pub underway-last : (line : ℕ) → entered .entry ≡ Last line → outcome (record { entry = Last line; log = entered .log; used = used; lines = lines + line }) (take lines room ++ (later ++ drop (length room - lines) (drop lines room))) ≡ fillOf log₀ bytes ended room₀
+  pub underway-last : (line : ℕ) → entered .entry ≡ Last line → outcome (record { entry = Last line; log = entered .log; used = used; lines = lines + line }) (lentBack room lines later) ≡ fillOf log₀ bytes ended room₀
   underway-last line e = rw room-after (simp (upTo-last (u .entries) log (drop used bytes) ended (drop lines room) entry-left e, add-zero) at (u .rest))
 
   -- no line: the piece ends there
-  pub underway-stop : OneOf (2 ∷ 3 ∷ []) (tagOf the-type (entered .entry)) → outcome (record { entry = entered .entry; log = entered .log; used = used; lines = lines }) (take lines room ++ (later ++ drop (length room - lines) (drop lines room))) ≡ fillOf log₀ bytes ended room₀
+  pub underway-stop : OneOf (2 ∷ 3 ∷ []) (tagOf the-type (entered .entry)) → outcome (record { entry = entered .entry; log = entered .log; used = used; lines = lines }) (lentBack room lines later) ≡ fillOf log₀ bytes ended room₀
   underway-stop t = rw room-after (simp (upTo-stop (u .entries) log (drop used bytes) ended (drop lines room) entry-left (stops (entered .entry) t), add-zero) at (u .rest))
-
--- What a caller counts on
 
 -- what is used and what the lines have lie within the bytes and the room
 abbrev FilledWithin : Outcome Filled → (bytes room : ℕ) → Type 0
@@ -183,7 +154,3 @@ upTo-within (suc entries) log bytes ended room =
 pub fill-within : (log : Log) (bytes : List ℕ) (ended : Bool) (room : List ℕ) {filled : Filled} {later : List ℕ} → outcome filled later ≡ fillOf log bytes ended room → (filled .used ≤ length bytes) × (filled .lines ≤ length room)
 unfolding fillOf
 fill-within log bytes ended room e = rw (← e) at (upTo-within (suc (length bytes)) log bytes ended room)
-
-pub keep-count : (bytes : List ℕ) (from to : ℕ) {kept : ℕ} {later : List ℕ} → outcome kept later ≡ keepOf bytes from to → kept ≡ to - from
-unfolding keepOf
-keep-count bytes from to e = ap (λ (o : Outcome ℕ). o .result) e
