@@ -21,22 +21,22 @@ abbrev newline : List ℕ
 newline = 10 ∷ []
 
 -- kind origin serial
-abbrev pub headColumns : (report : List ℕ) → List ℕ
-headColumns report = columns (hex (byteAt 1 report) ∷ decimal (byteAt 2 report) ∷ decimal (wordAt 3 report) ∷ [])
+abbrev pub headText : (report : List ℕ) → List ℕ
+headText report = columns (hex (byteAt 1 report) ∷ decimal (byteAt 2 report) ∷ decimal (wordAt 3 report) ∷ [])
 
 -- answer mode
-abbrev pub answerColumns : (report : List ℕ) → List ℕ
-answerColumns report = columns (decimal (byteAt 5 report) ∷ decimal (byteAt 6 report) ∷ [])
+abbrev pub answerText : (report : List ℕ) → List ℕ
+answerText report = columns (decimal (byteAt 5 report) ∷ decimal (byteAt 6 report) ∷ [])
 
 -- requested on failed
-abbrev pub maskColumns : (report : List ℕ) → List ℕ
-maskColumns report = columns (hex (byteAt 7 report) ∷ hex (byteAt 8 report) ∷ hex (byteAt 9 report) ∷ [])
+abbrev pub maskText : (report : List ℕ) → List ℕ
+maskText report = columns (hex (byteAt 7 report) ∷ hex (byteAt 8 report) ∷ hex (byteAt 9 report) ∷ [])
 
 -- n kind origin serial answer mode requested on failed beacon:
 -- kind and masks are two upper-case hex digits, the rest are decimal
 unfoldable pub lineOf : (n : ℕ) (report : List ℕ) → List ℕ
 lineOf n report =
-    decimal n ++ (headColumns report ++ (answerColumns report ++ (maskColumns report
+    decimal n ++ (headText report ++ (answerText report ++ (maskText report
     ++ (spaced (decimal (byteAt 10 report)) ++ newline))))
 
 -- "refused"

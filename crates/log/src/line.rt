@@ -3,7 +3,7 @@ ghost use mathlib.Core.Path.{_≡_};
 ghost use Prim.Native.Nat.{_+_, _≤_};
 ghost use lib.ListN.{length};
 ghost use Rattle.basics.specs.Outcome.{outcome};
-ghost use Rattle.log.specs.Line.{headColumns, mostHead, answerColumns, mostAnswer, maskColumns, mostMasks};
+ghost use Rattle.log.specs.Line.{headText, mostHead, answerText, mostAnswer, maskText, mostMasks};
 ghost use Rattle.log.specs.Line.{placed, lineOf, refusedLine};
 ghost use Rattle.log.specs.Text.{Put};
 use crate::text::MOST_DECIMAL;
@@ -25,7 +25,7 @@ pub const LONGEST: usize = MOST_DIGITS + 4 * MOST_HEX + 5 * MOST_DECIMAL + 1;
 // Kind, origin and serial.
 fn put_head(room: &mut [u8], at: usize, report: &[u8; REPORT_BYTES]) -> usize
     requires { ⌜ at + mostHead ≤ length (now room) ⌝ }
-    ensures { λ r. ⌜ Put (headColumns (now (report .entry))) mostHead at (now (room .entry)) r (now (room .exit)) ⌝ }
+    ensures { λ r. ⌜ Put (headText (now (report .entry))) mostHead at (now (room .entry)) r (now (room .exit)) ⌝ }
 {
     let mut next = put_hex(room, at, report[1]);
     next = put_byte(room, next, report[2]);
@@ -35,7 +35,7 @@ fn put_head(room: &mut [u8], at: usize, report: &[u8; REPORT_BYTES]) -> usize
 // Answer and mode.
 fn put_answer(room: &mut [u8], at: usize, report: &[u8; REPORT_BYTES]) -> usize
     requires { ⌜ at + mostAnswer ≤ length (now room) ⌝ }
-    ensures { λ r. ⌜ Put (answerColumns (now (report .entry))) mostAnswer at (now (room .entry)) r (now (room .exit)) ⌝ }
+    ensures { λ r. ⌜ Put (answerText (now (report .entry))) mostAnswer at (now (room .entry)) r (now (room .exit)) ⌝ }
 {
     let next = put_byte(room, at, report[5]);
     put_byte(room, next, report[6])
@@ -44,7 +44,7 @@ fn put_answer(room: &mut [u8], at: usize, report: &[u8; REPORT_BYTES]) -> usize
 // The masks: requested, on, failed.
 fn put_masks(room: &mut [u8], at: usize, report: &[u8; REPORT_BYTES]) -> usize
     requires { ⌜ at + mostMasks ≤ length (now room) ⌝ }
-    ensures { λ r. ⌜ Put (maskColumns (now (report .entry))) mostMasks at (now (room .entry)) r (now (room .exit)) ⌝ }
+    ensures { λ r. ⌜ Put (maskText (now (report .entry))) mostMasks at (now (room .entry)) r (now (room .exit)) ⌝ }
 {
     let mut next = put_hex(room, at, report[7]);
     next = put_hex(room, next, report[8]);

@@ -40,7 +40,7 @@ fillUpTo (suc entries) log bytes ended room =
     continued (entered .result .entry) (entered .result .log) (entered .room)
     (λ frame line. fillUpTo entries (entered .result .log) (drop frame bytes) ended (drop line (entered .room)))
 
--- the same to the end: a frame has a byte or more, so that a piece has no more frames than bytes, and one entry ends it
+-- the same to the end: a frame has a byte or more, so a piece has no more frames than bytes, and one entry ends it
 unfoldable pub fillOf : Log → (bytes : List ℕ) (ended : Bool) (room : List ℕ) → Outcome Filled
 fillOf log bytes ended room = fillUpTo (suc (length bytes)) log bytes ended room
 
