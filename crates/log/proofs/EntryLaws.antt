@@ -1,29 +1,32 @@
 -- Laws of entries: what an entry counts lies within the bytes and the room.
 -- Assumes nothing.
 use Prim.Native.Nat.{ℕ, _+_, _-_, _%_, _^_, _<_, _≤_}
-use mathlib.Core.Path.{_≡_}
+use mathlib.Core.Path.{_≡_, refl}
 use mathlib.Core.Bool.{Bool, true, false}
 use mathlib.Core.List.{List}
 use native.Mathlib.Nat.{le-refl}
 use native.Mathlib.Omega.{arith}
 use borrow.Author.Tests.{le-leb, leb-true, ltb-false, eqb-false}
 use lib.Dec.{leb, eqb, ltb}
-use lib.ListN.{length, take, replicate}
+use lib.ListN.{length, take, replicate, length-append, length-drop}
 use lib.Seq.{length-take-le}
+use Rattle.basics.specs.Outcome.{Outcome, outcome}
 use Rattle.basics.proofs.ChoiceLaws.{either, decided}
-use Rattle.frames.specs.Answer.{answerNumber}
-use Rattle.frames.specs.Frame.{totalOf, byteAt}
-use Rattle.supervisor.specs.Report.{reportBytes}
-use Rattle.supervisor.specs.Step.{Left, stepOf}
+use Rattle.frames.specs.Kind.{totalOf}
+use Rattle.frames.specs.Reading.{byteAt}
+use Rattle.frames.specs.declared.answer.Answer.{Answer}
+use Rattle.supervisor.specs.declared.state.State.{State}
+use Rattle.frames.specs.Kind.{reportBytes}
+use Rattle.supervisor.specs.Step.{stepOf}
 use Rattle.log.specs.declared.cut.Front.{Front}
 use Rattle.log.specs.declared.cut.Front.the-variants as front
 use Rattle.log.specs.declared.entry.Log.{Log}
 use Rattle.log.specs.declared.entry.Entry.{Entry}
-use Rattle.log.specs.declared.entry.Entry.the-variants.{Line, Last, More, NoRoom}
+use Rattle.log.specs.declared.entry.Entry.the-variants.{Line, Last, More, Full}
 use Rattle.log.specs.Cut.{cutOf}
-use Rattle.log.specs.Line.{Written, written, longest, placed, lineOf, refusedLine}
+use Rattle.log.specs.Line.{longest, placed, lineOf, refusedLine}
 use Rattle.log.specs.declared.entry.Entered.{Entered}
-use Rattle.log.specs.Entry.{Kept, kept, isReported, goesOn, ends, printed, worked, enteredAt, enterOf}
+use Rattle.log.specs.Entry.{isReported, goesOn, ends, printed, worked, enteredAt, enterOf}
 use Rattle.log.proofs.LineLaws.{length-line, length-refused}
 
 -- a frame is not empty and stands in the bytes, and a line in the room
@@ -31,7 +34,7 @@ abbrev pub Within : Entry → (bytes room : ℕ) → Type 0
 Within (Line frame line) bytes room = (0 < frame) × (frame ≤ bytes) × (line ≤ room)
 Within (Last line) bytes room = line ≤ room
 Within More bytes room = Unit {0}
-Within NoRoom bytes room = Unit {0}
+Within Full bytes room = Unit {0}
 
 -- the front of a stream is what the cut says
 abbrev FrontWithin : Front → (bytes : ℕ) → Type 0
@@ -43,28 +46,35 @@ FrontWithin front.Empty bytes = Unit {0}
 pub cut-within : (bytes : List ℕ) → FrontWithin (cutOf bytes) (length bytes)
 unfolding cutOf
 cut-within bytes =
+    let total = totalOf (byteAt 0 bytes) in
     decided (λ (f : Front). FrontWithin f (length bytes)) (eqb (length bytes) 0) (λ t. tt)
-    (λ some. decided (λ (f : Front). FrontWithin f (length bytes)) (eqb (totalOf (byteAt 0 bytes)) 0) (λ t. omega (arith, eqb-false (length bytes) 0 some))
-    (λ known. decided (λ (f : Front). FrontWithin f (length bytes)) (ltb (length bytes) (totalOf (byteAt 0 bytes)))
+    (λ some. decided (λ (f : Front). FrontWithin f (length bytes)) (eqb total 0)
     (λ t. omega (arith, eqb-false (length bytes) 0 some))
-    (λ whole. (omega (arith, eqb-false (totalOf (byteAt 0 bytes)) 0 known), ltb-false (length bytes) (totalOf (byteAt 0 bytes)) whole))))
+    (λ known. decided (λ (f : Front). FrontWithin f (length bytes)) (ltb (length bytes) total)
+    (λ t. omega (arith, eqb-false (length bytes) 0 some))
+    (λ whole. (omega (arith, eqb-false total 0 known), ltb-false (length bytes) total whole))))
 
-count-within : (text room : List ℕ) → length text ≤ longest → longest ≤ length room → placed text room .count ≤ length room
+count-within : (text room : List ℕ) → length text ≤ longest → longest ≤ length room → placed text room .result ≤ length room
 unfolding placed
-count-within text room h l = either (λ (w : Written). w .count ≤ length room) (leb longest (length room)) (omega arith) (omega arith)
+count-within text room h l =
+    either (λ (o : Outcome ℕ). o .result ≤ length room) (leb longest (length room)) (omega arith) (omega arith)
 
 module _ (log : Log) (room : List ℕ) (fits : longest ≤ length room) where
-  worked-within : (frame : List ℕ) (bytes : ℕ) → 0 < length frame → length frame ≤ bytes → Within (worked log frame room .entry) bytes (length room)
-  unfolding worked
-  worked-within frame bytes some h =
-      let left = stepOf (log .state) frame (replicate reportBytes 0) in
-      either (λ (k : Kept). Within (k .entry) bytes (length room)) (isReported (left .answer))
-      {x = goesOn (placed (lineOf (log .number) (left .room)) room) (length frame) (left .state) log}
-      {y = ends (placed (refusedLine (log .number) (answerNumber (left .answer))) room) log}
+  printed-within : (answer : Answer) (s : State) (report frame : List ℕ) (bytes : ℕ) → 0 < length frame → length frame ≤ bytes → Within (printed answer s report log frame room .result .entry) bytes (length room)
+  printed-within answer s report frame bytes some h =
+      either (λ (o : Outcome Entered). Within (o .result .entry) bytes (length room)) (isReported answer)
+      {x = goesOn (placed (lineOf (log .n) report) room) (length frame) s log}
+      {y = ends (placed (refusedLine (log .n) answer) room) log}
       (some, h, count-within _ room (length-line _ _) fits)
       (count-within _ room (length-refused _ _) fits)
 
-  entered-within : (f : Front) (bytes : List ℕ) (ended : Bool) → FrontWithin f (length bytes) → Within (enteredAt f log bytes ended room .entry) (length bytes) (length room)
+  worked-within : (frame : List ℕ) (bytes : ℕ) → 0 < length frame → length frame ≤ bytes → Within (worked log frame room .result .entry) bytes (length room)
+  unfolding worked
+  worked-within frame bytes some h =
+      let step = stepOf (log .state) frame (replicate reportBytes 0) in
+      printed-within (step .result .answer) (step .result .state) (step .room) frame bytes some h
+
+  entered-within : (f : Front) (bytes : List ℕ) (ended : Bool) → FrontWithin f (length bytes) → Within (enteredAt f log bytes ended room .result .entry) (length bytes) (length room)
   entered-within (front.Frame total) bytes ended h =
       let e : length (take total bytes) ≡ total = length-take-le total bytes (h .1) in
       worked-within (take total bytes) (length bytes) (rw e (h .0)) (rw e (h .1))
@@ -73,18 +83,52 @@ module _ (log : Log) (room : List ℕ) (fits : longest ≤ length room) where
   entered-within front.Short bytes false h = tt
   entered-within front.Empty bytes ended h = tt
 
-pub enter-within : (log : Log) (bytes : List ℕ) (ended : Bool) (room : List ℕ) → Within (enterOf log bytes ended room .entry) (length bytes) (length room)
+pub enter-within : (log : Log) (bytes : List ℕ) (ended : Bool) (room : List ℕ) → Within (enterOf log bytes ended room .result .entry) (length bytes) (length room)
 unfolding enterOf
 enter-within log bytes ended room =
-    decided (λ (k : Kept). Within (k .entry) (length bytes) (length room)) (leb longest (length room))
+    decided (λ (o : Outcome Entered). Within (o .result .entry) (length bytes) (length room)) (leb longest (length room))
     (λ t. entered-within log room (leb-true longest (length room) t) (cutOf bytes) bytes ended (cut-within bytes)) (λ t. tt)
 
--- what a step leaves is printed: a line, or a refusal
-module _ (left : Left) (log : Log) (frame room : List ℕ) (count : ℕ) (later : List ℕ) where
-  pub printed-line : (number : ℕ) → isReported (left .answer) ≡ true → written count later ≡ placed (lineOf (log .number) (left .room)) room → number ≡ (log .number + 1) % 2 ^ 64 → record { entry = Line (length frame) count; log = record { state = left .state; number = number }; room = later } ≡ printed left log frame room
-  printed-line number t w n = rw (t, ← w, n)
+-- an entry leaves the room as long as it was
+placed-length : (text room : List ℕ) → length text ≤ longest → length (placed text room .room) ≡ length room
+unfolding placed
+placed-length text room h =
+    decided (λ (o : Outcome ℕ). length (o .room) ≡ length room) (leb longest (length room))
+    (λ t. rw (length-append, length-drop) (omega (arith, leb-true longest (length room) t))) (λ t. refl)
 
-  pub printed-refusal : isReported (left .answer) ≡ false → written count later ≡ placed (refusedLine (log .number) (answerNumber (left .answer))) room → record { entry = Last count; log = log; room = later } ≡ printed left log frame room
+module _ (log : Log) (room : List ℕ) where
+  printed-length : (answer : Answer) (s : State) (report frame : List ℕ) → length (printed answer s report log frame room .room) ≡ length room
+  printed-length answer s report frame =
+      either (λ (o : Outcome Entered). length (o .room) ≡ length room) (isReported answer)
+      {x = goesOn (placed (lineOf (log .n) report) room) (length frame) s log}
+      {y = ends (placed (refusedLine (log .n) answer) room) log}
+      (placed-length _ room (length-line _ _)) (placed-length _ room (length-refused _ _))
+
+  worked-length : (frame : List ℕ) → length (worked log frame room .room) ≡ length room
+  unfolding worked
+  worked-length frame =
+      let step = stepOf (log .state) frame (replicate reportBytes 0) in
+      printed-length (step .result .answer) (step .result .state) (step .room) frame
+
+  entered-length : (f : Front) (bytes : List ℕ) (ended : Bool) → length (enteredAt f log bytes ended room .room) ≡ length room
+  entered-length (front.Frame total) bytes ended = worked-length (take total bytes)
+  entered-length front.Unknown bytes ended = worked-length bytes
+  entered-length front.Short bytes true = worked-length bytes
+  entered-length front.Short bytes false = refl
+  entered-length front.Empty bytes ended = refl
+
+pub enter-length : (log : Log) (bytes : List ℕ) (ended : Bool) (room : List ℕ) → length (enterOf log bytes ended room .room) ≡ length room
+unfolding enterOf
+enter-length log bytes ended room =
+    either (λ (o : Outcome Entered). length (o .room) ≡ length room) (leb longest (length room))
+    {x = enteredAt (cutOf bytes) log bytes ended room} (entered-length log room (cutOf bytes) bytes ended) refl
+
+-- what a step leaves is printed: a line, or a refusal
+module _ (answer : Answer) (s : State) (report : List ℕ) (log : Log) (frame room : List ℕ) (count : ℕ) (later : List ℕ) where
+  pub printed-line : (n : ℕ) → isReported answer ≡ true → outcome count later ≡ placed (lineOf (log .n) report) room → n ≡ (log .n + 1) % 2 ^ 64 → outcome (record { entry = Line (length frame) count; log = record { state = s; n = n } }) later ≡ printed answer s report log frame room
+  printed-line n t w e = rw (t, ← w, e)
+
+  pub printed-refusal : isReported answer ≡ false → outcome count later ≡ placed (refusedLine (log .n) answer) room → outcome (record { entry = Last count; log = log }) later ≡ printed answer s report log frame room
   printed-refusal t w = rw (t, ← w)
 
 -- a whole frame at the front
@@ -99,8 +143,8 @@ enter-frame log bytes ended room total h e =
 
 -- what an entry counts, where the stream and the room are parts
 module _ (log : Log) (bytes : List ℕ) (ended : Bool) (room : List ℕ) {entered : Entered} {later : List ℕ} where
-  pub line-within : {frame line : ℕ} → kept entered later ≡ enterOf log bytes ended room → entered .entry ≡ Line frame line → (0 < frame) × (frame ≤ length bytes) × (line ≤ length room)
+  pub line-within : {frame line : ℕ} → outcome entered later ≡ enterOf log bytes ended room → entered .entry ≡ Line frame line → (0 < frame) × (frame ≤ length bytes) × (line ≤ length room)
   line-within k e = rw e at (rw (← k) at (enter-within log bytes ended room))
 
-  pub last-within : {line : ℕ} → kept entered later ≡ enterOf log bytes ended room → entered .entry ≡ Last line → line ≤ length room
+  pub last-within : {line : ℕ} → outcome entered later ≡ enterOf log bytes ended room → entered .entry ≡ Last line → line ≤ length room
   last-within k e = rw e at (rw (← k) at (enter-within log bytes ended room))

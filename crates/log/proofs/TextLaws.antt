@@ -100,12 +100,12 @@ module _ {at next : ℕ} {room later : List ℕ} where
       }
 
   -- a text, then another
-  pub put-both : {first second between : List ℕ} {most more middle : ℕ} → Put first most at room middle between → Put second more middle between next later → Put (first ++ second) (most + more) at room next later
-  put-both {first} {second} p q =
+  pub put-both : {text other between : List ℕ} {most more middle : ℕ} → Put text most at room middle between → Put other more middle between next later → Put (text ++ other) (most + more) at room next later
+  put-both {text} {other} p q =
       record {
         after = rw length-append (omega (arith, p .after, q .after));
         near = omega (arith, p .near, q .near);
-        stored = q .stored ∙ rw (p .stored, p .after) (sym (sets-append first second room at));
+        stored = q .stored ∙ rw (p .stored, p .after) (sym (sets-append text other room at));
       }
 
 -- nothing, and one byte

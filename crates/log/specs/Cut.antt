@@ -5,7 +5,8 @@ use mathlib.Core.List.{List}
 use lib.Dec.{eqb, ltb}
 use lib.ListN.{length}
 use Rattle.basics.specs.Choice.{if_then_else_}
-use Rattle.frames.specs.Frame.{totalOf, byteAt}
+use Rattle.frames.specs.Kind.{totalOf}
+use Rattle.frames.specs.Reading.{byteAt}
 use Rattle.log.specs.declared.cut.Front.{Front}
 use Rattle.log.specs.declared.cut.Front.the-variants.{Frame, Short, Unknown, Empty}
 

@@ -3,59 +3,69 @@
 use Prim.Native.Nat.{ℕ, _+_, _*_}
 use mathlib.Core.List.{List, [], _∷_, _++_}
 use lib.Dec.{leb}
-use lib.ListN.{length, drop}
+use lib.ListN.{length}
 use Rattle.basics.specs.Choice.{if_then_else_}
-use Rattle.frames.specs.Frame.{byteAt, wordAt}
-use Rattle.log.specs.Text.{mostDigits, decimal, hex, spaced, mostNumber, mostHex}
+use Rattle.basics.specs.Outcome.{Outcome, outcome, written}
+use Rattle.frames.specs.Answer.{answerNumber}
+use Rattle.frames.specs.Reading.{byteAt, wordAt}
+use Rattle.frames.specs.declared.answer.Answer.{Answer}
+use Rattle.log.specs.Text.{mostDigits, decimal, hex, spaced, mostDecimal, mostHex}
 
--- each word after a space
-abbrev pub words : List (List ℕ) → List ℕ
-words [] = []
-words (word ∷ more) = spaced word ++ words more
+-- each column after a space
+abbrev columns : List (List ℕ) → List ℕ
+columns [] = []
+columns (column ∷ more) = spaced column ++ columns more
 
-abbrev pub newline : List ℕ
+-- what ends a line
+abbrev newline : List ℕ
 newline = 10 ∷ []
 
 -- kind origin serial
-abbrev pub headWords : (report : List ℕ) → List (List ℕ)
-headWords report = hex (byteAt 1 report) ∷ decimal (byteAt 2 report) ∷ decimal (wordAt 3 report) ∷ []
+abbrev pub headText : (report : List ℕ) → List ℕ
+headText report = columns (hex (byteAt 1 report) ∷ decimal (byteAt 2 report) ∷ decimal (wordAt 3 report) ∷ [])
 
 -- answer mode
-abbrev pub answerWords : (report : List ℕ) → List (List ℕ)
-answerWords report = decimal (byteAt 5 report) ∷ decimal (byteAt 6 report) ∷ []
+abbrev pub answerText : (report : List ℕ) → List ℕ
+answerText report = columns (decimal (byteAt 5 report) ∷ decimal (byteAt 6 report) ∷ [])
 
 -- requested on failed
-abbrev pub maskWords : (report : List ℕ) → List (List ℕ)
-maskWords report = hex (byteAt 7 report) ∷ hex (byteAt 8 report) ∷ hex (byteAt 9 report) ∷ []
+abbrev pub maskText : (report : List ℕ) → List ℕ
+maskText report = columns (hex (byteAt 7 report) ∷ hex (byteAt 8 report) ∷ hex (byteAt 9 report) ∷ [])
 
--- n kind origin serial answer mode requested on failed beacon: kind and masks are two upper-case hex digits, the rest are decimal
+-- n kind origin serial answer mode requested on failed beacon:
+-- kind and masks are two upper-case hex digits, the rest are decimal
 unfoldable pub lineOf : (n : ℕ) (report : List ℕ) → List ℕ
 lineOf n report =
-    decimal n ++ (words (headWords report) ++ (words (answerWords report) ++ (words (maskWords report)
+    decimal n ++ (headText report ++ (answerText report ++ (maskText report
     ++ (spaced (decimal (byteAt 10 report)) ++ newline))))
 
 -- "refused"
-abbrev pub refusedWord : List ℕ
-refusedWord = 114 ∷ 101 ∷ 102 ∷ 117 ∷ 115 ∷ 101 ∷ 100 ∷ []
+abbrev refusedText : List ℕ
+refusedText = 114 ∷ 101 ∷ 102 ∷ 117 ∷ 115 ∷ 101 ∷ 100 ∷ []
 
 -- n refused r
-unfoldable pub refusedLine : (n answer : ℕ) → List ℕ
-refusedLine n answer = decimal n ++ (spaced refusedWord ++ (spaced (decimal answer) ++ newline))
+unfoldable pub refusedLine : (n : ℕ) → Answer → List ℕ
+refusedLine n answer =
+    decimal n ++ (spaced refusedText ++ (spaced (decimal (answerNumber answer)) ++ newline))
 
--- what a call that writes a line leaves: how many bytes it wrote, and the room
-pub record Written : Type 0 where
-  pub count : ℕ
-  pub room : List ℕ
+-- at most so many bytes for kind, origin and serial
+abbrev pub mostHead : ℕ
+mostHead = mostHex + 2 * mostDecimal
 
-abbrev pub written : (count : ℕ) (room : List ℕ) → Written
-written count room = record { count = count; room = room }
+-- for answer and mode
+abbrev pub mostAnswer : ℕ
+mostAnswer = 2 * mostDecimal
 
--- a room of so many bytes has place for every line: n, four bytes in hex, five numbers, a newline
+-- for the masks
+abbrev pub mostMasks : ℕ
+mostMasks = 3 * mostHex
+
+-- a room of so many bytes has place for every line: n, the nine columns, a newline
 abbrev pub longest : ℕ
-longest = mostDigits + 4 * mostHex + 5 * mostNumber + 1
+longest = mostDigits + mostHead + mostAnswer + mostMasks + mostDecimal + 1
 
--- a line at the front of a room, whose bytes past it stay; a room that is too short stays as it is
-unfoldable pub placed : (text room : List ℕ) → Written
+-- a line at the front of a room, and how long it is; a room that is too short stays as it is
+unfoldable pub placed : (text room : List ℕ) → Outcome ℕ
 placed text room =
-    if leb longest (length room) then written (length text) (text ++ drop (length text) room)
-    else written 0 room
+    if leb longest (length room) then outcome (length text) (written text room)
+    else outcome 0 room

@@ -6,9 +6,9 @@ use mathlib.Core.List.{List, _∷_}
 use lib.Dec.{ltb}
 use lib.ListN.{length}
 use lib.Seq.{sets}
-use Rattle.io.specs.Digits.{digits}
 use Rattle.basics.specs.Bytes.{twoHex}
 use Rattle.basics.specs.Choice.{if_then_else_}
+use Rattle.io.specs.Digits.{digits}
 
 -- the decimal digits of the largest number of 64 bits
 abbrev pub mostDigits : ℕ
@@ -27,17 +27,19 @@ decimal n = digits 10 (digitCountUpTo 19 n) n
 unfoldable pub hex : ℕ → List ℕ
 hex byte = twoHex byte
 
+-- what stands between two columns
 abbrev pub space : ℕ
 space = 32
 
--- a space before a word
+-- a space before a text
 unfoldable pub spaced : List ℕ → List ℕ
-spaced word = space ∷ word
+spaced text = space ∷ text
 
--- at most so many bytes for a space and a number, and so many for a space and a byte in hex
-abbrev pub mostNumber : ℕ
-mostNumber = 1 + mostDigits
+-- at most so many bytes for a space and a number in decimal
+abbrev pub mostDecimal : ℕ
+mostDecimal = 1 + mostDigits
 
+-- so many bytes for a space and a byte in hex
 abbrev pub mostHex : ℕ
 mostHex = 3
 
@@ -46,3 +48,7 @@ pub record Put (text : List ℕ) (most at : ℕ) (room : List ℕ) (next : ℕ) 
   pub after : next ≡ at + length text
   pub near : next ≤ at + most
   pub stored : later ≡ sets room at text
+
+-- a text of its own length
+abbrev pub PutText : (text : List ℕ) (at : ℕ) (room : List ℕ) (next : ℕ) (later : List ℕ) → Type 0
+PutText text at room next later = Put text (length text) at room next later

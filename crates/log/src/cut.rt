@@ -21,7 +21,7 @@ pub fn cut(bytes: &[u8]) -> Front
     if bytes.len() == 0 {
         return Front::Empty;
     }
-    let total = frames::frame::total(bytes[0]);
+    let total = frames::kind::total(bytes[0]);
     if total == 0 {
         return Front::Unknown;
     }

@@ -1,19 +1,21 @@
 // The log's next entry: the frame at the front of a stream, worked, and its line.
 ghost use mathlib.Core.Path.{_≡_};
-ghost use Rattle.log.specs.Entry.{freshLog, isReported, kept, worked, enterOf};
+ghost use Rattle.basics.specs.Outcome.{outcome};
+ghost use Rattle.log.specs.Entry.{freshLog, isReported, worked, enterOf};
 use crate::cut::Front;
 use crate::cut::cut;
 use crate::line::LONGEST;
 use crate::line::line;
 use crate::line::refused;
 use frames::answer::Answer;
+use frames::kind::REPORT_BYTES;
 use supervisor::state::State;
 use supervisor::step::step;
 
-// Where a log stands: the state, and the number of the next frame.
+// Where a log stands: the state, and the next frame's n.
 pub struct Log {
     pub state: State,
-    pub number: u64,
+    pub n: u64,
 }
 
 // What the front of a stream gives.
@@ -25,7 +27,7 @@ pub enum Entry {
     // no whole frame yet, or nothing left
     More,
     // fewer than LONGEST bytes of room
-    NoRoom,
+    Full,
 }
 
 // An entry, and where the log stands after it.
@@ -39,8 +41,8 @@ pub fn fresh() -> Log
     ensures { λ r. ⌜ r ≡ freshLog ⌝ }
 {
     Log {
-        state: supervisor::state::fresh(),
-        number: 1,
+        state: supervisor::fresh::fresh(),
+        n: 1,
     }
 }
 
@@ -54,9 +56,9 @@ fn is_reported(answer: Answer) -> bool
 
 // Works a frame and writes its line.
 fn work(log: Log, frame: &[u8], room: &mut [u8]) -> Entered
-    ensures { λ r. ⌜ kept r (now (room .exit)) ≡ worked log (now (frame .entry)) (now (room .entry)) ⌝ }
+    ensures { λ r. ⌜ outcome r (now (room .exit)) ≡ worked log (now (frame .entry)) (now (room .entry)) ⌝ }
 {
-    let mut report = [0u8; 11];
+    let mut report = [0u8; REPORT_BYTES];
     let stepped = step(log.state, frame, &mut report);
     let answer = stepped.answer;
     if is_reported(answer) {
@@ -64,16 +66,16 @@ fn work(log: Log, frame: &[u8], room: &mut [u8]) -> Entered
         return Entered {
             entry: Entry::Line {
                 frame: frame.len(),
-                line: line(log.number, &report, room),
+                line: line(log.n, &report, room),
             },
             log: Log {
                 state,
-                number: std::num::wrapping_add_u64(log.number, 1),
+                n: std::num::wrapping_add_u64(log.n, 1),
             },
         };
     }
     Entered {
-        entry: Entry::Last(refused(log.number, answer, room)),
+        entry: Entry::Last(refused(log.n, answer, room)),
         log,
     }
 }
@@ -81,11 +83,11 @@ fn work(log: Log, frame: &[u8], room: &mut [u8]) -> Entered
 // Enters the frame at the front of the bytes, which are the last of the stream if it has ended. A frame that is
 // cut off there, like one of unknown kind, is handed over as it is, to be refused.
 pub fn enter(log: Log, bytes: &[u8], ended: bool, room: &mut [u8]) -> Entered
-    ensures { λ r. ⌜ kept r (now (room .exit)) ≡ enterOf log (now (bytes .entry)) ended (now (room .entry)) ⌝ }
+    ensures { λ r. ⌜ outcome r (now (room .exit)) ≡ enterOf log (now (bytes .entry)) ended (now (room .entry)) ⌝ }
 {
     if room.len() < LONGEST {
         return Entered {
-            entry: Entry::NoRoom,
+            entry: Entry::Full,
             log,
         };
     }

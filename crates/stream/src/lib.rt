@@ -1,22 +1,18 @@
-// A stream read piece by piece and logged: its lines are gathered in a room and written whenever that is full or the piece is done.
-// No contract can say what is read or written; what a line is, and when the log ends, is entry's.
+// A stream read piece by piece and logged: its lines are gathered in a room, and written whenever that is full or the
+// piece is done. No contract can say what is read or written; what a piece gives is piece's, and a line the log's.
 ghost use mathlib.Core.Path.{_≡_};
-ghost use Prim.Native.Nat.{_-_, _≤_};
+ghost use Prim.Native.Nat.{_≤_};
 ghost use lib.ListN.{length};
+use crate::piece::fill;
+use crate::piece::keep;
 use log::entry::Entry;
 use log::entry::Log;
-use log::entry::enter;
 use log::entry::fresh;
 
-// Where a piece leaves the log: the entry that was no line, the bytes used, and the bytes written.
-struct Filled {
-    entry: Entry,
-    log: Log,
-    used: usize,
-    written: usize,
-}
+mod piece;
 
-// Where a stream stands: the log, how many bytes are read and not yet used, and whether the stream and the log have ended.
+// Where a stream stands: the log, how many bytes are read and not yet used, and whether the stream has ended and the
+// log is over.
 struct Stream {
     log: Log,
     unused: usize,
@@ -32,57 +28,6 @@ impl Stream {
         self.over = true;
         self
     }
-}
-
-// Enters frame after frame, as long as there is a whole one and room for its line.
-fn fill(mut log: Log, bytes: &[u8], ended: bool, room: &mut [u8]) -> Filled
-    ensures { λ r. ⌜ (r .used ≤ length (now (bytes .entry))) × (r .written ≤ length (now (room .entry))) ⌝ }
-{
-    let mut used = 0;
-    let mut written = 0;
-    loop {
-        let entered = enter(log, &bytes[used..], ended, &mut room[written..]);
-        let entry = entered.entry;
-        let next = entered.log;
-        log = next;
-        match entry {
-            Entry::Line { frame, line } => {
-                used += frame;
-                written += line;
-            }
-            Entry::Last(line) => {
-                return Filled {
-                    entry,
-                    log,
-                    used,
-                    written: written + line,
-                };
-            }
-            _ => {
-                return Filled {
-                    entry,
-                    log,
-                    used,
-                    written,
-                };
-            }
-        }
-    }
-}
-
-// Moves the bytes from a place to another to the front, and gives how many they are.
-fn keep(bytes: &mut [u8], from: usize, to: usize) -> usize
-    requires { ⌜ (from ≤ to) × (to ≤ length (now bytes)) ⌝ }
-    ensures { λ r. ⌜ r ≡ to - from ⌝ }
-{
-    let mut i = from;
-    let mut kept = 0;
-    while i < to {
-        bytes[kept] = bytes[i];
-        kept += 1;
-        i += 1;
-    }
-    kept
 }
 
 // The stream after a read into what is left of its bytes.
@@ -112,8 +57,8 @@ fn turn(stream: Stream, from: i32, to: i32, bytes: &mut [u8], room: &mut [u8]) -
     let filled = fill(stream.log, &bytes[0..unused], ended, room);
     let entry = filled.entry;
     let log = filled.log;
-    let written = filled.written;
-    let is_written = io::write_all(to, &room[0..written]);
+    let lines = filled.lines;
+    let is_written = io::write_all(to, &room[0..lines]);
     let next = Stream {
         log,
         unused: keep(bytes, filled.used, unused),
@@ -125,7 +70,7 @@ fn turn(stream: Stream, from: i32, to: i32, bytes: &mut [u8], room: &mut [u8]) -
         return next.closed();
     }
     match entry {
-        Entry::NoRoom => next,
+        Entry::Full => next,
         Entry::More => {
             if ended {
                 next.closed()

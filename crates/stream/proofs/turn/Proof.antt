@@ -2,6 +2,8 @@
 use mathlib.Core.Path.{_≡_}
 use native.Mathlib.Omega.{arith}
 use borrow.Author.Needs.{needs}
+use Rattle.stream.proofs.FillLaws.{fill-within}
+use Rattle.stream.proofs.KeepLaws.{keep-count}
 use Rattle.stream.proofs.turn.Statement.{statement}
 use Rattle.stream.proofs.turn.Tie as tie
 
@@ -24,13 +26,13 @@ part-write-all-start : tie.Need-part-write-all-start
 part-write-all-start c = search needs
 
 part-write-all-end : tie.Need-part-write-all-end
-part-write-all-end c = search needs
+part-write-all-end c = omega (arith, fill-within _ _ _ _ (c .before .before .before .before .fill .ensures))
 
 write-all-requires : tie.Need-write-all-requires
 write-all-requires c κs = search needs
 
 keep-requires : tie.Need-keep-requires
-keep-requires c κs = search needs
+keep-requires c κs = (omega (arith, fill-within _ _ _ _ (c .before .before .before .before .before .before .before .fill .ensures)), search needs)
 
 slice-aggregate-fail : tie.Need-slice-aggregate-fail
 slice-aggregate-fail c = search needs
@@ -49,8 +51,10 @@ same-length-2 c = search needs
 
 returns : tie.Need-returns
 returns c =
-    let same : c .closed .result .unused ≡ c .before .before .before .before .before .before .keep .result = c .closed .ensures in
-    omega (arith, c .before .before .before .before .before .before .keep .ensures, c .before .before .before .before .before .before .before .before .before .before .before .before .before .before .before .before .before .before .before .before .pre)
+    let kept = c .before .before .before .before .before .before in
+    let start = kept .before .before .before .before .before .before .before .before .before .before .before .before .before .before in
+    let same : c .closed .result .unused ≡ kept .keep .result = c .closed .ensures in
+    omega (arith, keep-count _ _ _ (kept .keep .ensures), start .pre)
 
 enum-told : tie.Need-enum-told
 enum-told c = search needs
@@ -62,7 +66,10 @@ closed-requires-2 : tie.Need-closed-requires-2
 closed-requires-2 c κs = search needs
 
 read-requires : tie.Need-read-requires
-read-requires c κs = search needs
+read-requires c κs =
+    let kept = c .before .before .before .before .before .before .before in
+    let start = kept .before .before .before .before .before .before .before .before .before .before .before .before .before .before in
+    omega (arith, keep-count _ _ _ (kept .keep .ensures), start .pre)
 
 closed-requires-3 : tie.Need-closed-requires-3
 closed-requires-3 c κs = search needs
@@ -74,7 +81,10 @@ same-length-4 : tie.Need-same-length-4
 same-length-4 c = search needs
 
 returns-2 : tie.Need-returns-2
-returns-2 c = search needs
+returns-2 c =
+    let kept = c .before .before .before .before .before in
+    let start = kept .before .before .before .before .before .before .before .before .before .before .before .before .before .before in
+    omega (arith, keep-count _ _ _ (kept .keep .ensures), start .pre)
 
 same-length-5 : tie.Need-same-length-5
 same-length-5 c = search needs
@@ -84,8 +94,10 @@ same-length-6 c = search needs
 
 returns-3 : tie.Need-returns-3
 returns-3 c =
-    let same : c .closed2 .result .unused ≡ c .before .before .before .before .before .before .before .keep .result = c .closed2 .ensures in
-    omega (arith, c .before .before .before .before .before .before .before .keep .ensures, c .before .before .before .before .before .before .before .before .before .before .before .before .before .before .before .before .before .before .before .before .before .pre)
+    let kept = c .before .before .before .before .before .before .before in
+    let start = kept .before .before .before .before .before .before .before .before .before .before .before .before .before .before in
+    let same : c .closed2 .result .unused ≡ kept .keep .result = c .closed2 .ensures in
+    omega (arith, keep-count _ _ _ (kept .keep .ensures), start .pre)
 
 same-length-7 : tie.Need-same-length-7
 same-length-7 c = search needs
@@ -104,8 +116,10 @@ same-length-10 c = search needs
 
 returns-5 : tie.Need-returns-5
 returns-5 c =
-    let same : c .closed3 .result .unused ≡ c .before .before .before .before .before .keep .result = c .closed3 .ensures in
-    omega (arith, c .before .before .before .before .before .keep .ensures, c .before .before .before .before .before .before .before .before .before .before .before .before .before .before .before .before .before .before .before .pre)
+    let kept = c .before .before .before .before .before in
+    let start = kept .before .before .before .before .before .before .before .before .before .before .before .before .before .before in
+    let same : c .closed3 .result .unused ≡ kept .keep .result = c .closed3 .ensures in
+    omega (arith, keep-count _ _ _ (kept .keep .ensures), start .pre)
 
 pub turn-spec : {M : Type 1} → statement M
 turn-spec =

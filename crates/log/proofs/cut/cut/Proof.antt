@@ -17,15 +17,23 @@ total-requires c κs = search needs
 
 returns-2 : tie.Need-returns-2
 unfolding cutOf
-returns-2 c = simp (ne-eqb _ _ (c .before .before .before .if1 .left), eq-eqb _ _ (rw (c .before .total .ensures) at (c .if2 .taken)))
+returns-2 c =
+    let called = c .before in
+    simp (ne-eqb _ _ (called .before .before .if1 .left), eq-eqb _ _ (rw (called .total .ensures) at (c .if2 .taken)))
 
 returns-3 : tie.Need-returns-3
 unfolding cutOf
-returns-3 c = simp (ne-eqb _ _ (c .before .before .before .before .if1 .left), ne-eqb _ _ (rw (c .before .before .total .ensures) at (c .before .if2 .left)), lt-ltb _ _ (rw (c .before .before .total .ensures) at (c .if3 .taken)))
+returns-3 c =
+    let called = c .before .before in
+    let total = called .total .ensures in
+    simp (ne-eqb _ _ (called .before .before .if1 .left), ne-eqb _ _ (rw total at (c .before .if2 .left)), lt-ltb _ _ (rw total at (c .if3 .taken)))
 
 returns-4 : tie.Need-returns-4
 unfolding cutOf
-returns-4 c = simp (ne-eqb _ _ (c .before .before .before .before .if1 .left), c .before .before .total .ensures, ne-eqb _ _ (rw (c .before .before .total .ensures) at (c .before .if2 .left)), le-ltb _ _ (rw (c .before .before .total .ensures) at (c .if3 .left)))
+returns-4 c =
+    let called = c .before .before in
+    let total = called .total .ensures in
+    simp (ne-eqb _ _ (called .before .before .if1 .left), total, ne-eqb _ _ (rw total at (c .before .if2 .left)), le-ltb _ _ (rw total at (c .if3 .left)))
 
 pub cut-spec : {M : Type 1} → statement M
 cut-spec =

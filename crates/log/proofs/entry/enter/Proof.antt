@@ -48,29 +48,43 @@ same-length : tie.Need-same-length
 same-length c = search needs
 
 returns-2 : tie.Need-returns-2
-returns-2 c = c .before .before .work .ensures ∙ enter-frame _ _ _ _ _ (c .before .before .before .before .before .before .before .before .before .if1 .left) (rw (c .before .before .before .before .before .before .before .before .cut .ensures) at (c .before .before .before .before .before .before .total .given .1))
+returns-2 c =
+    let known = c .before .before .before .before .before .before in
+    let cut = known .before .before in
+    c .before .before .work .ensures ∙ enter-frame _ _ _ _ _ (cut .before .if1 .left) (rw (cut .cut .ensures) at (known .total .given .1))
 
 same-length-2 : tie.Need-same-length-2
 same-length-2 c = search needs
 
 returns-3 : tie.Need-returns-3
 unfolding enterOf
-returns-3 c = c .before .before .work2 .ensures ∙ simp (le-leb _ _ (c .before .before .before .before .before .before .before .if1 .left), rw (c .before .before .before .before .before .before .cut .ensures) at (c .before .before .before .before .enum-told .given .1))
+returns-3 c =
+    let told = c .before .before .before .before in
+    let cut = told .before .before in
+    c .before .before .work2 .ensures ∙ simp (le-leb _ _ (cut .before .if1 .left), rw (cut .cut .ensures) at (told .enum-told .given .1))
 
 same-length-3 : tie.Need-same-length-3
 same-length-3 c = search needs
 
 returns-4 : tie.Need-returns-4
 unfolding enterOf
-returns-4 c = c .before .before .work3 .ensures ∙ simp (le-leb _ _ (c .before .before .before .before .before .before .before .before .if1 .left), rw (c .before .before .before .before .before .before .before .cut .ensures) at (c .before .before .before .before .before .enum-told2 .given .1), c .before .before .before .before .if2 .taken)
+returns-4 c =
+    let asked = c .before .before .before .before in
+    let cut = asked .before .before .before in
+    c .before .before .work3 .ensures
+    ∙ simp (le-leb _ _ (cut .before .if1 .left), rw (cut .cut .ensures) at (asked .before .enum-told2 .given .1), asked .if2 .taken)
 
 returns-5 : tie.Need-returns-5
 unfolding enterOf
-returns-5 c = simp (le-leb _ _ (c .before .before .before .before .if1 .left), rw (c .before .before .before .cut .ensures) at (c .before .enum-told2 .given .1), c .if2 .left)
+returns-5 c =
+    let cut = c .before .before .before in
+    simp (le-leb _ _ (cut .before .if1 .left), rw (cut .cut .ensures) at (c .before .enum-told2 .given .1), c .if2 .left)
 
 returns-6 : tie.Need-returns-6
 unfolding enterOf
-returns-6 c = simp (le-leb _ _ (c .before .before .before .if1 .left), rw (c .before .before .cut .ensures) at (c .enum-told3 .given .1))
+returns-6 c =
+    let cut = c .before .before in
+    simp (le-leb _ _ (cut .before .if1 .left), rw (cut .cut .ensures) at (c .enum-told3 .given .1))
 
 pub enter-spec : {M : Type 1} → statement M
 enter-spec =

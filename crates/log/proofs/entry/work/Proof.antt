@@ -1,7 +1,6 @@
 -- `log::entry::work` meets its contract: what the step leaves is printed.
 use denote.Ref.{now}
 use borrow.Author.Needs.{needs}
-use Rattle.supervisor.specs.Step.{left}
 use Rattle.log.specs.Entry.{worked}
 use Rattle.log.proofs.EntryLaws.{printed-line, printed-refusal}
 use Rattle.log.proofs.entry.work.Statement.{statement}
@@ -28,10 +27,12 @@ same-length c = search needs
 returns : tie.Need-returns
 unfolding worked
 returns c =
-    let a = c .before .before .before .before .before .before .before .before .before .before .before .before .before .before .args in
-    rw (← c .before .before .before .before .before .before .before .before .before .before .step .ensures)
-    (printed-line (left (c .before .before .before .before .before .before .before .before .before .before .step .result) (c .before .before .before .before .before .before .before .before .before .before .step .last .1 .1 .0)) (a .log) (now (a .frame)) (now (a .room)) _ _ _
-    (rw (c .before .before .before .before .before .before .before .before .is-reported .ensures) at (c .before .before .before .before .before .before .before .if1 .taken)) (c .before .before .before .line .ensures) (c .wrapping-add-u64 .ensures))
+    let asked = c .before .before .before .before .before .before .before .before in
+    let step = asked .before .before .step in
+    let a = asked .before .before .before .before .before .before .args in
+    rw (← step .ensures)
+    (printed-line (step .result .answer) (step .result .state) (step .last .1 .1 .0) (a .log) (now (a .frame)) (now (a .room)) _ _ _
+    (rw (asked .is-reported .ensures) at (c .before .before .before .before .before .before .before .if1 .taken)) (c .before .before .before .line .ensures) (c .wrapping-add-u64 .ensures))
 
 refused-requires : tie.Need-refused-requires
 refused-requires c κs = search needs
@@ -42,10 +43,12 @@ same-length-2 c = search needs
 returns-2 : tie.Need-returns-2
 unfolding worked
 returns-2 c =
-    let a = c .before .before .before .before .before .before .before .before .before .before .before .args in
-    rw (← c .before .before .before .before .before .before .before .step .ensures)
-    (printed-refusal (left (c .before .before .before .before .before .before .before .step .result) (c .before .before .before .before .before .before .before .step .last .1 .1 .0)) (a .log) (now (a .frame)) (now (a .room)) _ _
-    (rw (c .before .before .before .before .before .is-reported .ensures) at (c .before .before .before .before .if1 .left)) (c .before .before .refused .ensures))
+    let asked = c .before .before .before .before .before in
+    let step = asked .before .before .step in
+    let a = asked .before .before .before .before .before .before .args in
+    rw (← step .ensures)
+    (printed-refusal (step .result .answer) (step .result .state) (step .last .1 .1 .0) (a .log) (now (a .frame)) (now (a .room)) _ _
+    (rw (asked .is-reported .ensures) at (c .before .before .before .before .if1 .left)) (c .before .before .refused .ensures))
 
 pub work-spec : {M : Type 1} → statement M
 work-spec =

@@ -36,14 +36,26 @@ add-result c = search needs
 
 same-length : tie.Need-same-length
 same-length c =
-    put-length {at = 0} {room = c .before .before .before .before .before .before .before .before .before .before .before .before .before .before .before .before .before .before .before .before .before .before .before .args .room .now}
-    (put-both (c .before .before .before .before .before .before .before .before .before .before .before .before .before .before .before .before .before .before .before .put-decimal .ensures) (put-both (c .before .before .before .before .before .before .before .before .before .before .before .before .before .before .before .put-head .ensures) (put-both (c .before .before .before .before .before .before .before .before .before .before .before .put-answer .ensures) (put-both (c .before .before .before .before .before .before .before .put-masks .ensures) (put-both (c .before .before .put-byte .ensures) (put-one 10 _ _))))))
+    let beacon = c .before .before in
+    let masks = beacon .before .before .before .before .before in
+    let answer = masks .before .before .before .before in
+    let head = answer .before .before .before .before in
+    let first = head .before .before .before .before in
+    put-length {at = 0} {room = first .before .before .before .before .args .room .now}
+    (put-both (first .put-decimal .ensures) (put-both (head .put-head .ensures) (put-both (answer .put-answer .ensures)
+    (put-both (masks .put-masks .ensures) (put-both (beacon .put-byte .ensures) (put-one 10 _ _))))))
 
 returns-2 : tie.Need-returns-2
 unfolding lineOf
 returns-2 c =
-    placed-text (c .before .before .before .before .before .before .before .before .before .before .before .before .before .before .before .before .before .before .before .before .before .if1 .left) (omega arith)
-    (put-both (c .before .before .before .before .before .before .before .before .before .before .before .before .before .before .before .before .before .before .before .put-decimal .ensures) (put-both (c .before .before .before .before .before .before .before .before .before .before .before .before .before .before .before .put-head .ensures) (put-both (c .before .before .before .before .before .before .before .before .before .before .before .put-answer .ensures) (put-both (c .before .before .before .before .before .before .before .put-masks .ensures) (put-both (c .before .before .put-byte .ensures) (put-one 10 _ _))))))
+    let beacon = c .before .before in
+    let masks = beacon .before .before .before .before .before in
+    let answer = masks .before .before .before .before in
+    let head = answer .before .before .before .before in
+    let first = head .before .before .before .before in
+    placed-text (first .before .before .if1 .left) (omega arith)
+    (put-both (first .put-decimal .ensures) (put-both (head .put-head .ensures) (put-both (answer .put-answer .ensures)
+    (put-both (masks .put-masks .ensures) (put-both (beacon .put-byte .ensures) (put-one 10 _ _))))))
 
 pub line-spec : {M : Type 1} → statement M
 line-spec =

@@ -29,7 +29,11 @@ same-length : tie.Need-same-length
 same-length c = search needs
 
 returns : tie.Need-returns
-returns c = put-both (c .before .before .before .before .before .before .before .before .before .before .before .before .before .put-hex .ensures) (put-both (c .before .before .before .before .before .before .before .before .put-byte .ensures) (put-both (c .before .before .put-word .ensures) (put-none _ _)))
+returns c =
+    let serial = c .before .before in
+    let origin = serial .before .before .before .before .before .before in
+    let kind = origin .before .before .before .before .before in
+    put-both (kind .put-hex .ensures) (put-both (origin .put-byte .ensures) (put-both (serial .put-word .ensures) (put-none _ _)))
 
 pub put-head-spec : {M : Type 1} → statement M
 put-head-spec =

@@ -26,7 +26,11 @@ same-length : tie.Need-same-length
 same-length c = search needs
 
 returns : tie.Need-returns
-returns c = put-both (c .before .before .before .before .before .before .before .before .before .before .before .before .put-hex .ensures) (put-both (c .before .before .before .before .before .before .before .put-hex2 .ensures) (put-both (c .before .before .put-hex3 .ensures) (put-none _ _)))
+returns c =
+    let failed = c .before .before in
+    let on = failed .before .before .before .before .before in
+    let requested = on .before .before .before .before .before in
+    put-both (requested .put-hex .ensures) (put-both (on .put-hex2 .ensures) (put-both (failed .put-hex3 .ensures) (put-none _ _)))
 
 pub put-masks-spec : {M : Type 1} → statement M
 put-masks-spec =

@@ -34,15 +34,23 @@ add-result c = search needs
 
 same-length : tie.Need-same-length
 same-length c =
-    put-length {at = 0} {room = c .before .before .before .before .before .before .before .before .before .before .before .before .before .before .before .before .args .room .now}
-    (put-both (c .before .before .before .before .before .before .before .before .before .before .before .before .put-decimal .ensures) (put-both (c .before .before .before .before .before .before .before .put-bytes .ensures) (put-both (c .before .before .put-byte .ensures) (put-one 10 _ _))))
+    let answer = c .before .before in
+    let said = answer .before .before .before .before .before in
+    let first = said .before .before .before .before .before in
+    put-length {at = 0} {room = first .before .before .before .before .args .room .now}
+    (put-both (first .put-decimal .ensures) (put-both (said .put-bytes .ensures)
+    (put-both (answer .put-byte .ensures) (put-one 10 _ _))))
 
 returns-2 : tie.Need-returns-2
 unfolding refusedLine spaced
 returns-2 c =
-    rw (← c .before .before .before .number .ensures)
-    (placed-text (c .before .before .before .before .before .before .before .before .before .before .before .before .before .before .if1 .left) (omega arith)
-    (put-both (c .before .before .before .before .before .before .before .before .before .before .before .before .put-decimal .ensures) (put-both (c .before .before .before .before .before .before .before .put-bytes .ensures) (put-both (c .before .before .put-byte .ensures) (put-one 10 _ _)))))
+    let answer = c .before .before in
+    let said = answer .before .before .before .before .before in
+    let first = said .before .before .before .before .before in
+    rw (← answer .before .number .ensures)
+    (placed-text (first .before .before .if1 .left) (omega arith)
+    (put-both (first .put-decimal .ensures) (put-both (said .put-bytes .ensures)
+    (put-both (answer .put-byte .ensures) (put-one 10 _ _)))))
 
 pub refused-spec : {M : Type 1} → statement M
 refused-spec =

@@ -25,8 +25,10 @@ same-length c = search needs
 
 returns : tie.Need-returns
 returns c =
-    let a = c .before .before .before .before .before .before .args in
-    rw (c .before .before .copy .ensures .0) (put-part (now (a .text)) (now (a .room)) (c .before .before .copy .last .1 .0) (a .at) (c .before .before .before .before .before .before .pre) (c .before .before .copy .ensures .1))
+    let start = c .before .before .before .before .before .before in
+    let a = start .args in
+    let copy = c .before .before .copy in
+    rw (copy .ensures .0) (put-part (now (a .text)) (now (a .room)) (copy .last .1 .0) (a .at) (start .pre) (copy .ensures .1))
 
 pub put-bytes-spec : {M : Type 1} → statement M
 put-bytes-spec =

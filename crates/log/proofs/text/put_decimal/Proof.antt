@@ -21,9 +21,10 @@ part-put-bytes-end c = search needs
 
 put-bytes-requires : tie.Need-put-bytes-requires
 put-bytes-requires c κs =
-    let k = c .before .before .before .decimal .result in
-    let e : k - 0 ≡ k = omega arith in
-    rw (e, ← c .before .before .before .decimal .ensures .0 .1) (omega (arith, fewest-most (c .before .before .before .before .before .before .args .n) k (omega arith) (c .before .before .before .decimal .ensures .1 .0)))
+    let d = c .before .before .before .decimal in
+    let n = c .before .before .before .before .before .before .args .n in
+    let e : d .result - 0 ≡ d .result = omega arith in
+    rw (e, ← d .ensures .0 .1) (omega (arith, fewest-most n (d .result) (omega arith) (d .ensures .1 .0)))
 
 same-length : tie.Need-same-length
 same-length c = search needs

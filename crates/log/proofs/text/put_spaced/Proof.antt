@@ -1,10 +1,10 @@
--- `log::text::put_number` meets its contract: a space, then what put_decimal stores.
+-- `log::text::put_spaced` meets its contract: a space, then what put_decimal stores.
 use native.Mathlib.Omega.{arith}
 use lib.ListN.{length-set}
 use borrow.Author.Needs.{needs}
 use Rattle.log.proofs.TextLaws.{put-length, put-spaced}
-use Rattle.log.proofs.text.put_number.Statement.{statement}
-use Rattle.log.proofs.text.put_number.Tie as tie
+use Rattle.log.proofs.text.put_spaced.Statement.{statement}
+use Rattle.log.proofs.text.put_spaced.Tie as tie
 
 slice-write-room : tie.Need-slice-write-room
 slice-write-room c = search needs
@@ -21,6 +21,6 @@ same-length c = put-length {room = c .before .before .before .before .before .ar
 returns : tie.Need-returns
 returns c = put-spaced (c .before .before .put-decimal .ensures)
 
-pub put-number-spec : {M : Type 1} → statement M
-put-number-spec =
+pub put-spaced-spec : {M : Type 1} → statement M
+put-spaced-spec =
     tie.close (tie.spec slice-write-room add-put-decimal put-decimal-requires same-length returns)
