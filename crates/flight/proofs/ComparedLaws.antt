@@ -17,7 +17,8 @@ use Rattle.frames.specs.Reading.{byteAt, wordAt}
 use Rattle.supervisor.specs.declared.state.State.{State}
 use Rattle.basics.specs.Bytes.{alike}
 use Rattle.flight.specs.Fields.{flag}
-use Rattle.flight.specs.Saving.{layoutVersion, imageBytes, modulesPlace, phaseNumber, phaseSeconds, powerNumber, powerLeft, moduleBytes, modulesBytes, headBytes, saved}
+use Rattle.flight.specs.Saving.{layoutVersion, phaseNumber, phaseSeconds, powerNumber, powerLeft}
+use Rattle.flight.specs.Saving.{imageBytes, modulesPlace, moduleBytes, modulesBytes, headBytes, saved}
 use Rattle.flight.specs.Loading.{moduleFrom, blank, modulesIn}
 use Rattle.flight.proofs.LoadingLaws.{length-in, module-in}
 
@@ -56,7 +57,8 @@ alike-append (x ∷ xs) (x′ ∷ xs′) ys ys′ e =
 alike-part : (front rest bytes : List ℕ) (k n : ℕ) → length front ≡ n → k + n ≤ length bytes
     → alike (front ++ rest) (drop k bytes) ≡ (alike front (take n (drop k bytes)) && alike rest (drop (k + n) bytes))
 alike-part front rest bytes k n e h =
-    let whole : drop k bytes ≡ take n (drop k bytes) ++ drop (k + n) bytes = sym (take-append-drop n (drop k bytes)) ∙ ap (λ l. take n (drop k bytes) ++ l) (drop-drop n k bytes) in
+    let whole : drop k bytes ≡ take n (drop k bytes) ++ drop (k + n) bytes =
+    sym (take-append-drop n (drop k bytes)) ∙ ap (λ l. take n (drop k bytes) ++ l) (drop-drop n k bytes) in
     let fits : n ≤ length (drop k bytes) = simp length-drop (omega arith) in
     ap (alike (front ++ rest)) whole ∙ alike-append front (take n (drop k bytes)) rest (drop (k + n) bytes) (e ∙ sym (length-take-le n (drop k bytes) fits))
 
@@ -71,9 +73,13 @@ modules-turn bytes i ok test whole low fits t w =
     let m = moduleFrom at bytes in
     let eight = length-in bytes in
     let place : at + 4 ≡ modulesPlace + 4 * (i + 1) = omega arith in
-    let rest : drop i (modulesIn bytes) ≡ m ∷ drop (i + 1) (modulesIn bytes) = drop-cons (modulesIn bytes) i blank (omega arith) ∙ ap (λ x. x ∷ drop (suc i) (modulesIn bytes)) (module-in bytes i low) ∙ ap (λ n. m ∷ drop n (modulesIn bytes)) (sym (add-one i)) in
+    let rest : drop i (modulesIn bytes) ≡ m ∷ drop (i + 1) (modulesIn bytes) =
+    drop-cons (modulesIn bytes) i blank (omega arith)
+    ∙ ap (λ x. x ∷ drop (suc i) (modulesIn bytes)) (module-in bytes i low)
+    ∙ ap (λ n. m ∷ drop n (modulesIn bytes)) (sym (add-one i)) in
     let others = modulesBytes (drop (i + 1) (modulesIn bytes)) in
-    let step : alike (modulesBytes (drop i (modulesIn bytes))) (drop at bytes) ≡ (test && alike others (drop (modulesPlace + 4 * (i + 1)) bytes)) = rw (rest, t, ← place) (alike-part (moduleBytes m) others bytes at 4 refl (omega arith)) in
+    let step : alike (modulesBytes (drop i (modulesIn bytes))) (drop at bytes) ≡ (test && alike others (drop (modulesPlace + 4 * (i + 1)) bytes)) =
+    rw (rest, t, ← place) (alike-part (moduleBytes m) others bytes at 4 refl (omega arith)) in
     and-assoc ok test (alike others (drop (modulesPlace + 4 * (i + 1)) bytes)) ∙ ap (λ r. ok && r) (sym step) ∙ w
 
 -- past the last module both end

@@ -28,6 +28,7 @@ pub record Imaged : Type 0 where
   pub number : ℕ
   pub image : List ℕ
 
+-- from its two parts
 abbrev pub imaged : (number : ℕ) → (image : List ℕ) → Imaged
 imaged number image = record { number = number; image = image }
 

@@ -61,7 +61,8 @@ word-at-requires-7 c κs = search needs
 
 word-at-requires-8 : tie.Need-word-at-requires-8
 word-at-requires-8 c κs =
-    let start : tie.Start = c .before .before .before .before .before .before .before .before .before .before .before .before .before .before .before .before .before .before .before .before .before .before .before .before .before .before in
+    let start : tie.Start =
+    c .before .before .before .before .before .before .before .before .before .before .before .before .before .before .before .before .before .before .before .before .before .before .before .before .before .before in
     omega (arith, start .pre)
 
 returns : tie.Need-returns

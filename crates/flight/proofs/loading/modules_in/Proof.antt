@@ -19,7 +19,9 @@ Inv-loop image modules₀ ok₀ i₀ modules ok i =
     record {
       low : i ≤ moduleCount;
       read : modules ≡ worked (λ k x. moduleFrom (modulesPlace + 4 * k) image) i (replicate moduleCount blank);
-      rest : (ok && alike (modulesBytes (drop i (modulesIn image))) (drop (modulesPlace + 4 * i) image)) ≡ alike (modulesBytes (modulesIn image)) (drop modulesPlace image);
+      rest :
+          (ok && alike (modulesBytes (drop i (modulesIn image))) (drop (modulesPlace + 4 * i) image))
+          ≡ alike (modulesBytes (modulesIn image)) (drop modulesPlace image);
     }
 
 abbrev μ-loop : tie.MeasureT-loop
@@ -68,9 +70,11 @@ returns : tie.Need-returns Inv-loop μ-loop
 unfolding modulesIn
 returns c =
     let l = c .before .loop in
-    let bytes = c .before .before .before .args .image .now in
-    let e : l .i ≡ moduleCount = omega arith in
-    ((rw e at (l .inv .read)) ∙ worked-all _ moduleCount (replicate moduleCount blank) refl, modules-end bytes (l .ok) _ (c .before .before .before .pre) (rw e at (l .inv .rest)))
+    let start : tie.Start Inv-loop μ-loop = c .before .before .before in
+    let e : l .i ≡ moduleCount = omega arith in (
+      (rw e at (l .inv .read)) ∙ worked-all _ moduleCount (replicate moduleCount blank) refl,
+      modules-end (start .args .image .now) (l .ok) _ (start .pre) (rw e at (l .inv .rest)),
+    )
 
 pub modules-in-spec : {M : Type 1} → statement M
 modules-in-spec =
