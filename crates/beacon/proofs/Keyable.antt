@@ -22,6 +22,7 @@ use Rattle.morse.specs.declared.texts.Fault.the-variants.{Nothing}
 use Rattle.supervisor.specs.Range.{batteryInRange, inRange}
 use Rattle.supervisor.specs.declared.state.Battery.{Battery}
 use Rattle.supervisor.proofs.RangeLaws.{parts}
+use Rattle.supervisor.proofs.ModuleLaws.{Eight}
 use Rattle.supervisor.specs.declared.state.Mode.{Mode}
 use Rattle.supervisor.specs.declared.state.Mode.the-variants.{DeployWait, Recovery, Safe}
 use Rattle.supervisor.specs.declared.state.State.{State}
@@ -72,7 +73,7 @@ tension-most b t = by-reading (eqb (b .tension) 0) refl (and-left (eqb (b .tensi
     by-reading true z h = omega (arith, eqb-true (b .tension) 0 z)
     by-reading false z h = within-high lowestReading highestReading (b .tension) h
 
-module _ (s : State) (e : inRange s ≡ true) (eight : length (s .modules) ≡ moduleCount) where
+module _ (s : State) (e : inRange s ≡ true) (eight : Eight s) where
   both : (faultOf (basicText s) ≡ Nothing) × (faultOf (completeText s) ≡ Nothing)
   unfolding signs signOf faultOf basicText completeText masksOf
   both =

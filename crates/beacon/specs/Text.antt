@@ -49,11 +49,11 @@ abbrev pub textOf : Form → State → List ℕ
 textOf Basic s = basicText s
 textOf Complete s = completeText s
 
--- the bytes of each
-
+-- the bytes of the basic text
 abbrev pub basicBytes : ℕ
 basicBytes = 10
 
+-- the bytes of the complete text
 abbrev pub completeBytes : ℕ
 completeBytes = 16
 

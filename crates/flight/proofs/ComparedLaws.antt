@@ -10,14 +10,16 @@ use lib.Dec.{eqb}
 use lib.ListN.{length, getD, take, drop, take-append-drop, length-drop, drop-of-length-le}
 use lib.Seq.{drop-cons, drop-drop, length-take-le}
 use borrow.Author.Tests.{eq-eqb, ne-eqb, eqb-true, eqb-false}
+use Rattle.modules.specs.Groups.{moduleCount}
 use Rattle.modules.specs.declared.power.Module.{Module}
 use Rattle.supervisor.specs.State.{modeNumber}
-use Rattle.frames.specs.Frame.{byteAt, wordAt}
+use Rattle.frames.specs.Reading.{byteAt, wordAt}
 use Rattle.supervisor.specs.declared.state.State.{State}
 use Rattle.basics.specs.Bytes.{alike}
 use Rattle.flight.specs.Fields.{flag}
-use Rattle.flight.specs.Saving.{layoutVersion, imageBytes, modulesPlace, phaseNumber, phaseSeconds, powerNumber, powerLeft, moduleBytes, modulesBytes, headBytes, saved}
-use Rattle.flight.specs.Loading.{moduleAt, blank, modulesIn}
+use Rattle.flight.specs.Saving.{layoutVersion, phaseNumber, phaseSeconds, powerNumber, powerLeft}
+use Rattle.flight.specs.Saving.{imageBytes, modulesPlace, moduleBytes, modulesBytes, headBytes, saved}
+use Rattle.flight.specs.Loading.{moduleFrom, blank, modulesIn}
 use Rattle.flight.proofs.LoadingLaws.{length-in, module-in}
 
 -- two bytes of a number compared are the number compared
@@ -55,33 +57,38 @@ alike-append (x ∷ xs) (x′ ∷ xs′) ys ys′ e =
 alike-part : (front rest bytes : List ℕ) (k n : ℕ) → length front ≡ n → k + n ≤ length bytes
     → alike (front ++ rest) (drop k bytes) ≡ (alike front (take n (drop k bytes)) && alike rest (drop (k + n) bytes))
 alike-part front rest bytes k n e h =
-    let whole : drop k bytes ≡ take n (drop k bytes) ++ drop (k + n) bytes = sym (take-append-drop n (drop k bytes)) ∙ ap (λ l. take n (drop k bytes) ++ l) (drop-drop n k bytes) in
+    let whole : drop k bytes ≡ take n (drop k bytes) ++ drop (k + n) bytes =
+    sym (take-append-drop n (drop k bytes)) ∙ ap (λ l. take n (drop k bytes) ++ l) (drop-drop n k bytes) in
     let fits : n ≤ length (drop k bytes) = simp length-drop (omega arith) in
     ap (alike (front ++ rest)) whole ∙ alike-append front (take n (drop k bytes)) rest (drop (k + n) bytes) (e ∙ sym (length-take-le n (drop k bytes) fits))
 
 -- one module more is compared
-pub modules-turn : (bytes : List ℕ) (i : ℕ) (ok test whole : Bool) → i < 8 → length bytes ≡ imageBytes
-    → test ≡ alike (moduleBytes (moduleAt (modulesPlace + 4 * i) bytes)) (take 4 (drop (modulesPlace + 4 * i) bytes))
+pub modules-turn : (bytes : List ℕ) (i : ℕ) (ok test whole : Bool) → i < moduleCount → length bytes ≡ imageBytes
+    → test ≡ alike (moduleBytes (moduleFrom (modulesPlace + 4 * i) bytes)) (take 4 (drop (modulesPlace + 4 * i) bytes))
     → (ok && alike (modulesBytes (drop i (modulesIn bytes))) (drop (modulesPlace + 4 * i) bytes)) ≡ whole
     → (ok && test && alike (modulesBytes (drop (i + 1) (modulesIn bytes))) (drop (modulesPlace + 4 * (i + 1)) bytes)) ≡ whole
 unfolding modulesBytes
 modules-turn bytes i ok test whole low fits t w =
     let at = modulesPlace + 4 * i in
-    let m = moduleAt at bytes in
+    let m = moduleFrom at bytes in
     let eight = length-in bytes in
     let place : at + 4 ≡ modulesPlace + 4 * (i + 1) = omega arith in
-    let rest : drop i (modulesIn bytes) ≡ m ∷ drop (i + 1) (modulesIn bytes) = drop-cons (modulesIn bytes) i blank (omega arith) ∙ ap (λ x. x ∷ drop (suc i) (modulesIn bytes)) (module-in bytes i low) ∙ ap (λ n. m ∷ drop n (modulesIn bytes)) (sym (add-one i)) in
-    let left = modulesBytes (drop (i + 1) (modulesIn bytes)) in
-    let step : alike (modulesBytes (drop i (modulesIn bytes))) (drop at bytes) ≡ (test && alike left (drop (modulesPlace + 4 * (i + 1)) bytes)) = rw (rest, t, ← place) (alike-part (moduleBytes m) left bytes at 4 refl (omega arith)) in
-    and-assoc ok test (alike left (drop (modulesPlace + 4 * (i + 1)) bytes)) ∙ ap (λ r. ok && r) (sym step) ∙ w
+    let rest : drop i (modulesIn bytes) ≡ m ∷ drop (i + 1) (modulesIn bytes) =
+    drop-cons (modulesIn bytes) i blank (omega arith)
+    ∙ ap (λ x. x ∷ drop (suc i) (modulesIn bytes)) (module-in bytes i low)
+    ∙ ap (λ n. m ∷ drop n (modulesIn bytes)) (sym (add-one i)) in
+    let others = modulesBytes (drop (i + 1) (modulesIn bytes)) in
+    let step : alike (modulesBytes (drop i (modulesIn bytes))) (drop at bytes) ≡ (test && alike others (drop (modulesPlace + 4 * (i + 1)) bytes)) =
+    rw (rest, t, ← place) (alike-part (moduleBytes m) others bytes at 4 refl (omega arith)) in
+    and-assoc ok test (alike others (drop (modulesPlace + 4 * (i + 1)) bytes)) ∙ ap (λ r. ok && r) (sym step) ∙ w
 
 -- past the last module both end
 pub modules-end : (bytes : List ℕ) (ok whole : Bool) → length bytes ≡ imageBytes
-    → (ok && alike (modulesBytes (drop 8 (modulesIn bytes))) (drop (modulesPlace + 4 * 8) bytes)) ≡ whole → ok ≡ whole
+    → (ok && alike (modulesBytes (drop moduleCount (modulesIn bytes))) (drop (modulesPlace + 4 * moduleCount) bytes)) ≡ whole → ok ≡ whole
 unfolding modulesBytes alike
 modules-end bytes ok whole fits w =
     let eight = length-in bytes in
-    sym (and-true ok) ∙ (rw (drop-of-length-le (modulesIn bytes) {i = 8} (omega arith), drop-of-length-le bytes {i = 53} (omega arith)) at w)
+    sym (and-true ok) ∙ (rw (drop-of-length-le (modulesIn bytes) {i = moduleCount} (omega arith), drop-of-length-le bytes {i = imageBytes} (omega arith)) at w)
 
 -- the head, then the modules, are the whole image
 pub saved-alike : (s : State) (bytes : List ℕ) {front rest : Bool} → length bytes ≡ imageBytes
@@ -119,7 +126,7 @@ module _ (bytes : List ℕ) (small : (i : ℕ) → getD bytes i 0 < 256) where
   unfolding alike listed headBytes
   head-alike s h =
       let at : ℕ → ℕ = λ k. getD bytes k 0 in
-      rw (part-listed 21 0 bytes h)
+      rw (part-listed modulesPlace 0 bytes h)
       (simp (
         word-then (phaseSeconds (s .watch .mode) / 65536) (at 3) (at 4) (small 4),
         word-then (phaseSeconds (s .watch .mode) % 65536) (at 5) (at 6) (small 6),

@@ -14,6 +14,7 @@ use Rattle.modules.specs.declared.power.Module.{Module}
 use Rattle.supervisor.specs.State.{withModules}
 use Rattle.supervisor.specs.Range.{inRange}
 use Rattle.supervisor.specs.declared.state.State.{State}
+use Rattle.supervisor.proofs.ModuleLaws.{Eight}
 use Rattle.basics.specs.Bytes.{alike}
 use Rattle.flight.specs.Saving.{imageBytes, saved}
 use Rattle.flight.specs.Loading.{modulesIn, decoded, loaded, found}
@@ -23,7 +24,7 @@ use Rattle.flight.proofs.SavingLaws.{length-saved}
 use Rattle.flight.proofs.LoadingLaws.{length-in, decoded-saved}
 
 -- load (save s) = s
-pub load-save : (s : State) → inRange s ≡ true → length (s .modules) ≡ 8 → loaded (saved s) ≡ some s
+pub load-save : (s : State) → inRange s ≡ true → Eight s → loaded (saved s) ≡ some s
 unfolding loaded
 load-save s e eight = simp (decoded-saved s e eight, is-true (alike (saved s) (saved s)) (alike-refl (saved s)))
 

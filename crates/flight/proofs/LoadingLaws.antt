@@ -9,8 +9,9 @@ use mathlib.Core.List.{List, [], _∷_, _++_}
 use lib.Dec.{T, eqb}
 use lib.ListN.{length, getD, replicate}
 use lib.Seq.{getD-append-add, ext-getD}
-use Rattle.basics.proofs.ChoiceLaws.{and-left, and-right, within-high}
+use Rattle.basics.proofs.ChoiceLaws.{holds, and-left, and-right, within-high}
 use Rattle.basics.proofs.EachLaws.{length-each, at-each}
+use Rattle.modules.specs.Groups.{moduleCount}
 use Rattle.modules.specs.Power.{powerInRange, fullTries}
 use Rattle.modules.specs.Stage.{modulesInRange}
 use Rattle.modules.specs.declared.power.Power.{Power}
@@ -18,25 +19,25 @@ use Rattle.modules.specs.declared.power.Power.the-variants.{On, Off, Failed}
 use Rattle.modules.specs.declared.power.Module.{Module}
 use Rattle.supervisor.specs.State.{modeNumber, withMode}
 use Rattle.supervisor.specs.Range.{watchInRange, settleSeconds, inRange}
-use Rattle.supervisor.proofs.TickLaws.{inRange-phase}
 use Rattle.supervisor.specs.declared.state.Phase.the-variants.{Waiting, Settling}
 use Rattle.supervisor.specs.declared.state.Mode.{Mode}
 use Rattle.supervisor.specs.declared.state.Mode.the-variants.{DeployWait, Recovery, Safe}
 use Rattle.supervisor.specs.declared.state.State.{State}
-use Rattle.beacon.proofs.RangeLaws.{in-range-parts}
+use Rattle.supervisor.proofs.RangeLaws.{parts, phase-in-range}
+use Rattle.supervisor.proofs.ModuleLaws.{Eight}
 use Rattle.flight.specs.Fields.{flag}
 use Rattle.flight.specs.Saving.{modulesPlace, phaseNumber, phaseSeconds, powerNumber, powerLeft, moduleBytes, modulesBytes, headBytes, saved}
-use Rattle.flight.specs.Loading.{modeFrom, powerFrom, moduleAt, blank, modulesIn, decoded}
+use Rattle.flight.specs.Loading.{modeFrom, powerFrom, moduleFrom, blank, modulesIn, decoded}
 use Rattle.flight.proofs.FieldsLaws.{flag-back, word-back}
 
 module _ (bytes : List ℕ) where
-  pub length-in : length (modulesIn bytes) ≡ 8
+  pub length-in : length (modulesIn bytes) ≡ moduleCount
   unfolding modulesIn
-  length-in = length-each (λ i m. moduleAt (modulesPlace + 4 * i) bytes) (replicate 8 blank)
+  length-in = length-each (λ i m. moduleFrom (modulesPlace + 4 * i) bytes) (replicate moduleCount blank)
 
-  pub module-in : (i : ℕ) → i < 8 → getD (modulesIn bytes) i blank ≡ moduleAt (modulesPlace + 4 * i) bytes
+  pub module-in : (i : ℕ) → i < moduleCount → getD (modulesIn bytes) i blank ≡ moduleFrom (modulesPlace + 4 * i) bytes
   unfolding modulesIn
-  module-in i low = at-each (λ i m. moduleAt (modulesPlace + 4 * i) bytes) (replicate 8 blank) i blank low
+  module-in i low = at-each (λ i m. moduleFrom (modulesPlace + 4 * i) bytes) (replicate moduleCount blank) i blank low
 
 -- what the fields of a saved state say
 
@@ -48,21 +49,21 @@ power-back (Failed left) h = refl
 mode-back : (m : Mode) (control beacon : ℕ) → T (watchInRange m control beacon) → modeFrom (modeNumber m) (phaseNumber m) (phaseSeconds m) ≡ m
 mode-back (DeployWait (Waiting waited)) control beacon h = refl
 mode-back (DeployWait (Settling left)) control beacon h =
-    ap (λ n. DeployWait (Settling n)) (mod-eq-of-lt (omega (arith, within-high 1 settleSeconds left (inRange-phase (Settling left) control beacon h))))
+    ap (λ n. DeployWait (Settling n)) (mod-eq-of-lt (omega (arith, within-high 1 settleSeconds left (phase-in-range (Settling left) control beacon h))))
 mode-back Recovery control beacon h = refl
 mode-back Safe control beacon h = refl
 
 -- bytes in front of a module's move its place
-module-shift : (front bytes : List ℕ) (at : ℕ) → moduleAt (length front + at) (front ++ bytes) ≡ moduleAt at bytes
+module-shift : (front bytes : List ℕ) (at : ℕ) → moduleFrom (length front + at) (front ++ bytes) ≡ moduleFrom at bytes
 module-shift front bytes at = simp (add-assoc, getD-append-add)
 
-module-back : (m : Module) (rest : List ℕ) → T (powerInRange (m .power)) → moduleAt 0 (moduleBytes m ++ rest) ≡ m
+module-back : (m : Module) (rest : List ℕ) → T (powerInRange (m .power)) → moduleFrom 0 (moduleBytes m ++ rest) ≡ m
 module-back m rest h =
     ap (λ n. record { power = powerFrom (powerNumber (m .power)) n; requested = eqb (flag (m .requested)) 1 }) (word-back (powerLeft (m .power)))
     ∙ ap (λ p. record { power = p; requested = eqb (flag (m .requested)) 1 }) (power-back (m .power) h)
     ∙ ap (λ r. record { power = m .power; requested = r }) (flag-back (m .requested))
 
-module-of : (ms : List Module) (i : ℕ) → i < length ms → T (modulesInRange ms) → moduleAt (4 * i) (modulesBytes ms) ≡ getD ms i blank
+module-of : (ms : List Module) (i : ℕ) → i < length ms → T (modulesInRange ms) → moduleFrom (4 * i) (modulesBytes ms) ≡ getD ms i blank
 unfolding modulesBytes modulesInRange
 module-of [] i h r = absurd (not-suc-le-zero h)
 module-of (m ∷ ms) zero h r = module-back m (modulesBytes ms) (and-left (powerInRange (m .power)) (modulesInRange ms) r)
@@ -71,7 +72,7 @@ module-of (m ∷ ms) (suc i) h r =
     rw e (module-shift (moduleBytes m) (modulesBytes ms) (4 * i))
     ∙ module-of ms i (le-of-suc-le-suc h) (and-right (powerInRange (m .power)) (modulesInRange ms) r)
 
-modules-back : (s : State) → T (modulesInRange (s .modules)) → length (s .modules) ≡ 8 → modulesIn (saved s) ≡ s .modules
+modules-back : (s : State) → T (modulesInRange (s .modules)) → Eight s → modulesIn (saved s) ≡ s .modules
 unfolding saved headBytes
 modules-back s r eight =
     let n = length-in (saved s) in
@@ -80,11 +81,11 @@ modules-back s r eight =
     ∙ module-shift (headBytes s) (modulesBytes (s .modules)) (4 * i)
     ∙ module-of (s .modules) i (omega arith) r)
 
-pub decoded-saved : (s : State) → inRange s ≡ true → length (s .modules) ≡ 8 → decoded (saved s) ≡ s
+pub decoded-saved : (s : State) → inRange s ≡ true → Eight s → decoded (saved s) ≡ s
 unfolding decoded saved headBytes
 decoded-saved s e eight =
-    let parts = in-range-parts s e in
+    let valid = parts s (holds (inRange s) e) in
     let mode = s .watch .mode in
-    let number = ap (modeFrom (modeNumber mode) (phaseNumber mode)) (div-add-mod' (phaseSeconds mode) 65536) in
-    simp (modules-back s (parts .modules) eight, word-back, flag-back)
-    (ap (λ m. withMode m s) (number ∙ mode-back mode (s .watch .control) (s .watch .beacon) (parts .watch)))
+    let seconds = ap (modeFrom (modeNumber mode) (phaseNumber mode)) (div-add-mod' (phaseSeconds mode) 65536) in
+    simp (modules-back s (valid .modules) eight, word-back, flag-back)
+    (ap (λ m. withMode m s) (seconds ∙ mode-back mode (s .watch .control) (s .watch .beacon) (valid .watch)))

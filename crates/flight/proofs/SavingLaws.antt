@@ -10,14 +10,16 @@ use lib.Seq.{sets, take-length, drop-cons}
 use Rattle.basics.proofs.Stores.{sets-append, sets-front}
 use Rattle.modules.specs.declared.power.Module.{Module}
 use Rattle.supervisor.specs.declared.state.State.{State}
+use Rattle.supervisor.proofs.ModuleLaws.{Eight}
 use Rattle.flight.specs.Saving.{imageBytes, modulesPlace, moduleBytes, modulesBytes, headBytes, saved}
 
+-- four bytes a module
 length-modules : (ms : List Module) → length (modulesBytes ms) ≡ 4 * length ms
 unfolding modulesBytes
 length-modules [] = refl
 length-modules (m ∷ ms) = omega (arith, length-modules ms)
 
-pub length-saved : (s : State) → length (s .modules) ≡ 8 → length (saved s) ≡ imageBytes
+pub length-saved : (s : State) → Eight s → length (saved s) ≡ imageBytes
 unfolding saved headBytes
 length-saved s eight = omega (arith, length-append (headBytes s) (modulesBytes (s .modules)), length-modules (s .modules))
 
@@ -38,7 +40,7 @@ stored-turn ms i at room d h =
     rw rest (sym (sets-append (moduleBytes (getD ms i d)) (modulesBytes (drop (i + 1) ms)) room at))
 
 -- the modules after a head that was copied
-pub stored-state : (s : State) (head room : List ℕ) → head ≡ headBytes s → length (s .modules) ≡ 8 → length room ≡ imageBytes
+pub stored-state : (s : State) (head room : List ℕ) → head ≡ headBytes s → Eight s → length room ≡ imageBytes
     → sets (take (length head) head ++ drop (length head) room) modulesPlace (modulesBytes (s .modules)) ≡ saved s
 unfolding saved headBytes
 stored-state s head room e eight fits =

@@ -7,83 +7,69 @@ use mathlib.Core.Option.{Option, none, some}
 use lib.Dec.{eqb}
 use lib.ListN.{length}
 use Rattle.basics.specs.Choice.{if_then_else_}
-use Rattle.morse.specs.Answers.{Reply, Outcome, outcome}
+use Rattle.basics.specs.Outcome.{Outcome, outcome, Reply}
 use Rattle.morse.specs.Reading.{Read, readReply}
 use Rattle.morse.specs.declared.reading.Heard.{Heard}
 use Rattle.frames.specs.Answer.{answerNumber}
-use Rattle.supervisor.specs.Fresh.{freshState}
-use Rattle.supervisor.specs.Step.{Left, stepOf}
 use Rattle.frames.specs.declared.answer.Answer.the-variants as answer
+use Rattle.supervisor.specs.Fresh.{freshState}
+use Rattle.supervisor.specs.Step.{stepOf}
 use Rattle.supervisor.specs.declared.state.State.{State}
+use Rattle.supervisor.specs.declared.step.Stepped.{Stepped}
 use Rattle.beacon.specs.Writing.{beaconOf}
 use Rattle.beacon.specs.declared.text.Form.{Form}
 use Rattle.beacon.specs.declared.writing.Written.{Written}
-use Rattle.beacon.specs.declared.writing.Written.the-variants.{StateOutside}
+use Rattle.beacon.specs.declared.writing.Written.the-variants.{BadState}
 use Rattle.flight.specs.Saving.{imageBytes, saved}
 use Rattle.flight.specs.Loading.{loaded}
 
 -- the number that a call answers, and the later content of the image
-pub record Freshed : Type 0 where
+pub record Imaged : Type 0 where
   pub number : ℕ
   pub image : List ℕ
 
-abbrev pub freshed : (number : ℕ) → (image : List ℕ) → Freshed
-freshed number image = record { number = number; image = image }
-
--- 0: done
-abbrev pub allDone : ℕ
-allDone = answerNumber answer.Done
+-- from its two parts
+abbrev pub imaged : (number : ℕ) → (image : List ℕ) → Imaged
+imaged number image = record { number = number; image = image }
 
 -- 1: the image is not that of a state in range
-abbrev pub badImage : ℕ
-badImage = answerNumber answer.StateOutside
+abbrev pub badState : ℕ
+badState = answerNumber answer.BadState
 
 -- the image of the fresh start, into 53 bytes
-unfoldable pub freshImage : (image : List ℕ) → Freshed
-freshImage image = if eqb (length image) imageBytes then freshed allDone (saved freshState) else freshed badImage image
-
--- the same, with the later content of the reply room
-pub record Stepped : Type 0 where
-  pub number : ℕ
-  pub image : List ℕ
-  pub room : List ℕ
-
-abbrev pub stepped : (number : ℕ) → (image room : List ℕ) → Stepped
-stepped number image room = record { number = number; image = image; room = room }
+unfoldable pub freshImage : (image : List ℕ) → Imaged
+freshImage image =
+    if eqb (length image) imageBytes then imaged (answerNumber answer.Done) (saved freshState)
+    else imaged badState image
 
 -- what a step leaves, as bytes
-abbrev pub steppedTo : Left → Stepped
-steppedTo after = stepped (answerNumber (after .answer)) (saved (after .state)) (after .room)
+abbrev pub steppedTo : Outcome Stepped → Outcome Imaged
+steppedTo after = outcome (imaged (answerNumber (after .result .answer)) (saved (after .result .state))) (after .room)
 
-abbrev pub stepLoaded : Option State → (image frame room : List ℕ) → Stepped
-stepLoaded none image frame room = stepped badImage image room
+-- a step of what was loaded; where that is nothing, image and room stay
+abbrev pub stepLoaded : Option State → (image frame room : List ℕ) → Outcome Imaged
+stepLoaded none image frame room = outcome (imaged badState image) room
 stepLoaded (some s) image frame room = steppedTo (stepOf s frame room)
 
-unfoldable pub stepImage : (image frame room : List ℕ) → Stepped
+-- a step of an image
+unfoldable pub stepImage : (image frame room : List ℕ) → Outcome Imaged
 stepImage image frame room = stepLoaded (loaded image) image frame room
 
+-- the beacon's text of what was loaded; where that is nothing, the room stays
 abbrev pub beaconLoaded : Form → Option State → (room : List ℕ) → Outcome Written
-beaconLoaded form none room = outcome StateOutside room
+beaconLoaded form none room = outcome BadState room
 beaconLoaded form (some s) room = beaconOf form s room
 
+-- the beacon's text of an image
 unfoldable pub beaconImage : Form → (image room : List ℕ) → Outcome Written
 beaconImage form image room = beaconLoaded form (loaded image) room
 
--- the number that a call answers, its count, and the later content of the room
-pub record Told : Type 0 where
-  pub number : ℕ
-  pub count : ℕ
-  pub room : List ℕ
-
-abbrev pub told : (number count : ℕ) → (room : List ℕ) → Told
-told number count room = record { number = number; count = count; room = room }
-
 -- an outcome by the page's number and count of its answer
-abbrev pub replied : {Answer : Type 0} → (Answer → Reply) → Outcome Answer → Told
-replied by o = told (by (o .answer) .number) (by (o .answer) .count) (o .room)
+abbrev pub replied : {Answer : Type 0} → (Answer → Reply) → Outcome Answer → Outcome Reply
+replied by o = outcome (by (o .result)) (o .room)
 
 -- reading: an outcome that reading these units allows (there is one, and no second)
-pub record ReadTold (units room : List ℕ) (after : Told) : Type 0 where
+pub record ReadReplied (units room : List ℕ) (after : Outcome Reply) : Type 0 where
   pub heard : Outcome Heard
   pub read : Read units room heard
   pub same : after ≡ replied readReply heard

@@ -3,8 +3,9 @@
 use Prim.Native.Nat.{ℕ, _+_, _*_, _/_, _%_}
 use mathlib.Core.Bool.{Bool, true, false}
 use mathlib.Core.List.{List, [], _∷_, _++_}
-use Rattle.frames.specs.Frame.{wordAt}
+use Rattle.frames.specs.Reading.{wordAt}
 
+-- a test: 0 false, 1 true
 abbrev pub flag : Bool → ℕ
 flag true = 1
 flag false = 0

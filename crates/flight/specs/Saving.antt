@@ -16,6 +16,7 @@ use Rattle.flight.specs.Fields.{flag, wordBytes, longBytes}
 abbrev pub layoutVersion : ℕ
 layoutVersion = 1
 
+-- the bytes of an image
 abbrev pub imageBytes : ℕ
 imageBytes = 53
 
@@ -49,19 +50,21 @@ powerLeft On = 0
 powerLeft (Off tries) = tries
 powerLeft (Failed left) = left
 
--- a module: power, its number (2), requested
+-- a module: power, the tries or seconds left (2), requested
 abbrev pub moduleBytes : Module → List ℕ
 moduleBytes m = powerNumber (m .power) ∷ wordBytes (powerLeft (m .power)) ++ (flag (m .requested) ∷ [])
 
+-- the modules, one after another
 unfoldable pub modulesBytes : List Module → List ℕ
 modulesBytes [] = []
 modulesBytes (m ∷ ms) = moduleBytes m ++ modulesBytes ms
 
--- version, mode, deploy phase, its seconds (4), control count, beacon count (2), antennas, tension (2), ascend (2), descend (2),
--- the ground's last serial (2), the payload's (2)
+-- version, mode, deploy phase, its seconds (4), control count, beacon count (2), antennas, tension (2), ascend (2),
+-- descend (2), the ground's last serial (2), the payload's (2)
 unfoldable pub headBytes : State → List ℕ
 headBytes s =
-    (layoutVersion ∷ modeNumber (s .watch .mode) ∷ phaseNumber (s .watch .mode) ∷ longBytes (phaseSeconds (s .watch .mode)))
+    (layoutVersion ∷ modeNumber (s .watch .mode) ∷ phaseNumber (s .watch .mode)
+    ∷ longBytes (phaseSeconds (s .watch .mode)))
     ++ (s .watch .control ∷ wordBytes (s .watch .beacon))
     ++ (flag (s .antennas) ∷ wordBytes (s .battery .tension))
     ++ wordBytes (s .battery .ascend) ++ wordBytes (s .battery .descend)

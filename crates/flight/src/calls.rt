@@ -1,41 +1,40 @@
 // What C and Rust call. An image is the caller's: 53 bytes, the whole state.
 // A slice passes as a pointer and a length, a count through a pointer; each call answers the page's number.
 ghost use mathlib.Core.Path.{_≡_};
-ghost use Rattle.morse.specs.Answers.{outcome};
+ghost use Rattle.basics.specs.Outcome.{outcome, reply};
 ghost use Rattle.morse.specs.Keying.{keyReply, keyOf};
-ghost use Rattle.morse.specs.Reading.{readReply};
 ghost use Rattle.beacon.specs.Writing.{writtenReply};
 ghost use Rattle.beacon.specs.declared.text.Form.the-variants as form;
-ghost use Rattle.flight.specs.Calls.{freshed, freshImage, stepped, stepImage, beaconImage, told, replied, ReadTold};
+ghost use Rattle.flight.specs.Calls.{imaged, freshImage, stepImage, beaconImage, replied, ReadReplied};
 use crate::loading::load;
-use crate::saving::BYTES;
+use crate::saving::IMAGE_BYTES;
 use crate::saving::save;
 use beacon::text::Form;
 use beacon::writing::Written;
-use morse::Heard;
-use morse::Keyed;
-use supervisor::state::fresh;
+use frames::answer::Answer;
+use supervisor::fresh::fresh;
 
 // Writes the image of the fresh start.
 #[no_mangle]
 pub extern "C" fn ems_fresh(image: &mut [u8]) -> u8
-    ensures { λ r. ⌜ freshed r (now (image .exit)) ≡ freshImage (now (image .entry)) ⌝ }
+    ensures { λ r. ⌜ imaged r (now (image .exit)) ≡ freshImage (now (image .entry)) ⌝ }
 {
-    if image.len() != BYTES {
-        return 1;
+    if image.len() != IMAGE_BYTES {
+        return Answer::BadState.number();
     }
     save(fresh(), image);
-    0
+    Answer::Done.number()
 }
 
 // Takes one frame: the image becomes the next state's, and the room holds the report, where there is one.
 #[no_mangle]
 pub extern "C" fn ems_step(image: &mut [u8], frame: &[u8], room: &mut [u8]) -> u8
-    ensures { λ r. ⌜ stepped r (now (image .exit)) (now (room .exit)) ≡ stepImage (now (image .entry)) (now (frame .entry)) (now (room .entry)) ⌝ }
+    ensures { λ r. ⌜ outcome (imaged r (now (image .exit))) (now (room .exit))
+        ≡ stepImage (now (image .entry)) (now (frame .entry)) (now (room .entry)) ⌝ }
 {
     let loaded = load(image);
     if !loaded.ok {
-        return 1;
+        return Answer::BadState.number();
     }
     let state = loaded.state;
     let after = supervisor::step::step(state, frame, room);
@@ -51,7 +50,7 @@ fn write_beacon(image: &[u8], form: Form, text: &mut [u8]) -> Written
 {
     let loaded = load(image);
     if !loaded.ok {
-        return Written::StateOutside;
+        return Written::BadState;
     }
     let state = loaded.state;
     beacon::writing::write(state, form, text)
@@ -60,7 +59,8 @@ fn write_beacon(image: &[u8], form: Form, text: &mut [u8]) -> Written
 // Writes the basic text of an image's state, and its length.
 #[no_mangle]
 pub extern "C" fn ems_beacon_basic(image: &[u8], text: &mut [u8], count: &mut usize) -> u8
-    ensures { λ r. ⌜ told r (now (count .exit)) (now (text .exit)) ≡ replied writtenReply (beaconImage form.Basic (now (image .entry)) (now (text .entry))) ⌝ }
+    ensures { λ r. ⌜ outcome (reply r (now (count .exit))) (now (text .exit))
+        ≡ replied writtenReply (beaconImage form.Basic (now (image .entry)) (now (text .entry))) ⌝ }
 {
     let written = write_beacon(image, Form::Basic, text);
     *count = written.count();
@@ -70,63 +70,32 @@ pub extern "C" fn ems_beacon_basic(image: &[u8], text: &mut [u8], count: &mut us
 // Writes the complete text of an image's state, and its length.
 #[no_mangle]
 pub extern "C" fn ems_beacon_complete(image: &[u8], text: &mut [u8], count: &mut usize) -> u8
-    ensures { λ r. ⌜ told r (now (count .exit)) (now (text .exit)) ≡ replied writtenReply (beaconImage form.Complete (now (image .entry)) (now (text .entry))) ⌝ }
+    ensures { λ r. ⌜ outcome (reply r (now (count .exit))) (now (text .exit))
+        ≡ replied writtenReply (beaconImage form.Complete (now (image .entry)) (now (text .entry))) ⌝ }
 {
     let written = write_beacon(image, Form::Complete, text);
     *count = written.count();
     written.number()
 }
 
-// An answer's number, and its count.
-struct Reply {
-    number: u8,
-    count: usize,
-}
-
-fn answer(number: u8, count: usize) -> Reply
-    ensures { λ r. ⌜ r ≡ record { number = number; count = count } ⌝ }
-{
-    Reply { number, count }
-}
-
-fn key_reply(keyed: Keyed) -> Reply
-    ensures { λ r. ⌜ (r .number ≡ keyReply keyed .number) × (r .count ≡ keyReply keyed .count) ⌝ }
-{
-    match keyed {
-        Keyed::Done(n) => answer(0, n),
-        Keyed::TooLong => answer(11, 0),
-        Keyed::OutsideAlphabet => answer(12, 0),
-        Keyed::BadSpacing => answer(13, 0),
-        Keyed::NoRoom => answer(14, 0),
-    }
-}
-
-fn read_reply(heard: Heard) -> Reply
-    ensures { λ r. ⌜ (r .number ≡ readReply heard .number) × (r .count ≡ readReply heard .count) ⌝ }
-{
-    match heard {
-        Heard::Text(n) => answer(0, n),
-        Heard::NotAKeying => answer(15, 0),
-        Heard::NoRoom => answer(14, 0),
-    }
-}
-
 // Keys a text: its units, and how many they are.
 #[no_mangle]
 pub extern "C" fn ems_key(text: &[u8], units: &mut [u8], count: &mut usize) -> u8
-    ensures { λ r. ⌜ told r (now (count .exit)) (now (units .exit)) ≡ replied keyReply (keyOf (now (text .entry)) (now (units .entry))) ⌝ }
+    ensures { λ r. ⌜ outcome (reply r (now (count .exit))) (now (units .exit))
+        ≡ replied keyReply (keyOf (now (text .entry)) (now (units .entry))) ⌝ }
 {
-    let reply = key_reply(morse::key(text, units));
-    *count = reply.count;
-    reply.number
+    let keyed = morse::key(text, units);
+    *count = keyed.count();
+    keyed.number()
 }
 
 // Reads units back: the text, and its length.
 #[no_mangle]
 pub extern "C" fn ems_read(units: &[u8], text: &mut [u8], count: &mut usize) -> u8
-    ensures { λ r. ⌜ ReadTold (now (units .entry)) (now (text .entry)) (told r (now (count .exit)) (now (text .exit))) ⌝ }
+    ensures { λ r. ⌜ ReadReplied (now (units .entry)) (now (text .entry))
+        (outcome (reply r (now (count .exit))) (now (text .exit))) ⌝ }
 {
-    let reply = read_reply(morse::read(units, text));
-    *count = reply.count;
-    reply.number
+    let heard = morse::read(units, text);
+    *count = heard.count();
+    heard.number()
 }

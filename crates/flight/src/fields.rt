@@ -3,9 +3,10 @@
 ghost use mathlib.Core.Path.{_≡_};
 ghost use Prim.Native.Nat.{_+_, _≤_};
 ghost use lib.ListN.{length};
-ghost use Rattle.frames.specs.Frame.{wordAt};
+ghost use Rattle.frames.specs.Reading.{wordAt};
 ghost use Rattle.flight.specs.Fields.{flag, longAt};
 
+// A test as a byte.
 pub(crate) fn flag(test: bool) -> u8
     ensures { λ r. ⌜ r ≡ flag test ⌝ }
 {

@@ -6,11 +6,13 @@ ghost use lib.ListN.{length, take, drop};
 ghost use Rattle.supervisor.specs.State.{withModules};
 ghost use Rattle.basics.specs.Bytes.{alike};
 ghost use Rattle.flight.specs.Saving.{imageBytes, modulesPlace, moduleBytes, modulesBytes, headBytes};
-ghost use Rattle.flight.specs.Loading.{modeFrom, powerFrom, moduleAt, modulesIn, decoded, found, loaded};
+ghost use Rattle.flight.specs.Loading.{modeFrom, powerFrom, moduleFrom, modulesIn, decoded, found, loaded};
 use crate::fields::flag;
 use crate::fields::long_at;
 use crate::fields::word_at;
-use crate::saving::BYTES;
+use crate::saving::IMAGE_BYTES;
+use crate::saving::MODULE_COUNT;
+use crate::saving::MODULES_PLACE;
 use crate::saving::VERSION;
 use crate::saving::phase_number;
 use crate::saving::phase_seconds;
@@ -19,13 +21,14 @@ use crate::saving::power_number;
 use frames::serial::Serials;
 use modules::power::Module;
 use modules::power::Power;
+use supervisor::fresh::fresh;
 use supervisor::state::Battery;
 use supervisor::state::Mode;
 use supervisor::state::Phase;
 use supervisor::state::State;
 use supervisor::state::Watch;
-use supervisor::state::fresh;
 
+// A mode by its number, and by the number and the seconds of its phase.
 fn mode_from(mode: u8, phase: u8, seconds: u32) -> Mode
     ensures { λ r. ⌜ r ≡ modeFrom mode phase seconds ⌝ }
 {
@@ -41,6 +44,7 @@ fn mode_from(mode: u8, phase: u8, seconds: u32) -> Mode
     Mode::DeployWait(Phase::Waiting(seconds))
 }
 
+// A power by its number, and what it has left.
 fn power_from(power: u8, left: u16) -> Power
     ensures { λ r. ⌜ r ≡ powerFrom power left ⌝ }
 {
@@ -54,9 +58,9 @@ fn power_from(power: u8, left: u16) -> Power
 }
 
 // The module that stands at a place.
-fn module_at(image: &[u8], at: usize) -> Module
+fn module_from(image: &[u8], at: usize) -> Module
     requires { ⌜ at + 4 ≤ length (now image) ⌝ }
-    ensures { λ r. ⌜ r ≡ moduleAt at (now (image .entry)) ⌝ }
+    ensures { λ r. ⌜ r ≡ moduleFrom at (now (image .entry)) ⌝ }
 {
     Module {
         power: power_from(image[at], word_at(image, at + 1)),
@@ -100,35 +104,37 @@ fn is_module(m: Module, image: &[u8], at: usize) -> bool
         & (flag(m.requested) == image[at + 3])
 }
 
-// The eight modules of an image, and whether its last bytes are theirs.
-struct Eight {
+// What was loaded of the modules: whether the last bytes of an image are theirs, and they.
+struct LoadedModules {
     ok: bool,
-    modules: [Module; 8],
+    modules: [Module; MODULE_COUNT],
 }
 
-fn modules_in(image: &[u8]) -> Eight
+// The eight modules of an image, and whether its last bytes are theirs.
+fn modules_in(image: &[u8]) -> LoadedModules
     requires { ⌜ length (now image) ≡ imageBytes ⌝ }
-    ensures { λ r. ⌜ (r .modules ≡ modulesIn (now (image .entry))) × (r .ok ≡ alike (modulesBytes (modulesIn (now (image .entry)))) (drop modulesPlace (now (image .entry)))) ⌝ }
+    ensures { λ r. ⌜ (r .modules ≡ modulesIn (now (image .entry)))
+        × (r .ok ≡ alike (modulesBytes (modulesIn (now (image .entry)))) (drop modulesPlace (now (image .entry)))) ⌝ }
 {
     let blank = Module {
         power: Power::On,
         requested: false,
     };
-    let mut modules = [blank; 8];
+    let mut modules = [blank; MODULE_COUNT];
     let mut ok = true;
     let mut i: usize = 0;
-    while i < 8 {
-        let at = 21 + 4 * i;
-        let m = module_at(image, at);
+    while i < MODULE_COUNT {
+        let at = MODULES_PLACE + 4 * i;
+        let m = module_from(image, at);
         ok = ok & is_module(m, image, at);
         modules[i] = m;
         i += 1;
     }
-    Eight { ok, modules }
+    LoadedModules { ok, modules }
 }
 
 // The state that the fields of an image say, with its modules, be it one that was saved or not.
-fn decode(image: &[u8], modules: [Module; 8]) -> State
+fn decode(image: &[u8], modules: [Module; MODULE_COUNT]) -> State
     requires { ⌜ length (now image) ≡ imageBytes ⌝ }
     ensures { λ r. ⌜ r ≡ withModules modules (decoded (now (image .entry))) ⌝ }
 {
@@ -154,25 +160,25 @@ fn decode(image: &[u8], modules: [Module; 8]) -> State
 
 // Whether the bytes are the save of a state, and of which.
 pub(crate) struct Loaded {
-    pub ok: bool,
-    pub state: State,
+    pub(crate) ok: bool,
+    pub(crate) state: State,
 }
 
 // The state of which the bytes are the save, if there is one.
 pub(crate) fn load(image: &[u8]) -> Loaded
     ensures { λ r. ⌜ found r ≡ loaded (now (image .entry)) ⌝ }
 {
-    if image.len() != BYTES {
+    if image.len() != IMAGE_BYTES {
         return Loaded {
             ok: false,
             state: fresh(),
         };
     }
-    let eight = modules_in(image);
-    let modules = eight.modules;
+    let read = modules_in(image);
+    let modules = read.modules;
     let state = decode(image, modules);
     Loaded {
-        ok: is_head(state, image) & eight.ok,
+        ok: is_head(state, image) & read.ok,
         state,
     }
 }

@@ -4,7 +4,8 @@ ghost use mathlib.Core.Path.{_≡_};
 ghost use Prim.Native.Nat.{_+_, _≤_};
 ghost use lib.ListN.{length};
 ghost use lib.Seq.{sets};
-ghost use Rattle.flight.specs.Saving.{imageBytes, modulesPlace, phaseNumber, phaseSeconds, powerNumber, powerLeft, moduleBytes, modulesBytes, headBytes, saved};
+ghost use Rattle.flight.specs.Saving.{phaseNumber, phaseSeconds, powerNumber, powerLeft};
+ghost use Rattle.flight.specs.Saving.{imageBytes, modulesPlace, moduleBytes, modulesBytes, headBytes, saved};
 use crate::fields::flag;
 use modules::power::Module;
 use modules::power::Power;
@@ -15,7 +16,14 @@ use supervisor::state::State;
 // The version of the layout: an image of other software has another.
 pub(crate) const VERSION: u8 = 1;
 
-pub(crate) const BYTES: usize = 53;
+// The bytes of an image.
+pub(crate) const IMAGE_BYTES: usize = 53;
+
+// The modules stand from here on, four bytes each.
+pub(crate) const MODULES_PLACE: usize = 21;
+
+// How many modules there are.
+pub(crate) const MODULE_COUNT: usize = 8;
 
 // The deploy phase by number: 0 none, 1 waiting, 2 settling.
 pub(crate) fn phase_number(mode: Mode) -> u8
@@ -68,7 +76,7 @@ pub(crate) fn power_left(power: Power) -> u16
 }
 
 // All but the modules.
-fn head(state: State) -> [u8; 21]
+fn head(state: State) -> [u8; MODULES_PLACE]
     ensures { λ r. ⌜ r ≡ headBytes state ⌝ }
 {
     let watch = state.watch;
@@ -115,14 +123,14 @@ fn put_module(m: Module, at: usize, image: &mut [u8])
 }
 
 // Stores the eight modules.
-fn put_modules(modules: [Module; 8], image: &mut [u8])
+fn put_modules(modules: [Module; MODULE_COUNT], image: &mut [u8])
     requires { ⌜ length (now image) ≡ imageBytes ⌝ }
     ensures { λ _. ⌜ now (image .exit) ≡ sets (now (image .entry)) modulesPlace (modulesBytes modules) ⌝ }
 {
     let mut i: usize = 0;
-    while i < 8 {
+    while i < MODULE_COUNT {
         let m = modules[i];
-        put_module(m, 21 + 4 * i, image);
+        put_module(m, MODULES_PLACE + 4 * i, image);
         i += 1;
     }
 }

@@ -1,13 +1,14 @@
--- `numbers::after` is safe and ends. The invariant: the report keeps its eleven bytes. The measure is the times left.
+-- `numbers::after` is safe and ends. The invariant: the report keeps its bytes. The measure is the times left.
 use mathlib.Core.Path.{_≡_}
 use Prim.Native.Nat.{_-_, _≤_}
 use lib.ListN.{length}
 use borrow.Author.Needs.{needs}
+use Rattle.frames.specs.Kind.{reportBytes}
 use Rattle.numbers.proofs.after.Statement.{statement}
 use Rattle.numbers.proofs.after.Tie as tie
 
 abbrev Inv-loop : tie.InvT-loop
-Inv-loop state₀ frame times report₀ i₀ state report i = (i ≤ times) × (length report ≡ 11)
+Inv-loop state₀ frame times report₀ i₀ state report i = (i ≤ times) × (length report ≡ reportBytes)
 
 abbrev μ-loop : tie.MeasureT-loop
 μ-loop state₀ frame times report₀ i₀ state report i = times - i

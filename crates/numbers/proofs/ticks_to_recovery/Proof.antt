@@ -1,29 +1,30 @@
 -- `numbers::ticks_to_recovery` is safe and ends. The measure is the ticks left.
-use Prim.Native.Nat.{_-_, _≤_}
+use Prim.Native.Nat.{ℕ, _-_, _≤_}
 use borrow.Author.Needs.{needs}
 use Rattle.numbers.proofs.ticks_to_recovery.Statement.{statement}
 use Rattle.numbers.proofs.ticks_to_recovery.Tie as tie
 
+-- the code's MOST_TICKS
+abbrev mostTicks : ℕ
+mostTicks = 100000
+
 abbrev Inv-loop : tie.InvT-loop
-Inv-loop state₀ tick ticks₀ state ticks = ticks ≤ 100000
+Inv-loop state₀ ticks₀ state ticks = ticks ≤ mostTicks
 
 abbrev μ-loop : tie.MeasureT-loop
-μ-loop state₀ tick ticks₀ state ticks = 100000 - ticks
+μ-loop state₀ ticks₀ state ticks = mostTicks - ticks
 
 loop-holds : tie.Need-loop-holds Inv-loop μ-loop
 loop-holds c = search needs
 
-slice-aggregate-after : tie.Need-slice-aggregate-after Inv-loop μ-loop
-slice-aggregate-after c = search needs
-
-after-requires : tie.Need-after-requires Inv-loop μ-loop
-after-requires c κs = search needs
+after-ticks-requires : tie.Need-after-ticks-requires Inv-loop μ-loop
+after-ticks-requires c κs = search needs
 
 add-ticks : tie.Need-add-ticks Inv-loop μ-loop
 add-ticks c = search needs
 
-mode-of-requires : tie.Need-mode-of-requires Inv-loop μ-loop
-mode-of-requires c κs = search needs
+in-recovery-requires : tie.Need-in-recovery-requires Inv-loop μ-loop
+in-recovery-requires c κs = search needs
 
 returns : tie.Need-returns Inv-loop μ-loop
 returns c = search needs
@@ -44,10 +45,9 @@ ticks-to-recovery-spec =
     Inv-loop
     μ-loop
     loop-holds
-    slice-aggregate-after
-    after-requires
+    after-ticks-requires
     add-ticks
-    mode-of-requires
+    in-recovery-requires
     returns
     loop-less
     loop-again

@@ -22,9 +22,10 @@ bytes-requires c κs = search needs
 
 returns-2 : tie.Need-returns-2
 returns-2 c =
-    let a = c .before .before .before .before .before .args in
-    let i = c .before .before .before .in-range in
-    beacon-short _ _ _ (sym (i .ensures) ∙ not-false _ (c .before .before .if1 .left)) (omega (arith, text-length (a .state) (a .form), c .before .bytes .ensures))
+    let test = c .before .before in
+    let a = test .before .before .before .args in
+    let e = sym (test .before .in-range .ensures) ∙ not-false _ (test .if1 .left) in
+    beacon-short _ _ _ e (omega (arith, text-length (a .state) (a .form), c .before .bytes .ensures))
 
 complete-text-requires : tie.Need-complete-text-requires
 complete-text-requires c κs = search needs
@@ -46,14 +47,19 @@ same-length c = search needs
 
 returns-3 : tie.Need-returns-3
 returns-3 c =
-    let b = c .before .before .before .before .before .before .before .before in
-    let a = b .before .before .before .before .args in
-    let i = b .before .before .in-range in
     let copy = c .before .before .copy .ensures in
-    let e = text-length (a .state) (a .form) in
-    let n : b .bytes .result - 0 ≡ formBytes (a .form) = omega (arith, b .bytes .ensures) in
-    let src = ap (take (b .bytes .result - 0)) (c .before .before .before .before .before .before .complete-text .ensures) ∙ ap (λ k. take k (completeText (a .state))) n ∙ text-front (a .state) (a .form) in
-    beacon-copied _ _ _ (sym (i .ensures) ∙ not-false _ (b .before .if1 .left)) _ src (omega (arith, b .bytes .ensures)) (copy .0) (copy .1)
+    let all = c .before .before .before .before .before .before in
+    let sized = all .before .before in
+    let test = sized .before in
+    let a = test .before .before .before .args in
+    let e = sym (test .before .in-range .ensures) ∙ not-false _ (test .if1 .left) in
+    let whole = text-length (a .state) (a .form) in
+    let n : sized .bytes .result - 0 ≡ formBytes (a .form) = omega (arith, sized .bytes .ensures) in
+    let src =
+    ap (take (sized .bytes .result - 0)) (all .complete-text .ensures)
+    ∙ ap (λ k. take k (completeText (a .state))) n
+    ∙ text-front (a .state) (a .form) in
+    beacon-copied _ _ _ e _ src (omega (arith, sized .bytes .ensures)) (copy .0) (copy .1)
 
 pub write-spec : {M : Type 1} → statement M
 write-spec =

@@ -1,7 +1,7 @@
 -- `flight::calls::ems_beacon_basic` meets its contract: the answer by the page's number and length.
 use borrow.Author.Needs.{needs}
 use Rattle.beacon.specs.Writing.{writtenReply}
-use Rattle.flight.proofs.CallsLaws.{told-by}
+use Rattle.flight.proofs.CallsLaws.{replied-by}
 use Rattle.flight.proofs.calls.ems_beacon_basic.Statement.{statement}
 use Rattle.flight.proofs.calls.ems_beacon_basic.Tie as tie
 
@@ -18,7 +18,7 @@ same-length : tie.Need-same-length
 same-length c = search needs
 
 returns : tie.Need-returns
-returns c = told-by writtenReply (c .number .ensures) (c .before .count .ensures) (c .before .before .before .before .write-beacon .ensures)
+returns c = replied-by writtenReply (c .number .ensures) (c .before .count .ensures) (c .before .before .before .before .write-beacon .ensures)
 
 pub ems-beacon-basic-spec : {M : Type 1} → statement M
 ems-beacon-basic-spec =

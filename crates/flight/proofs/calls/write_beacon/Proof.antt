@@ -10,7 +10,9 @@ load-requires : tie.Need-load-requires
 load-requires c κs = search needs
 
 returns : tie.Need-returns
-returns c = beacon-refused _ _ _ (not-loaded (c .before .before .load .result) _ (c .before .before .load .ensures) (c .if1 .taken))
+returns c =
+    let load = c .before .before .load in
+    beacon-refused _ _ _ (not-loaded (load .result) _ (load .ensures) (c .if1 .taken))
 
 write-requires : tie.Need-write-requires
 write-requires c κs = search needs
@@ -19,7 +21,10 @@ same-length : tie.Need-same-length
 same-length c = search needs
 
 returns-2 : tie.Need-returns-2
-returns-2 c = c .before .before .write .ensures ∙ beacon-taken _ _ _ _ (is-loaded (c .before .before .before .before .before .before .before .load .result) _ (c .before .before .before .before .before .before .before .load .ensures) (c .before .before .before .before .before .if1 .left))
+returns-2 c =
+    let test = c .before .before .before .before .before in
+    let load = test .before .before .load in
+    c .before .before .write .ensures ∙ beacon-taken _ _ _ _ (is-loaded (load .result) _ (load .ensures) (test .if1 .left))
 
 pub write-beacon-spec : {M : Type 1} → statement M
 write-beacon-spec = tie.close (tie.spec load-requires returns write-requires same-length returns-2)

@@ -42,7 +42,23 @@ word-at-requires-6 c κs = search needs
 
 returns : tie.Need-returns
 unfolding decoded
-returns c = simp (c .word-at6 .ensures, c .before .word-at5 .ensures, c .before .before .word-at4 .ensures, c .before .before .before .word-at3 .ensures, c .before .before .before .before .word-at2 .ensures, c .before .before .before .before .before .before .word-at .ensures, c .before .before .before .before .before .before .before .before .mode-from .ensures, c .before .before .before .before .before .before .before .before .before .long-at .ensures)
+returns c =
+    let ground = c .before in
+    let descend = ground .before in
+    let ascend = descend .before in
+    let tension = ascend .before in
+    let beacon = tension .before .before in
+    let mode = beacon .before .before in
+    simp (
+      c .word-at6 .ensures,
+      ground .word-at5 .ensures,
+      descend .word-at4 .ensures,
+      ascend .word-at3 .ensures,
+      tension .word-at2 .ensures,
+      beacon .word-at .ensures,
+      mode .mode-from .ensures,
+      mode .before .long-at .ensures,
+    )
 
 pub decode-spec : {M : Type 1} → statement M
 decode-spec =

@@ -60,13 +60,42 @@ word-at-requires-7 : tie.Need-word-at-requires-7
 word-at-requires-7 c κs = search needs
 
 word-at-requires-8 : tie.Need-word-at-requires-8
-word-at-requires-8 c κs = omega (arith, c .before .before .before .before .before .before .before .before .before .before .before .before .before .before .before .before .before .before .before .before .before .before .before .before .before .before .pre)
+word-at-requires-8 c κs =
+    let start : tie.Start =
+    c .before .before .before .before .before .before .before .before .before .before .before .before .before .before .before .before .before .before .before .before .before .before .before .before .before .before in
+    omega (arith, start .pre)
 
 returns : tie.Need-returns
 returns c =
-    let a = c .before .before .before .before .before .before .before .before .before .before .before .before .before .before .before .before .before .before .before .before .before .before .before .before .before .before .before .before .args in
-    simp (c .before .word-at8 .ensures, c .before .before .before .word-at7 .ensures, c .before .before .before .before .before .word-at6 .ensures, c .before .before .before .before .before .before .before .word-at5 .ensures, c .before .before .before .before .before .before .before .before .before .word-at4 .ensures, c .before .before .before .before .before .before .before .before .before .before .before .flag .ensures, c .before .before .before .before .before .before .before .before .before .before .before .before .before .word-at3 .ensures, c .before .before .before .before .before .before .before .before .before .before .before .before .before .before .before .before .word-at2 .ensures, c .before .before .before .before .before .before .before .before .before .before .before .before .before .before .before .before .before .word-at .ensures, c .before .before .before .before .before .before .before .before .before .before .before .before .before .before .before .before .before .before .before .phase-number .ensures, c .before .before .before .before .before .before .before .before .before .before .before .before .before .before .before .before .before .before .before .before .before .number .ensures, c .before .before .before .before .before .before .before .before .before .before .before .before .before .before .before .before .before .before .before .before .before .before .before .before .before .phase-seconds .ensures)
-    (head-alike (a .image .now) (λ i. c .before .before .before .before .before .before .before .before .before .before .before .before .before .before .before .before .before .before .before .before .before .before .before .before .before .before .before .shared-slice-known .given i .fits) (a .state) (omega (arith, c .before .before .before .before .before .before .before .before .before .before .before .before .before .before .before .before .before .before .before .before .before .before .before .before .before .before .before .before .pre)))
+    let payload = c .before in
+    let ground = payload .before .before in
+    let descend = ground .before .before in
+    let ascend = descend .before .before in
+    let tension = ascend .before .before in
+    let antennas = tension .before .before in
+    let beacon = antennas .before .before in
+    let low = beacon .before .before .before in
+    let high = low .before in
+    let phase = high .before .before in
+    let mode = phase .before .before in
+    let seconds = mode .before .before .before .before in
+    let known = seconds .before .before in
+    let start : tie.Start = known .before in
+    simp (
+      payload .word-at8 .ensures,
+      ground .word-at7 .ensures,
+      descend .word-at6 .ensures,
+      ascend .word-at5 .ensures,
+      tension .word-at4 .ensures,
+      antennas .flag .ensures,
+      beacon .word-at3 .ensures,
+      low .word-at2 .ensures,
+      high .word-at .ensures,
+      phase .phase-number .ensures,
+      mode .number .ensures,
+      seconds .phase-seconds .ensures,
+    )
+    (head-alike (start .args .image .now) (λ i. known .shared-slice-known .given i .fits) (start .args .state) (omega (arith, start .pre)))
 
 pub is-head-spec : {M : Type 1} → statement M
 is-head-spec =

@@ -30,9 +30,12 @@ shared-slice-read-result-2 c = search needs
 
 returns : tie.Need-returns
 returns c =
-    let a = c .before .before .before .before .before .before .before .args in
-    simp (c .before .flag .ensures, c .before .before .word-at .ensures, c .before .before .before .power-left .ensures, c .before .before .before .before .before .power-number .ensures)
-    (module-alike (a .image .now) (λ i. c .shared-slice-known3 .given i .fits) (a .m) (a .at) (c .before .before .before .before .before .before .before .pre))
+    let word = c .before .before in
+    let power = word .before .before .before in
+    let start : tie.Start = power .before .before in
+    let a = start .args in
+    simp (c .before .flag .ensures, word .word-at .ensures, word .before .power-left .ensures, power .power-number .ensures)
+    (module-alike (a .image .now) (λ i. c .shared-slice-known3 .given i .fits) (a .m) (a .at) (start .pre))
 
 pub is-module-spec : {M : Type 1} → statement M
 is-module-spec =

@@ -24,12 +24,14 @@ is-head-requires c κs = search needs
 
 returns-2 : tie.Need-returns-2
 returns-2 c =
-    let read = c .before .before .before .before .modules-in in
-    let s = c .before .before .decode .result in
-    let bytes = c .before .before .before .before .before .before .before .args .image .now in
-    let modules : s .modules ≡ modulesIn bytes = ap (λ x. x .modules) (c .before .before .decode .ensures) ∙ read .ensures .0 in
-    found-compared bytes _ _ s (read .ensures .0) (c .before .before .decode .ensures)
-    (saved-alike s bytes (c .before .before .before .before .before .if1 .left) (c .before .is-head .ensures) (rw modules (read .ensures .1)))
+    let decode = c .before .before .decode in
+    let read = c .before .before .before .before in
+    let bytes = read .before .before .before .args .image .now in
+    let s = decode .result in
+    let same = read .modules-in .ensures in
+    let modules : s .modules ≡ modulesIn bytes = ap (λ x. x .modules) (decode .ensures) ∙ same .0 in
+    found-compared bytes _ _ s (same .0) (decode .ensures)
+    (saved-alike s bytes (read .before .if1 .left) (c .before .is-head .ensures) (rw modules (same .1)))
 
 pub load-spec : {M : Type 1} → statement M
 load-spec =

@@ -66,7 +66,12 @@ cast-t45 c = search needs
 
 returns : tie.Need-returns
 unfolding headBytes
-returns c = simp (c .before .before .before .before .before .before .before .before .before .before .flag .ensures, c .before .before .before .before .before .before .before .before .before .before .before .before .before .phase-number .ensures, c .before .before .before .before .before .before .before .before .before .before .before .before .before .before .number .ensures, c .before .before .before .before .before .before .before .before .before .before .before .before .before .before .before .before .before .phase-seconds .ensures)
+returns c =
+    let antennas = c .before .before .before .before .before .before .before .before .before .before in
+    let phase = antennas .before .before .before in
+    let mode = phase .before in
+    let seconds = mode .before .before .before in
+    simp (antennas .flag .ensures, phase .phase-number .ensures, mode .number .ensures, seconds .phase-seconds .ensures)
 
 pub head-spec : {M : Type 1} → statement M
 head-spec =

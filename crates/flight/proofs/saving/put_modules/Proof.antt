@@ -7,6 +7,7 @@ use lib.ListN.{length, drop, drop-of-length-le}
 use lib.Seq.{sets}
 use borrow.Author.Needs.{needs}
 use Rattle.basics.proofs.EachLaws.{length-mapped}
+use Rattle.modules.specs.Groups.{moduleCount}
 use Rattle.flight.specs.Saving.{imageBytes, modulesPlace, modulesBytes}
 use Rattle.flight.proofs.SavingLaws.{stored-turn}
 use Rattle.flight.proofs.saving.put_modules.Statement.{statement}
@@ -15,16 +16,16 @@ use Rattle.flight.proofs.saving.put_modules.Tie as tie
 abbrev Inv-loop : tie.InvT-loop
 Inv-loop image₀ modules i₀ image i =
     record {
-      low : i ≤ 8;
+      low : i ≤ moduleCount;
       size : length image ≡ imageBytes;
-      left : sets image (modulesPlace + 4 * i) (modulesBytes (drop i modules)) ≡ sets image₀ modulesPlace (modulesBytes modules);
+      rest : sets image (modulesPlace + 4 * i) (modulesBytes (drop i modules)) ≡ sets image₀ modulesPlace (modulesBytes modules);
     }
 
 abbrev μ-loop : tie.MeasureT-loop
-μ-loop image₀ modules i₀ image i = 8 - i
+μ-loop image₀ modules i₀ image i = moduleCount - i
 
 loop-holds : tie.Need-loop-holds Inv-loop μ-loop
-loop-holds c = record { low = search needs; size = search needs; left = refl }
+loop-holds c = record { low = search needs; size = search needs; rest = refl }
 
 mul-m : tie.Need-mul-m Inv-loop μ-loop
 mul-m c = search needs
@@ -51,12 +52,12 @@ loop-again : tie.Need-loop-again Inv-loop μ-loop
 loop-again c =
     let l = c .before .before .before .before .before .before .loop in
     let modules = c .before .before .before .before .before .before .before .before .args .t1 in
-    let eight : length modules ≡ 8 = search (needs, length-mapped) in
+    let eight : length modules ≡ moduleCount = search (needs, length-mapped) in
     let place : modulesPlace + 4 * (l .i + 1) ≡ modulesPlace + 4 * l .i + 4 = omega arith in
     record {
       low = omega arith;
       size = omega arith;
-      left = rw (place, c .before .before .put-module .ensures) (stored-turn modules (l .i) (modulesPlace + 4 * l .i) (l .image) _ (omega arith) ∙ l .inv .left);
+      rest = rw (place, c .before .before .put-module .ensures) (stored-turn modules (l .i) (modulesPlace + 4 * l .i) (l .image) _ (omega arith) ∙ l .inv .rest);
     }
 
 same-length : tie.Need-same-length Inv-loop μ-loop
@@ -66,9 +67,9 @@ returns : tie.Need-returns Inv-loop μ-loop
 unfolding modulesBytes
 returns c =
     let modules = c .before .before .before .args .t1 in
-    let eight : length modules ≡ 8 = search (needs, length-mapped) in
+    let eight : length modules ≡ moduleCount = search (needs, length-mapped) in
     let none : drop (c .before .loop .i) modules ≡ [] = drop-of-length-le modules {i = c .before .loop .i} (omega arith) in
-    rw none at (c .before .loop .inv .left)
+    rw none at (c .before .loop .inv .rest)
 
 pub put-modules-spec : {M : Type 1} → statement M
 put-modules-spec =

@@ -1,9 +1,9 @@
 -- `flight::saving::save` meets its contract: the head, then the modules, fill the image.
 use mathlib.Core.Path.{_≡_, ap, _∙_}
-use lib.ListN.{length}
 use lib.Seq.{sets}
 use borrow.Author.Needs.{needs}
 use Rattle.basics.proofs.EachLaws.{length-mapped}
+use Rattle.supervisor.proofs.ModuleLaws.{Eight}
 use Rattle.flight.specs.Saving.{modulesPlace, modulesBytes}
 use Rattle.flight.proofs.SavingLaws.{stored-state}
 use Rattle.flight.proofs.saving.save.Statement.{statement}
@@ -26,11 +26,13 @@ same-length c = search needs
 
 returns : tie.Need-returns
 returns c =
-    let a = c .before .before .before .before .before .before .before .before .before .before .before .before .args in
-    let eight : length (a .state .modules) ≡ 8 = search (needs, length-mapped) in
+    let start : tie.Start = c .before .before .before .before .before .before .before .before .before .before .before .before in
+    let s = start .args .state in
+    let eight : Eight s = search (needs, length-mapped) in
+    let copy = c .before .before .before .before .before .before in
     c .before .before .put-modules .ensures
-    ∙ ap (λ r. sets r modulesPlace (modulesBytes (a .state .modules))) (c .before .before .before .before .before .before .copy .ensures .1)
-    ∙ stored-state (a .state) _ (a .image .now) (c .before .before .before .before .before .before .before .before .before .head .ensures) eight (c .before .before .before .before .before .before .before .before .before .before .before .before .pre)
+    ∙ ap (λ r. sets r modulesPlace (modulesBytes (s .modules))) (copy .copy .ensures .1)
+    ∙ stored-state s _ (start .args .image .now) (copy .before .before .before .head .ensures) eight (start .pre)
 
 pub save-spec : {M : Type 1} → statement M
 save-spec =

@@ -1,7 +1,7 @@
--- `flight::loading::module_at` meets its contract: each field is the rule's.
+-- `flight::loading::module_from` meets its contract: each field is the rule's.
 use borrow.Author.Needs.{needs}
-use Rattle.flight.proofs.loading.module_at.Statement.{statement}
-use Rattle.flight.proofs.loading.module_at.Tie as tie
+use Rattle.flight.proofs.loading.module_from.Statement.{statement}
+use Rattle.flight.proofs.loading.module_from.Tie as tie
 
 shared-slice-read-power-from : tie.Need-shared-slice-read-power-from
 shared-slice-read-power-from c = search needs
@@ -24,8 +24,8 @@ shared-slice-read-t10 c = search needs
 returns : tie.Need-returns
 returns c = simp (c .before .power-from .ensures, c .before .before .word-at .ensures)
 
-pub module-at-spec : {M : Type 1} → statement M
-module-at-spec =
+pub module-from-spec : {M : Type 1} → statement M
+module-from-spec =
     tie.close
     (tie.spec
     shared-slice-read-power-from
