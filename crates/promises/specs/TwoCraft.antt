@@ -50,7 +50,8 @@ pub record Better (cs : List Call) (a b : State) : Type 0 where
   pub requested : (i : ℕ) → isMission i ≡ true → T (moduleAt i a .requested) → T (moduleAt i b .requested)
   -- each of them that was never reported shorted and is on in the first is on in the second
   pub on :
-      (i : ℕ) → isMission i ≡ true → NeverShorted i cs → T (isOn (moduleAt i a .power)) → T (isOn (moduleAt i b .power))
+      (i : ℕ) → isMission i ≡ true → NeverShorted i cs →
+      T (isOn (moduleAt i a .power)) → T (isOn (moduleAt i b .power))
 
 -- from the fresh start, with room for every report: after every call
 abbrev pub TwoCraft : Type 0
