@@ -1,7 +1,7 @@
 -- As told, proved.
 -- Assumes nothing.
 use Prim.Native.Nat.{ℕ, _<_}
-use mathlib.Core.Path.{_≡_, refl, sym, ap, _∙_}
+use mathlib.Core.Path.{_≡_, sym, ap, _∙_}
 use mathlib.Core.Bool.{Bool, true, false, not, true≢false}
 use mathlib.Core.List.{List, [], _∷_, _++_}
 use lib.Dec.{T}
@@ -16,7 +16,7 @@ use Rattle.supervisor.specs.declared.state.State.{State}
 use Rattle.supervisor.proofs.ActLaws.{watch-still}
 use Rattle.supervisor.proofs.BeforeModulesLaws.{before-eight}
 use Rattle.supervisor.proofs.FreshLaws.{fresh-eight, fresh-requested, fresh-off}
-use Rattle.supervisor.proofs.HistoryLaws.{Comes, stopped, ticking, other, comes, called-eight, after-eight}
+use Rattle.supervisor.proofs.HistoryLaws.{Comes, stopped, ticking, other, comes, called-eight, after-eight, after-append}
 use Rattle.supervisor.proofs.ModuleLaws.{Eight, mission-low}
 use Rattle.supervisor.proofs.SwitchLaws.{act-power, on-requested}
 use Rattle.supervisor.proofs.TickLaws.{Ticks, waits, runs, ticks, ticked-flies}
@@ -68,10 +68,6 @@ module _ (i : ℕ) (low : i < moduleCount) where
   called-asked s c n dark (stopped answer w) d t = absurd (rw (w .tick) at d)
   called-asked s c n dark (ticking shorts w) d t = rw (w .leaves) (tick-asked shorts s n dark (ticks shorts s) (rw (w .leaves) at t))
   called-asked s c n dark (other f e w) d t = absurd (rw (w .tick, e) at d)
-
-after-append : (cs : List Call) (c : Call) (s : State) → after s (cs ++ c ∷ []) ≡ called (after s cs) c .result .state
-after-append [] c s = refl
-after-append (d ∷ cs) c s = after-append cs c (called s d .result .state)
 
 asked-for :
     (i : ℕ) → isMission i ≡ true → (cs : List Call) (c : Call) → T (doneTick (after freshState cs) c) →

@@ -4,24 +4,20 @@ use Prim.Native.Nat.{ℕ, _+_, _-_, _%_}
 use native.Mathlib.Omega.{arith}
 use mathlib.Core.Path.{_≡_, refl, ap, _∙_}
 use mathlib.Core.Bool.{Bool, true, false, not, _||_, true≢false, false≢true}
-use mathlib.Core.List.{List, _++_}
 use lib.Dec.{T, eqb}
-use lib.ListN.{getD, drop}
+use lib.ListN.{getD}
 use borrow.Author.Tests.{eqb-true}
 use Rattle.basics.specs.Choice.{if_then_else_}
 use Rattle.basics.proofs.ChoiceLaws.{either}
-use Rattle.frames.specs.Kind.{reportBytes}
-use Rattle.frames.specs.declared.frame.Frame.{Frame}
 use Rattle.frames.specs.declared.frame.Frame.the-variants as frame
 use Rattle.supervisor.specs.State.{inDeployWait, isSafe}
 use Rattle.supervisor.specs.Range.{waitSeconds, completeTicks}
 use Rattle.supervisor.specs.Tick.{ticked, beforeModules, moduleStage}
-use Rattle.supervisor.specs.Report.{reportOf}
 use Rattle.supervisor.specs.Acted.{dueNumber}
 use Rattle.supervisor.specs.Deploy.{phaseTicked}
+use Rattle.supervisor.specs.Report.{beaconByte}
 use Rattle.supervisor.specs.Due.{beaconStage, dueAt}
 use Rattle.supervisor.specs.History.{Call, called, doneTick}
-use Rattle.supervisor.specs.declared.acted.Acted.{Acted}
 use Rattle.supervisor.specs.declared.state.Phase.{Phase}
 use Rattle.supervisor.specs.declared.state.Phase.the-variants.{Waiting, Settling}
 use Rattle.supervisor.specs.declared.state.Mode.{Mode}
@@ -30,12 +26,8 @@ use Rattle.supervisor.proofs.ActLaws.{watch-still}
 use Rattle.supervisor.proofs.HistoryLaws.{Works, Comes, stopped, ticking, other}
 use Rattle.supervisor.proofs.TickLaws.{Ticks, waits, runs, ticks, staged-beacon}
 use Rattle.supervisor.proofs.DueLaws.{count-stands, none-at-sixty}
-use Rattle.promises.specs.NeverSilent.{beaconByte, beaconDue}
-
--- the beacon's place in a report
-due-byte : (f : Frame) (a : Acted) (room : List ℕ) → getD (reportOf f a ++ drop reportBytes room) beaconByte 0 ≡ dueNumber (a .due)
-unfolding reportOf
-due-byte f a room = refl
+use Rattle.supervisor.proofs.ReportLaws.{report-due}
+use Rattle.promises.specs.NeverSilent.{beaconDue}
 
 -- the three stages, with none due
 module _ (shorts : ℕ) (s : State) where
@@ -83,7 +75,7 @@ module _ (s : State) (c : Call) (silent : beaconDue s c ≡ false) where
   silent-tick shorts w =
       let byte : ℕ = getD (called s c .room) beaconByte 0 in
       let e : byte ≡ 0 = eqb-true byte 0 (not-false (eqb byte 0) (rw (w .tick) at silent)) in
-      rw (w .leaves, due-byte (frame.Tick shorts) (ticked shorts s) (c .room)) at e
+      rw (w .leaves, report-due (frame.Tick shorts) (ticked shorts s) (c .room)) at e
 
   pub call-count : inDeployWait s ≡ false → Comes s c → called s c .result .state .watch .beacon ≡ s .watch .beacon + (if doneTick s c then 1 else 0)
   call-count out (stopped answer w) = rw (w .tick, w .leaves) (omega arith)

@@ -5,8 +5,8 @@ use native.Mathlib.Omega.{arith}
 use mathlib.Core.Path.{_≡_, refl, sym, ap, _∙_}
 use mathlib.Core.Bool.{Bool, true, false}
 use mathlib.Core.List.{List, [], _∷_}
-use lib.Dec.{T, eqb, ltb}
-use borrow.Author.Tests.{eqb-true, eqb-false, ne-eqb, ltb-true}
+use lib.Dec.{T, eqb}
+use borrow.Author.Tests.{eqb-true, ne-eqb}
 use Rattle.basics.specs.Choice.{if_then_else_, within}
 use Rattle.basics.proofs.ChoiceLaws.{is-true, within-low, within-high}
 use Rattle.frames.specs.Answer.{answerNumber}
@@ -19,6 +19,7 @@ use Rattle.frames.specs.declared.serial.Class.the-variants.{Repeat, Fresh, Stal
 use Rattle.frames.specs.declared.frame.Frame.{Frame}
 use Rattle.frames.specs.declared.reading.Reading.the-variants.{Accepted}
 use Rattle.frames.specs.declared.frame.Frame.the-variants as frame
+use Rattle.frames.proofs.SerialLaws.{fresh-ahead, moved-on}
 use Rattle.supervisor.specs.Range.{inRange}
 use Rattle.supervisor.specs.Act.{actOf}
 use Rattle.supervisor.specs.Tick.{ticked}
@@ -33,24 +34,6 @@ use Rattle.promises.specs.Serials.{verdict}
 use Rattle.promises.specs.Dawn.{Dawn, Late, NotTaken, stride, movedOn, memory}
 use Rattle.promises.proofs.Serials.{read-verdict}
 use Rattle.promises.proofs.Refusals.{refusals}
-
--- Distances
-
--- a fresh serial lies 1 to 32,767 ahead of the last
-ahead :
-    (d : ℕ) (zero near : Bool) → eqb d 0 ≡ zero → ltb d staleFrom ≡ near → (if zero then Repeat else if near then Fresh else Stale) ≡ Fresh →
-    (0 < d) × (d < staleFrom)
-ahead d true near e f h = let z : _≡_ {A = ℕ} 0 1 = cc in absurd (omega arith)
-ahead d false false e f h = let z : _≡_ {A = ℕ} 0 1 = cc in absurd (omega arith)
-ahead d false true e f h = (omega (arith, eqb-false d 0 e), ltb-true d staleFrom f)
-
-fresh-ahead : (serial last : ℕ) → classOf serial last ≡ Fresh → (0 < distance serial last) × (distance serial last < staleFrom)
-unfolding classOf
-fresh-ahead serial last e = ahead (distance serial last) (eqb (distance serial last) 0) (ltb (distance serial last) staleFrom) refl refl e
-
--- and is the last one moved on by its distance
-moved-on : (serial last : ℕ) → 0 < distance serial last → serial % serialCount ≡ (last + distance serial last) % serialCount
-moved-on serial last h = omega arith
 
 -- what lies at most 32,768 behind is not fresh
 not-fresh :
@@ -105,28 +88,28 @@ module _ (origin : Origin) where
   after-strides (c ∷ cs) s = omega (arith, after-strides cs (called s c .result .state), strides s c (comes s c))
 
   -- a frame that was taken left its serial
-  left-by :
+  last-by :
       (class : Class) (serial : ℕ) (s : State) (a : Acted) → T (isTaken (answerNumber (a .answer))) → Judged class (from origin serial) s a →
       lastOf origin (a .state .serials) ≡ serial
-  left-by Repeat serial s a t d = absurd (rw (d .0) at t)
-  left-by Stale serial s a t d = absurd (rw (d .0) at t)
-  left-by Fresh serial s a t d = judged-last origin Fresh serial s a d
+  last-by Repeat serial s a t d = absurd (rw (d .0) at t)
+  last-by Stale serial s a t d = absurd (rw (d .0) at t)
+  last-by Fresh serial s a t d = judged-last origin Fresh serial s a d
 
-  view-left :
+  view-last :
       (f : Frame) (s : State) (c : Call) (a : Acted) (serial : ℕ) → serialFrom origin (aboutOf c) ≡ serial ∷ [] → T (isTaken (answered s c)) →
       Works s c f a → View origin f s a → lastOf origin (called s c .result .state .serials) ≡ serial
-  view-left f s c a serial b t w (foreign z e) = let read : serialFrom origin (about (Accepted f)) ≡ serial ∷ [] = rw (w .read) at b in cc
-  view-left f s c a serial b t w (own n z d) =
+  view-last f s c a serial b t w (foreign z e) = let read : serialFrom origin (about (Accepted f)) ≡ serial ∷ [] = rw (w .read) at b in cc
+  view-last f s c a serial b t w (own n z d) =
       let read : serialFrom origin (about (Accepted f)) ≡ serial ∷ [] = rw (w .read) at b in
       let e : n ≡ serial = cc in
-      rw (w .leaves) (left-by (classOf n (lastOf origin (s .serials))) n s a (rw (w .leaves) at t) d ∙ e)
+      rw (w .leaves) (last-by (classOf n (lastOf origin (s .serials))) n s a (rw (w .leaves) at t) d ∙ e)
 
-  taken-left :
+  taken-last :
       (s : State) (c : Call) (serial : ℕ) → serialFrom origin (aboutOf c) ≡ serial ∷ [] → T (isTaken (answered s c)) → Comes s c →
       T (inRange s) × (lastOf origin (called s c .result .state .serials) ≡ serial)
-  taken-left s c serial b t (stopped answer w) = absurd (rw (not-taken (answerNumber answer) (w .number)) at (rw (w .leaves) at t))
-  taken-left s c serial b t (ticking shorts w) = (w .valid, view-left (frame.Tick shorts) s c (ticked shorts s) serial b t w (tick-view shorts s))
-  taken-left s c serial b t (other f e w) = (w .valid, view-left f s c (actOf f s) serial b t w (view origin f s (actOf f s) (act-answers f s)))
+  taken-last s c serial b t (stopped answer w) = absurd (rw (not-taken (answerNumber answer) (w .number)) at (rw (w .leaves) at t))
+  taken-last s c serial b t (ticking shorts w) = (w .valid, view-last (frame.Tick shorts) s c (ticked shorts s) serial b t w (tick-view shorts s))
+  taken-last s c serial b t (other f e w) = (w .valid, view-last f s c (actOf f s) serial b t w (view origin f s (actOf f s) (act-answers f s)))
 
 -- the verdict is not "neither": 8 or 9
 eight-or-nine : (n : ℕ) (r q : Bool) → eqb n 8 ≡ r → eqb n 9 ≡ q → ((if r then Repeat else if q then Stale else Fresh) ≡ Fresh → ⊥) → T (within 8 9 n)
@@ -138,7 +121,7 @@ late-not-taken :
     (origin : Origin) (s : State) (first : Call) (since : List Call) (late : Call) → Late origin s first since late →
     NotTaken (after (called s first .result .state) since) late
 late-not-taken origin s first since late l =
-    let (valid, last) = taken-left origin s first (l .serial) (l .firstSerial) (l .taken) (comes s first) in
+    let (valid, last) = taken-last origin s first (l .serial) (l .firstSerial) (l .taken) (comes s first) in
     let t : State = after (called s first .result .state) since in
     let v : T (inRange t) = after-in-range since (called s first .result .state) (called-in-range s first valid) in
     let e : verdict (answered t late) ≡ classOf (l .old) (lastOf origin (t .serials)) =

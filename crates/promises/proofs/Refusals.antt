@@ -2,17 +2,15 @@
 -- Assumes nothing.
 use Prim.Native.Nat.{ℕ}
 use native.Mathlib.Omega.{arith}
-use mathlib.Core.Path.{_≡_, refl}
-use mathlib.Core.List.{List, [], _∷_, _++_}
+use mathlib.Core.Path.{_≡_}
+use mathlib.Core.List.{[], _∷_}
 use mathlib.Core.Logic.{⊎-elim}
 use lib.Dec.{T}
-use lib.ListN.{drop}
 use Rattle.basics.specs.Choice.{within}
 use Rattle.basics.proofs.ChoiceLaws.{within-low, within-high}
 use Rattle.frames.specs.Answer.{answerNumber}
 use Rattle.frames.specs.Serial.{movedTo}
 use Rattle.frames.specs.About.{serialFrom, about}
-use Rattle.frames.specs.Kind.{reportBytes}
 use Rattle.frames.specs.declared.sender.Origin.{Origin}
 use Rattle.frames.specs.declared.serial.Class.{Class}
 use Rattle.frames.specs.declared.serial.Class.the-variants.{Repeat, Fresh, Stale}
@@ -21,7 +19,6 @@ use Rattle.frames.specs.declared.reading.Reading.the-variants.{Accepted}
 use Rattle.frames.specs.declared.sender.Sender.{Sender}
 use Rattle.supervisor.specs.State.{withSerials}
 use Rattle.supervisor.specs.Act.{actOf}
-use Rattle.supervisor.specs.Report.{reportOf}
 use Rattle.supervisor.specs.History.{Call, answered}
 use Rattle.supervisor.specs.Command.{serialUsed, classIn}
 use Rattle.supervisor.specs.declared.acted.Acted.{Acted}
@@ -29,14 +26,10 @@ use Rattle.supervisor.specs.declared.state.State.{State}
 use Rattle.supervisor.proofs.CommandLaws.{Judged, Answers, news, judged, act-answers, unrefused, zero-or-ten, own-serial}
 use Rattle.supervisor.proofs.HistoryLaws.{Comes, stopped, ticking, other, comes}
 use Rattle.supervisor.proofs.TickLaws.{ticked-done}
+use Rattle.supervisor.proofs.ReportLaws.{report-rest}
 use Rattle.promises.specs.Refusals.{Refusals, Untouched, Reported, SerialUsed}
 use Rattle.promises.proofs.BeaconRefusals.{beacon-keeps}
 use Rattle.promises.proofs.KeyerRefusals.{keying-keeps, reading-keeps}
-
--- a report has 11 bytes
-rest-kept : (f : Frame) (a : Acted) (room : List ℕ) → drop reportBytes (reportOf f a ++ drop reportBytes room) ≡ drop reportBytes room
-unfolding reportOf
-rest-kept f a room = refl
 
 -- 8 and 9 leave the state
 judged-old : (class : Class) (sender : Sender) (s : State) (a : Acted) → Judged class sender s a → T (within 8 9 (answerNumber (a .answer))) → a .state ≡ s
@@ -76,14 +69,14 @@ module _ (s : State) (c : Call) where
   reported (stopped answer w) h = absurd (omega (arith, within-high 1 7 (answerNumber answer) (w .number), within-low 8 9 (answerNumber answer) (rw (w .leaves) at h)))
   reported (ticking shorts w) h = absurd (rw (w .leaves, ticked-done shorts s) at h)
   reported (other f e w) h =
-      record { state = rw (w .leaves) (old f s (actOf f s) (act-answers f s) (rw (w .leaves) at h)); rest = rw (w .leaves) (rest-kept f (actOf f s) (c .room)) }
+      record { state = rw (w .leaves) (old f s (actOf f s) (act-answers f s) (rw (w .leaves) at h)); rest = rw (w .leaves) (report-rest f (actOf f s) (c .room)) }
 
   used : Comes s c → answered s c ≡ 10 → SerialUsed s c
   used (stopped answer w) h = absurd (omega (arith, within-high 1 7 (answerNumber answer) (w .number), rw (w .leaves) at h))
   used (ticking shorts w) h = let z : _≡_ {A = ℕ} 0 10 = rw (w .leaves, ticked-done shorts s) at h in absurd (omega arith)
   used (other f e w) h =
       let (origin, serial, b, moved) = ill f s (actOf f s) (act-answers f s) (rw (w .leaves) at h) in
-      record { origin = origin; serial = serial; frame = rw (w .read) b; state = rw (w .leaves) moved; rest = rw (w .leaves) (rest-kept f (actOf f s) (c .room)) }
+      record { origin = origin; serial = serial; frame = rw (w .read) b; state = rw (w .leaves) moved; rest = rw (w .leaves) (report-rest f (actOf f s) (c .room)) }
 
 pub refusals : Refusals
 refusals =

@@ -8,12 +8,9 @@ use lib.Dec.{T, eqb}
 use lib.ListN.{getD}
 use Rattle.supervisor.specs.State.{isSafe, inDeployWait}
 use Rattle.supervisor.specs.History.{Call, called, doneTick, doneTicks}
+use Rattle.supervisor.specs.Report.{beaconByte}
 use Rattle.supervisor.specs.Range.{basicTicks, completeTicks}
 use Rattle.supervisor.specs.declared.state.State.{State}
-
--- the place of the beacon in a report
-abbrev pub beaconByte : ℕ
-beaconByte = 10
 
 -- a beacon falls due in a call: a done tick whose report says so
 abbrev pub beaconDue : State → Call → Bool

@@ -4,7 +4,7 @@ use Prim.Native.Nat.{ℕ}
 use native.Mathlib.Omega.{arith}
 use mathlib.Core.Path.{_≡_, refl}
 use mathlib.Core.Bool.{Bool, true, false, _&&_}
-use mathlib.Core.List.{List, [], _∷_}
+use mathlib.Core.List.{List, [], _∷_, _++_}
 use lib.ListN.{length}
 use lib.Dec.{T, eqb, leb}
 use borrow.Author.Tests.{ne-eqb, le-leb}
@@ -100,6 +100,11 @@ module _ (s : State) (c : Call) where
 pub called-read : (s : State) (c : Call) → T (inRange s) → HasRoom c → called s c ≡ stepRead (readFrame (c .input)) s (c .room)
 unfolding stepOf
 called-read s c h r = rw (is-true (inRange s) h, le-leb reportBytes (length (c .room)) r)
+
+-- one call more
+pub after-append : (cs : List Call) (c : Call) (s : State) → after s (cs ++ c ∷ []) ≡ called (after s cs) c .result .state
+after-append [] c s = refl
+after-append (d ∷ cs) c s = after-append cs c (called s d .result .state)
 
 -- a property of states that every done tick and every other frame keeps is kept by every call, and so by every history
 module _

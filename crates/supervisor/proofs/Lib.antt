@@ -8,6 +8,7 @@ pub mod TickLaws
 pub mod CommandLaws
 pub mod ActLaws
 pub mod SerialLaws
+pub mod ReportLaws
 pub mod RangeKept
 pub mod HistoryLaws
 pub mod SwitchLaws

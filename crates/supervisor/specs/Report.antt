@@ -24,3 +24,7 @@ unfoldable pub reportOf : Frame → Acted → List ℕ
 reportOf frame acted =
     bytesOf (headOf frame) (answerNumber (acted .answer)) (modeNumber (acted .state .watch .mode))
     (masksOf (acted .state .modules)) (dueNumber (acted .due))
+
+-- the place of the beacon in a report
+abbrev pub beaconByte : ℕ
+beaconByte = 10
