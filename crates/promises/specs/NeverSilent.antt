@@ -9,7 +9,6 @@ use lib.ListN.{getD}
 use Rattle.supervisor.specs.State.{isSafe, inDeployWait}
 use Rattle.supervisor.specs.History.{Call, called, doneTick, doneTicks}
 use Rattle.supervisor.specs.Report.{beaconByte}
-use Rattle.supervisor.specs.Range.{basicTicks, completeTicks}
 use Rattle.supervisor.specs.declared.state.State.{State}
 
 -- a beacon falls due in a call: a done tick whose report says so
@@ -28,13 +27,13 @@ SafeTicks s (c ∷ cs) =
     (T (doneTick s c) → isSafe (called s c .result .state .watch .mode) ≡ true)
     × SafeTicks (called s c .result .state) cs
 
--- done ticks without a beacon are fewer than these
+-- done ticks without a beacon are fewer than these: a promise in seconds, whatever the rules call them
 abbrev pub fiveMinutes : ℕ
-fiveMinutes = basicTicks
+fiveMinutes = 300
 
 -- and in SAFE than these
 abbrev pub oneMinute : ℕ
-oneMinute = completeTicks
+oneMinute = 60
 
 -- whatever is sent between the ticks
 pub record NeverSilent : Type 0 where

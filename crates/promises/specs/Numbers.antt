@@ -16,7 +16,6 @@ use Rattle.frames.specs.declared.serial.Class.{Class}
 use Rattle.frames.specs.declared.serial.Class.the-variants.{Repeat, Fresh, Stale}
 use Rattle.supervisor.specs.State.{withMode, withControl, withTension, withSerials}
 use Rattle.supervisor.specs.Fresh.{freshState}
-use Rattle.supervisor.specs.Range.{judgeTicks}
 use Rattle.supervisor.specs.History.{Call, called, answered}
 use Rattle.supervisor.specs.declared.state.Mode.{Mode}
 use Rattle.supervisor.specs.declared.state.Mode.the-variants.{Recovery, Safe}
@@ -45,7 +44,7 @@ lastAt last = withSerials (record { ground = last; payload = 0 }) freshState
 
 -- one that the next tick judges, fresh but for its mode and tension
 abbrev judgedNext : Mode → ℕ → State
-judgedNext mode tension = withControl (judgeTicks - 1) (withMode mode (withTension tension freshState))
+judgedNext mode tension = withControl 29 (withMode mode (withTension tension freshState))
 
 -- a call with these bytes
 abbrev send : List ℕ → Call

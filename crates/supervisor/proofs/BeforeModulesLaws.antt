@@ -3,7 +3,11 @@
 use Prim.Native.Nat.{ℕ, _<_}
 use mathlib.Core.Path.{_≡_, refl, ap}
 use mathlib.Core.Bool.{true, false}
+use lib.Dec.{T, lit<}
 use Rattle.modules.specs.Groups.{moduleCount, coreFour, missionFour}
+use Rattle.modules.specs.Stage.{modulesInRange}
+use Rattle.modules.proofs.StageLaws.{requested-in-range}
+use Rattle.supervisor.specs.Range.{judgeTicks}
 use Rattle.supervisor.specs.State.{isDeployWait, moduleAt, withControl}
 use Rattle.supervisor.specs.Control.{controlled}
 use Rattle.supervisor.specs.Tick.{beforeModules}
@@ -43,6 +47,36 @@ module _ (s : State) where
   pub before-flies : isDeployWait (s .watch .mode) ≡ false → isDeployWait (beforeModules s .watch .mode) ≡ false
   unfolding beforeModules
   before-flies e = flies-by e (controls s)
+
+  battery-by : Controls s → controlled s .battery ≡ s .battery
+  battery-by (level count low none w) = rw w
+  battery-by (upward j e t w) = rw w
+  battery-by (downward j e t w) = rw w
+
+  -- the battery
+  pub before-battery : beforeModules s .battery ≡ s .battery
+  unfolding beforeModules
+  before-battery = battery-by (controls s)
+
+  control-by : s .watch .control < judgeTicks → Controls s → controlled s .watch .control < judgeTicks
+  control-by h (level count low none w) = rw w (low h)
+  control-by h (upward j e t w) = rw w (lit< tt)
+  control-by h (downward j e t w) = rw w (lit< tt)
+
+  -- the control count stays low
+  pub before-control : s .watch .control < judgeTicks → beforeModules s .watch .control < judgeTicks
+  unfolding beforeModules
+  before-control h = control-by h (controls s)
+
+  modules-by : T (modulesInRange (s .modules)) → Controls s → T (modulesInRange (controlled s .modules))
+  modules-by h (level count low none w) = rw w h
+  modules-by h (upward j e t w) = rw w (requested-in-range coreFour true (s .modules) h)
+  modules-by h (downward j e t w) = rw w (requested-in-range missionFour false (s .modules) h)
+
+  -- the modules stay in range
+  pub before-modules-in-range : T (modulesInRange (s .modules)) → T (modulesInRange (beforeModules s .modules))
+  unfolding beforeModules
+  before-modules-in-range h = modules-by h (controls s)
 
   module _ (eight : Eight s) where
     eight-by : Controls s → Eight (controlled s)

@@ -2,23 +2,21 @@
 -- Assumes nothing.
 use Prim.Native.Nat.{ℕ, _+_, _-_}
 use native.Mathlib.Omega.{arith}
-use mathlib.Core.Path.{_≡_, refl}
+use mathlib.Core.Path.{_≡_}
 use mathlib.Core.Bool.{Bool, true, false, _||_, true≢false}
-use lib.Dec.{T, eqb, lit<, ltb→lt, lt→ltb}
+use lib.Dec.{T, eqb, ltb→lt, lt→ltb}
 use borrow.Author.Tests.{eqb-false}
 use Rattle.basics.proofs.ChoiceLaws.{and-left, and-right, and-both, or-right, within-high, within-of, decided}
-use Rattle.modules.specs.Groups.{coreFour, missionFour}
 use Rattle.modules.specs.Stage.{modulesInRange}
-use Rattle.modules.proofs.StageLaws.{stage-in-range, requested-in-range, asked-in-range}
+use Rattle.modules.proofs.StageLaws.{stage-in-range, asked-in-range}
 use Rattle.frames.specs.Reading.{isReading, areThresholds}
 use Rattle.frames.specs.About.{about, isTick}
 use Rattle.frames.specs.declared.frame.Frame.{Frame}
 use Rattle.frames.specs.declared.reading.Reading.the-variants.{Accepted}
 use Rattle.frames.proofs.ReadingLaws.{Fits}
-use Rattle.supervisor.specs.State.{isDeployWait, withControl}
+use Rattle.supervisor.specs.State.{isDeployWait}
 use Rattle.supervisor.specs.Range.{inRange, watchInRange, phaseInRange, batteryInRange, waitSeconds, settleSeconds}
 use Rattle.supervisor.specs.Deploy.{phaseTicked}
-use Rattle.supervisor.specs.Control.{controlled, crossedTo}
 use Rattle.supervisor.specs.Due.{beaconStage}
 use Rattle.supervisor.specs.Tick.{allowedIn, beforeModules, moduleStage, ticked}
 use Rattle.supervisor.specs.Command.{requestSet}
@@ -26,12 +24,12 @@ use Rattle.supervisor.specs.Act.{actOf}
 use Rattle.supervisor.specs.declared.state.Phase.{Phase}
 use Rattle.supervisor.specs.declared.state.Phase.the-variants.{Waiting, Settling}
 use Rattle.supervisor.specs.declared.state.Mode.{Mode}
-use Rattle.supervisor.specs.declared.state.Mode.the-variants.{DeployWait, Recovery, Safe}
+use Rattle.supervisor.specs.declared.state.Mode.the-variants.{DeployWait}
 use Rattle.supervisor.specs.declared.state.Battery.{Battery}
 use Rattle.supervisor.specs.declared.state.State.{State}
 use Rattle.supervisor.proofs.RangeLaws.{Valid, parts, whole, phase-in-range, counts-zero, phase-watch, Low, low-tested, counts-watch}
 use Rattle.supervisor.proofs.RangeLaws.{counts-of}
-use Rattle.supervisor.proofs.ControlLaws.{Controls, level, upward, downward, controls}
+use Rattle.supervisor.proofs.BeforeModulesLaws.{before-flies, before-control, before-beacon, before-battery, before-modules-in-range}
 use Rattle.supervisor.proofs.DueLaws.{count-low}
 use Rattle.supervisor.proofs.TickLaws.{Ticks, waits, runs, ticks}
 use Rattle.supervisor.proofs.ActLaws.{Still, act-still}
@@ -46,25 +44,15 @@ Running s =
       modules : T (modulesInRange (s .modules));
     }
 
--- control
-crossed-running : (m : Mode) (mask : ℕ) (on : Bool) (s : State) → isDeployWait m ≡ false → Running s → Running (crossedTo m mask on (withControl 0 s))
-crossed-running m mask on s e v =
-    record {
-      flies = e;
-      low = record { control = lit< tt; beacon = v .low .beacon };
-      battery = v .battery;
-      modules = requested-in-range mask on (s .modules) (v .modules);
-    }
-
-controlled-running : (s : State) → Running s → Controls s → Running (controlled s)
-controlled-running s v (level count low none w) =
-    rw w (record { flies = v .flies; low = record { control = low (v .low .control); beacon = v .low .beacon }; battery = v .battery; modules = v .modules })
-controlled-running s v (upward j e t w) = rw w (crossed-running Safe coreFour true s refl v)
-controlled-running s v (downward j e t w) = rw w (crossed-running Recovery missionFour false s refl v)
-
+-- what the module stage finds
 before-running : (s : State) → Running s → Running (beforeModules s)
-unfolding beforeModules
-before-running s v = controlled-running s v (controls s)
+before-running s v =
+    record {
+      flies = before-flies s (v .flies);
+      low = record { control = before-control s (v .low .control); beacon = rw (before-beacon s) (v .low .beacon) };
+      battery = rw (before-battery s) (v .battery);
+      modules = before-modules-in-range s (v .modules);
+    }
 
 -- modules
 stage-running : (shorts : ℕ) (s : State) → Running s → Running (moduleStage shorts s)
