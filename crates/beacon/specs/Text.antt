@@ -2,17 +2,13 @@
 -- Assumes nothing.
 use Prim.Native.Nat.{ℕ, _+_, _/_, _%_}
 use mathlib.Core.List.{List, [], _∷_, _++_}
-use Rattle.basics.specs.Bytes.{twoHex}
+use Rattle.basics.specs.Bytes.{twoHex, space}
 use Rattle.modules.specs.Masks.{masksOf}
 use Rattle.supervisor.specs.declared.state.Mode.{Mode}
 use Rattle.supervisor.specs.declared.state.Mode.the-variants.{DeployWait, Recovery, Safe}
 use Rattle.supervisor.specs.declared.state.State.{State}
 use Rattle.beacon.specs.declared.text.Form.{Form}
 use Rattle.beacon.specs.declared.text.Form.the-variants.{Basic, Complete}
-
--- what stands between two words
-abbrev space : ℕ
-space = 32
 
 -- `EMS `
 abbrev pub callSign : List ℕ

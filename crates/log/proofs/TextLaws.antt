@@ -1,19 +1,20 @@
 -- Laws of text: how many digits a number has, and texts stored one after the other.
 -- Assumes nothing.
 use Prim.Native.Nat.{ℕ, zero, suc, _+_, _-_, _/_, _^_, _<_, _≤_}
-use mathlib.Core.Path.{_≡_, refl, ap, sym, _∙_}
-use mathlib.Core.List.{List, [], _∷_, _++_, append-assoc, append-nil}
 use native.Mathlib.Nat.{le-refl, pow-suc, not-suc-le-zero, le-div-iff-mul-le, div-lt-iff-lt-mul}
 use native.Mathlib.Numerals.{add-one}
 use native.Mathlib.Omega.{arith}
-use borrow.Author.Tests.{ltb-true, ltb-false}
+use mathlib.Core.Path.{_≡_, refl, ap, sym, _∙_}
+use mathlib.Core.List.{List, [], _∷_, _++_, append-assoc, append-nil}
 use lib.Dec.{ltb}
 use lib.ListN.{length, set, take, drop, length-append, length-drop}
 use lib.Seq.{sets-eq, length-sets, take-length, take-all, drop-length, drop-drop}
-use Rattle.io.specs.Digits.{digits, Fewest}
+use borrow.Author.Tests.{ltb-true, ltb-false}
+use Rattle.basics.specs.Bytes.{space}
 use Rattle.basics.proofs.ChoiceLaws.{either, decided}
 use Rattle.basics.proofs.Stores.{sets-append}
-use Rattle.log.specs.Text.{mostDigits, digitCountUpTo, decimal, hex, spaced, space, Put}
+use Rattle.log.specs.Text.{mostDigits, digitCountUpTo, decimal, hex, spaced, Put}
+use Rattle.io.specs.Digits.{digits, Fewest}
 
 length-digits : (b k n : ℕ) → length (digits b k n) ≡ k
 length-digits b zero n = refl

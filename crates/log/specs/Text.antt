@@ -6,7 +6,7 @@ use mathlib.Core.List.{List, _∷_}
 use lib.Dec.{ltb}
 use lib.ListN.{length}
 use lib.Seq.{sets}
-use Rattle.basics.specs.Bytes.{twoHex}
+use Rattle.basics.specs.Bytes.{twoHex, space}
 use Rattle.basics.specs.Choice.{if_then_else_}
 use Rattle.io.specs.Digits.{digits}
 
@@ -26,10 +26,6 @@ decimal n = digits 10 (digitCountUpTo 19 n) n
 -- a byte as two upper-case hex digits
 unfoldable pub hex : ℕ → List ℕ
 hex byte = twoHex byte
-
--- what stands between two columns
-abbrev pub space : ℕ
-space = 32
 
 -- a space before a text
 unfoldable pub spaced : List ℕ → List ℕ

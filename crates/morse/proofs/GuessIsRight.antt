@@ -1,21 +1,22 @@
 -- The guess at the units of a text that may be keyed is the text.
 -- Assumes nothing.
-use mathlib.Core.Path.{_≡_, refl, sym, ap, _∙_}
-use mathlib.Core.Bool.{Bool, true, false, not, _&&_, _||_, true≢false}
-use mathlib.Core.List.{List, [], _∷_, _++_}
 use Prim.Native.Nat.{ℕ, _+_, _-_}
 use native.Mathlib.Numerals.{sub-one}
 use native.Mathlib.Omega.{arith}
+use mathlib.Core.Path.{_≡_, refl, sym, ap, _∙_}
+use mathlib.Core.Bool.{Bool, true, false, not, _&&_, _||_, true≢false}
+use mathlib.Core.List.{List, [], _∷_, _++_}
 use lib.Dec.{T, eqb, eqb→eq}
 use lib.ListN.{length, getD}
 use borrow.Author.Tests.{eqb-true}
 use Rattle.basics.specs.Choice.{if_then_else_}
+use Rattle.basics.specs.Bytes.{space}
 use Rattle.basics.proofs.ChoiceLaws.{holds, and-left, and-right, and-both}
-use Rattle.morse.specs.declared.texts.Fault.the-variants.{Nothing}
 use Rattle.morse.specs.Signs.{Mark, dot, dash, signs, signOf, signed}
-use Rattle.morse.specs.Texts.{space, isSpace, allKnown, doubled, faultOf}
+use Rattle.morse.specs.Texts.{isSpace, allKnown, doubled, faultOf}
 use Rattle.morse.specs.Units.{signUnits, unitsAfter, unitsOf, betweenSigns, betweenWords}
 use Rattle.morse.specs.Guessing.{begun, longer, climb, byteOf, ear, hear, guessOf}
+use Rattle.morse.specs.declared.texts.Fault.the-variants.{Nothing}
 use Rattle.morse.proofs.Everywhere.{everywhere}
 use Rattle.morse.proofs.TextsLaws.{fair}
 

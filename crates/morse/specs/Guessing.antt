@@ -6,10 +6,10 @@ use mathlib.Core.List.{List, [], _∷_, _++_}
 use lib.Dec.{eqb, ltb}
 use lib.ListN.{getD}
 use Rattle.basics.specs.Choice.{if_then_else_}
-use Rattle.morse.specs.declared.guessing.Ear.{Ear}
+use Rattle.basics.specs.Bytes.{space}
 use Rattle.morse.specs.Signs.{Mark, dot, dash, signs, signed}
-use Rattle.morse.specs.Texts.{space}
 use Rattle.morse.specs.Units.{betweenSigns, betweenWords}
+use Rattle.morse.specs.declared.guessing.Ear.{Ear}
 
 -- the node after a mark is begun, as a dot; it stays a byte
 abbrev pub begun : ℕ → ℕ

@@ -6,19 +6,16 @@ use mathlib.Core.List.{List, [], _∷_}
 use lib.Dec.{eqb, ltb}
 use lib.ListN.{length, getD}
 use Rattle.basics.specs.Choice.{if_then_else_}
+use Rattle.basics.specs.Bytes.{space}
+use Rattle.morse.specs.Answers.{done, textTooLong, notKeyable, badSpace}
+use Rattle.morse.specs.Signs.{signOf, signed}
 use Rattle.morse.specs.declared.texts.Fault.{Fault}
 use Rattle.morse.specs.declared.texts.Fault.the-variants.{Nothing, TextTooLong, NotKeyable, BadSpace}
 use Rattle.morse.specs.declared.texts.Seen.{Seen}
-use Rattle.morse.specs.Answers.{done, textTooLong, notKeyable, badSpace}
-use Rattle.morse.specs.Signs.{signOf, signed}
 
 -- the most bytes
 abbrev pub longest : ℕ
 longest = 64
-
--- what stands between two words
-abbrev pub space : ℕ
-space = 32
 
 -- whether a byte is a space
 abbrev pub isSpace : ℕ → Bool
