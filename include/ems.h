@@ -22,6 +22,16 @@
 #include <stddef.h>
 #include <stdint.h>
 
+/* A length crosses as 64 bits, and `*count` comes back as 64. With a narrower
+ * size_t the call would read bits that nobody passed, and write past `*count`. */
+#if defined(__cplusplus) && __cplusplus >= 201103L
+static_assert(sizeof(size_t) == 8, "ems.h: lengths cross as 64 bits");
+#elif defined(__STDC_VERSION__) && __STDC_VERSION__ >= 201112L
+_Static_assert(sizeof(size_t) == 8, "ems.h: lengths cross as 64 bits");
+#else
+typedef char ems_lengths_cross_as_64_bits[sizeof(size_t) == 8 ? 1 : -1];
+#endif
+
 #ifdef __cplusplus
 extern "C" {
 #endif

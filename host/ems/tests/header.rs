@@ -85,3 +85,35 @@ fn a_c_program_flies() {
 fn a_cpp_program_flies() {
     assert_eq!(print_of("c++", &["-std=c++11", "-x", "c++"]), PRINT);
 }
+
+/// Whether a compiler takes the header by itself, and what it says of it.
+/// Freestanding: a compiler for 64 bits has no other headers for 32 than its own.
+fn taken(compiler: &str, language: &str, standard: &str, width: &str) -> (bool, String) {
+    let header = Path::new(env!("CARGO_MANIFEST_DIR")).join("../../include/ems.h");
+    let checked = Command::new(compiler)
+        .args(["-x", language, standard, width, "-pedantic", "-Wall"])
+        .args(["-Wextra", "-Werror", "-ffreestanding", "-fsyntax-only"])
+        .arg(header)
+        .output()
+        .expect("it runs");
+    let said = String::from_utf8_lossy(&checked.stderr).into_owned();
+    (checked.status.success(), said)
+}
+
+#[test]
+fn a_size_t_of_4_bytes_is_refused() {
+    for (compiler, language, standard) in [
+        ("cc", "c", "-std=c99"),
+        ("cc", "c", "-std=c11"),
+        ("cc", "c", "-std=c17"),
+        ("c++", "c++", "-std=c++98"),
+        ("c++", "c++", "-std=c++11"),
+        ("c++", "c++", "-std=c++17"),
+    ] {
+        let of_8 = taken(compiler, language, standard, "-m64");
+        assert_eq!(of_8, (true, String::new()), "{standard}");
+        let (fine, said) = taken(compiler, language, standard, "-m32");
+        let why = said.replace('_', " ");
+        assert!(!fine && why.contains("lengths cross as 64 bits"), "{said}");
+    }
+}
