@@ -1,18 +1,20 @@
-# What ./ems, ./step-log and host/test share: is a file stale, and a build that keeps its lines to itself.
-# To be sourced; $me is who speaks.
+# What ./ems, ./step-log, host/test and host/bench share: is a file stale, a build that keeps its lines to itself, and
+# what to do where something is missing. To be sourced; $me is who speaks.
 
 checkout=$(dirname "$(dirname "$(readlink -f "${BASH_SOURCE[0]}")")")
 
 # Where a build's own lines go.
 build_log=$checkout/target/$me-build.log
 
-# What builds the tool, and the Debian package it comes in.
+# What builds the tool, and the Debian package it comes in. Cargo looks for what any crate in host needs, whichever
+# it builds.
 registry=/usr/share/cargo/registry
 tool_needs=(
     "cc gcc"
     "$registry/clap-4.* librust-clap-dev"
     "$registry/clap_derive-4.* librust-clap-derive-dev"
     "$registry/indicatif-0.17.* librust-indicatif-dev"
+    "$registry/quickcheck-1* librust-quickcheck-dev"
 )
 
 say() {
@@ -30,6 +32,40 @@ missing() {
     for need in "$@"; do
         there "${need%% *}" || echo "${need##* }"
     done
+}
+
+# Installs what isn't there of those needs, where that can be done.
+install_missing() {
+    local packages
+    mapfile -t packages < <(missing "$@")
+    if [ ${#packages[@]} -gt 0 ] && there apt-get && [ "$(id -u)" = 0 ]; then
+        { apt-get update && apt-get install -y "${packages[@]}"; } >&2 || true
+    fi
+}
+
+# The end, where something is missing: a failure in the gate, and none elsewhere.
+without() {
+    say "not run, $1"
+    [ "${CI:-}" != true ] || exit 1
+    exit 0
+}
+
+# Goes on if Cargo and all of those needs are there.
+require() {
+    local package
+    there cargo || without "cargo isn't there: it comes with Rust"
+    for package in $(missing "$@"); do
+        without "Debian's $package isn't there"
+    done
+}
+
+# Goes on with the proved library, built again where a source is newer.
+require_library() {
+    local library=$checkout/target/staticlib/libflight.a
+    if [ -z "${EMS_LIB_DIR:-}" ] && stale "$library" "$checkout"/{crates,crates.txt}; then
+        there rt || without "rt isn't there, and $library is missing or old"
+        (cd "$checkout" && rt staticlib flight)
+    fi
 }
 
 # Whether a file is missing, or older than a file among and under those named after it.
