@@ -1,19 +1,81 @@
 //! Building the drivers, running them, and asking binutils.
 
+use crate::streams::Stream;
 use std::path::{Path, PathBuf};
 use std::process::Command;
+use std::{env, fs};
 
 /// Errors are told to whoever runs the bench.
 pub type Result<T> = std::result::Result<T, Box<dyn std::error::Error>>;
 
-/// The C drivers.
-pub struct Built {
-    /// Over the library.
-    pub library: PathBuf,
-    /// Over the C version.
-    pub c: PathBuf,
-    /// The C version's objects.
-    pub c_objects: Vec<PathBuf>,
+/// Where the bench's files stand.
+pub struct Bench {
+    /// `drive.c`, the C version and the budget.
+    pub package: PathBuf,
+    /// The library.
+    pub archive: PathBuf,
+    /// What is built, and the streams.
+    folder: PathBuf,
+}
+
+impl Bench {
+    /// The bench of this package, over the library in `EMS_LIB_DIR`.
+    pub fn new() -> Result<Bench> {
+        let package = PathBuf::from(env!("CARGO_MANIFEST_DIR"));
+        let archive = PathBuf::from(env::var("EMS_LIB_DIR")?).join("libflight.a");
+        let folder = package.join("../target/bench");
+        fs::create_dir_all(&folder)?;
+        Ok(Bench {
+            package,
+            archive,
+            folder,
+        })
+    }
+
+    /// Compiles the driver over the library.
+    pub fn library_driver(&self) -> Result<PathBuf> {
+        let driver = self.folder.join("drive-library");
+        let mut gcc = gcc();
+        gcc.arg(self.package.join("drive.c")).arg(&self.archive);
+        print_of(gcc.arg("-o").arg(&driver))?;
+        Ok(driver)
+    }
+
+    /// Compiles the C version: its objects.
+    pub fn c_objects(&self) -> Result<Vec<PathBuf>> {
+        let object = |name| {
+            let object = self.folder.join(format!("{name}.o"));
+            let source = self.package.join(format!("peer/{name}.c"));
+            let mut gcc = gcc();
+            gcc.args(["-fstack-usage", "-c"]).arg(source);
+            print_of(gcc.arg("-o").arg(&object))?;
+            Ok(object)
+        };
+        ["ems", "morse"].into_iter().map(object).collect()
+    }
+
+    /// Compiles the driver over the C version's objects.
+    pub fn c_driver(&self, objects: &[PathBuf]) -> Result<PathBuf> {
+        let driver = self.folder.join("drive-c");
+        let mut gcc = gcc();
+        gcc.arg("-DPEER").arg(self.package.join("drive.c"));
+        print_of(gcc.args(objects).arg("-o").arg(&driver))?;
+        Ok(driver)
+    }
+
+    /// Writes a stream for the C drivers: the file.
+    pub fn stream_file(&self, place: usize, stream: &Stream) -> Result<String> {
+        let file = self.folder.join(format!("{place}.stream"));
+        fs::write(&file, stream.file())?;
+        Ok(file.to_string_lossy().into_owned())
+    }
+}
+
+/// The compiler of all that is C here.
+fn gcc() -> Command {
+    let mut gcc = Command::new("gcc");
+    gcc.args(["-std=c11", "-O2", "-Wall", "-Wextra"]);
+    gcc
 }
 
 /// Runs a command; what it prints on both outputs, or the failure.
@@ -24,46 +86,6 @@ fn print_of(command: &mut Command) -> Result<(String, String)> {
         return Err(format!("{command:?}: {}", text(&output.stderr)).into());
     }
     Ok((text(&output.stdout), text(&output.stderr)))
-}
-
-/// Compiles the C version and both drivers.
-pub fn build(package: &Path, folder: &Path, library: &Path) -> Result<Built> {
-    let gcc = || {
-        let mut gcc = Command::new("gcc");
-        gcc.args(["-std=c11", "-O2", "-Wall", "-Wextra"]);
-        gcc
-    };
-    let mut c_objects = Vec::new();
-    for name in ["ems", "morse"] {
-        let object = folder.join(format!("{name}.o"));
-        let source = package.join(format!("peer/{name}.c"));
-        print_of(
-            gcc()
-                .args(["-fstack-usage", "-c"])
-                .arg(source)
-                .arg("-o")
-                .arg(&object),
-        )?;
-        c_objects.push(object);
-    }
-    let drive = package.join("drive.c");
-    let c = folder.join("drive-c");
-    print_of(
-        gcc()
-            .arg("-DPEER")
-            .arg(&drive)
-            .args(&c_objects)
-            .arg("-o")
-            .arg(&c),
-    )?;
-    let own = folder.join("drive-library");
-    let archive = library.join("libflight.a");
-    print_of(gcc().arg(&drive).arg(archive).arg("-o").arg(&own))?;
-    Ok(Built {
-        library: own,
-        c,
-        c_objects,
-    })
 }
 
 /// A driver with the stream it drives.
@@ -93,6 +115,14 @@ impl Program {
         Ok(number.parse()?)
     }
 
+    /// The instructions of one call of the stream: those of some calls and a
+    /// tenth more, less those of the tenth, so that starting up is in no number.
+    pub fn instructions_a_call(&self, stream: &Stream) -> Result<f64> {
+        let (calls, tenth) = (stream.counted, stream.counted / 10);
+        let all = self.instructions(calls + tenth)?;
+        Ok((all - self.instructions(tenth)?) / calls as f64)
+    }
+
     /// The nanoseconds of the best of five runs, and the sum that they give.
     pub fn best_of_five(&self, calls: u64) -> Result<(f64, u64)> {
         let mut best = (f64::INFINITY, 0);
@@ -104,6 +134,12 @@ impl Program {
         }
         Ok(best)
     }
+}
+
+/// Today, as a page has it.
+pub fn today() -> Result<String> {
+    let (date, _) = print_of(Command::new("date").arg("+%F"))?;
+    Ok(date.trim().to_string())
 }
 
 /// The text bytes of objects and archives, as `size` has them.
@@ -126,7 +162,7 @@ pub fn disassembly(program: &Path) -> Result<String> {
 pub fn stack_usage(objects: &[PathBuf]) -> Result<Vec<(String, String)>> {
     let mut found = Vec::new();
     for object in objects {
-        for line in std::fs::read_to_string(object.with_extension("su"))?.lines() {
+        for line in fs::read_to_string(object.with_extension("su"))?.lines() {
             let mut columns = line.split('\t');
             let place = columns.next().unwrap_or_default();
             let name = place.rsplit(':').next().unwrap_or_default().to_string();

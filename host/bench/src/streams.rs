@@ -14,6 +14,9 @@ pub struct Stream {
     pub image: [u8; image::BYTES],
     /// The inputs, one a call, over and over.
     pub inputs: Vec<Vec<u8>>,
+    /// How many calls are counted: where they aren't all the same, so many that
+    /// inputs and the state's counts go round a few times.
+    pub counted: u64,
 }
 
 impl Stream {
@@ -61,6 +64,7 @@ pub fn streams() -> Vec<Stream> {
             call,
             image,
             inputs,
+            counted: 10_000,
         }
     };
     let quiet = || vec![vec![TICK, 0x00]];
@@ -71,6 +75,7 @@ pub fn streams() -> Vec<Stream> {
         call,
         image: board(Mode::Safe),
         inputs: vec![input],
+        counted: 1_000,
     };
     // 1,024 serials, 64 apart: each is fresh, also where they go round.
     let order = |i: u16| {

@@ -1,0 +1,143 @@
+//! The tables of `docs/PERFORMANCE.md`: the library, the C version and the
+//! model, measured in one run.
+
+use crate::library::CALLS;
+use crate::measure::{self, Bench, Program, Result};
+use crate::stack::{self, Depths};
+use crate::streams::{streams, Stream};
+use std::{env, path::Path, path::PathBuf};
+
+/// Lines that are printed as they are found, and kept for the page.
+#[derive(Default)]
+struct Lines(String);
+
+impl Lines {
+    fn push(&mut self, line: impl AsRef<str>) {
+        println!("{}", line.as_ref());
+        self.0 += line.as_ref();
+        self.0 += "\n";
+    }
+}
+
+/// Measures everything: what the page has of it.
+pub fn measured(bench: &Bench) -> Result<String> {
+    let library = bench.library_driver()?;
+    let c_objects = bench.c_objects()?;
+    let c = bench.c_driver(&c_objects)?;
+    let mut lines = Lines::default();
+    lines.push(format!("Measured on {}.", measure::today()?));
+    lines.push("");
+    calls(bench, &library, &c, &mut lines)?;
+    lines.push("");
+    growth(bench, &library, &mut lines)?;
+    lines.push("");
+    sizes(bench, &library, &c, &c_objects, &mut lines)?;
+    Ok(lines.0)
+}
+
+/// The cost of a call, stream by stream.
+fn calls(bench: &Bench, library: &Path, c: &Path, lines: &mut Lines) -> Result<()> {
+    lines.push(
+        "| call | instructions: library | C | model | library / C | ns: library | C | model |",
+    );
+    lines.push("|---|---:|---:|---:|---:|---:|---:|---:|");
+    let own = env::current_exe()?;
+    for (place, stream) in streams().iter().enumerate() {
+        let file = bench.stream_file(place, stream)?;
+        let programs = [
+            Program::new(library, file.clone()),
+            Program::new(c, file),
+            Program::new(&own, place.to_string()),
+        ];
+        lines.push(row(stream, &programs)?);
+    }
+    Ok(())
+}
+
+/// The stream's row, once all sides agree on what they have done.
+fn row(stream: &Stream, programs: &[Program; 3]) -> Result<String> {
+    let timed = if stream.call == b's' {
+        1_000_000
+    } else {
+        20_000
+    };
+    let mut counts = Vec::new();
+    let mut times = Vec::new();
+    let mut sums = Vec::new();
+    for program in programs {
+        counts.push(program.instructions_a_call(stream)?);
+        let (nanoseconds, sum) = program.best_of_five(timed)?;
+        times.push(nanoseconds / timed as f64);
+        sums.push(sum);
+    }
+    if sums.iter().any(|sum| *sum != sums[0]) {
+        return Err(format!("{}: the sides differ, {sums:?}", stream.name).into());
+    }
+    let [library, c, model] = counts[..] else {
+        return Err("not three programs".into());
+    };
+    Ok(format!(
+        "| {} | {library:.0} | {c:.0} | {model:.0} | {:.2} | {:.1} | {:.1} | {:.1} |",
+        stream.name,
+        library / c,
+        times[0],
+        times[1],
+        times[2]
+    ))
+}
+
+/// Ten times the frames, on the library.
+fn growth(bench: &Bench, library: &Path, lines: &mut Lines) -> Result<()> {
+    lines.push("| call | instructions of 100,000 over those of 10,000 |");
+    lines.push("|---|---:|");
+    for (place, stream) in streams().iter().enumerate() {
+        if stream.call != b's' {
+            continue;
+        }
+        let program = Program::new(library, bench.stream_file(place, stream)?);
+        let base = program.instructions(1_000)?;
+        let ten = program.instructions(11_000)? - base;
+        let hundred = program.instructions(101_000)? - base;
+        lines.push(format!("| {} | {:.3} |", stream.name, hundred / ten));
+        if !(9.9..=10.1).contains(&(hundred / ten)) {
+            return Err(format!("{}: not ten times the cost", stream.name).into());
+        }
+    }
+    Ok(())
+}
+
+/// Bytes of code and of stack. The C version has no beacon.
+fn sizes(
+    bench: &Bench,
+    library: &Path,
+    c: &Path,
+    c_objects: &[PathBuf],
+    lines: &mut Lines,
+) -> Result<()> {
+    lines.push("| bytes | library | C |");
+    lines.push("|---|---:|---:|");
+    let archive = measure::code_bytes(std::slice::from_ref(&bench.archive))?;
+    let objects = measure::code_bytes(c_objects)?;
+    lines.push(format!(
+        "| code and constants (`size`: text) | {archive} | {objects} |"
+    ));
+    let ours = stack::depths(&measure::disassembly(library)?);
+    let theirs = stack::depths(&measure::disassembly(c)?);
+    for call in CALLS {
+        let of =
+            |depths: &Depths, name: &str| depths.get(name).map_or(String::new(), u64::to_string);
+        let (own, peer) = (
+            of(&ours, &format!("ems_{call}")),
+            of(&theirs, &format!("peer_{call}")),
+        );
+        lines.push(format!(
+            "| stack of `{call}`, callees included (disassembly) | {own} | {peer} |"
+        ));
+    }
+    for (function, bytes) in measure::stack_usage(c_objects)? {
+        lines.push(format!(
+            "| stack by `gcc -fstack-usage`: `{function}` | | {bytes} |"
+        ));
+    }
+    Ok(())
+}
