@@ -5,15 +5,8 @@ use crate::measure::{self, Bench, Program, Result};
 use crate::stack;
 use crate::streams::streams;
 
-/// The calls that it exports, after `ems_`.
-pub const CALLS: [&str; 6] = [
-    "fresh",
-    "step",
-    "beacon_basic",
-    "beacon_complete",
-    "key",
-    "read",
-];
+/// How the names of its calls begin, and no other function's.
+pub const EXPORTED: &str = "ems_";
 
 /// What it costs: instructions a call, bytes of code, bytes of stack.
 pub fn costs(bench: &Bench) -> Result<Vec<Row>> {
@@ -27,12 +20,10 @@ pub fn costs(bench: &Bench) -> Result<Vec<Row>> {
     }
     let code = measure::code_bytes(std::slice::from_ref(&bench.archive))?;
     row("code and constants".into(), code);
-    let depths = stack::depths(&measure::disassembly(&driver)?);
-    for call in CALLS.map(|call| format!("ems_{call}")) {
-        let depth = depths
-            .get(&call)
-            .ok_or(format!("no {call} in the library"))?;
-        row(format!("stack of {call}"), *depth);
+    for (call, depth) in stack::depths(&measure::disassembly(&driver)?) {
+        if call.starts_with(EXPORTED) {
+            row(format!("stack of {call}"), depth);
+        }
     }
     Ok(rows)
 }

@@ -14,8 +14,8 @@ pub struct Stream {
     pub image: [u8; image::BYTES],
     /// The inputs, one a call, over and over.
     pub inputs: Vec<Vec<u8>>,
-    /// How many calls are counted: where they aren't all the same, so many that
-    /// inputs and the state's counts go round a few times.
+    /// How many calls are counted: so many that the inputs, and the state's own
+    /// counts, go round; fewer where a call is as the one before.
     pub counted: u64,
 }
 

@@ -1,11 +1,12 @@
 //! The tables of `docs/PERFORMANCE.md`: the library, the C version and the
 //! model, measured in one run.
 
-use crate::library::CALLS;
+use crate::library::EXPORTED;
 use crate::measure::{self, Bench, Program, Result};
-use crate::stack::{self, Depths};
+use crate::stack;
 use crate::streams::{streams, Stream};
-use std::{env, path::Path, path::PathBuf};
+use std::env;
+use std::path::{Path, PathBuf};
 
 /// Lines that are printed as they are found, and kept for the page.
 #[derive(Default)]
@@ -121,15 +122,13 @@ fn sizes(
     lines.push(format!(
         "| code and constants (`size`: text) | {archive} | {objects} |"
     ));
-    let ours = stack::depths(&measure::disassembly(library)?);
     let theirs = stack::depths(&measure::disassembly(c)?);
-    for call in CALLS {
-        let of =
-            |depths: &Depths, name: &str| depths.get(name).map_or(String::new(), u64::to_string);
-        let (own, peer) = (
-            of(&ours, &format!("ems_{call}")),
-            of(&theirs, &format!("peer_{call}")),
-        );
+    for (name, own) in stack::depths(&measure::disassembly(library)?) {
+        let Some(call) = name.strip_prefix(EXPORTED) else {
+            continue;
+        };
+        let peer = theirs.get(&format!("peer_{call}"));
+        let peer = peer.map_or("none".into(), u64::to_string);
         lines.push(format!(
             "| stack of `{call}`, callees included (disassembly) | {own} | {peer} |"
         ));
