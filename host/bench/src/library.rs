@@ -3,7 +3,7 @@
 use crate::budget::Row;
 use crate::measure::{self, Bench, Program, Result};
 use crate::stack;
-use crate::streams::streams;
+use crate::streams::{self, streams, Stream};
 
 /// How the names of its calls begin, and no other function's.
 pub const EXPORTED: &str = "ems_";
@@ -15,6 +15,7 @@ pub fn costs(bench: &Bench) -> Result<Vec<Row>> {
     let mut row = |name: String, amount| rows.push(Row { amount, name });
     for (place, stream) in streams().iter().enumerate() {
         let program = Program::new(&driver, bench.stream_file(place, stream)?);
+        agrees(&program, stream)?;
         let instructions = program.instructions_a_call(stream)?;
         row(stream.name.into(), instructions.round() as u64);
     }
@@ -26,4 +27,15 @@ pub fn costs(bench: &Bench) -> Result<Vec<Row>> {
         }
     }
     Ok(rows)
+}
+
+/// Whether it does on a stream what the model does: one that refused its image
+/// would be cheap.
+fn agrees(program: &Program, stream: &Stream) -> Result<()> {
+    let (_, given) = program.timed(stream.counted)?;
+    let (_, wanted) = streams::drive(stream, stream.counted);
+    match given == wanted {
+        true => Ok(()),
+        false => Err(format!("{}: library and model differ", stream.name).into()),
+    }
 }

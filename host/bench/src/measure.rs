@@ -123,14 +123,20 @@ impl Program {
         Ok((all - self.instructions(tenth)?) / calls as f64)
     }
 
+    /// The nanoseconds of a run with so many calls, and the sum that it gives.
+    pub fn timed(&self, calls: u64) -> Result<(f64, u64)> {
+        let mut run = Command::new(&self.path);
+        let (printed, _) = print_of(run.arg(&self.stream).arg(calls.to_string()))?;
+        let (nanoseconds, sum) = printed.trim().split_once(' ').ok_or("no numbers")?;
+        Ok((nanoseconds.parse()?, sum.parse()?))
+    }
+
     /// The nanoseconds of the best of five runs, and the sum that they give.
     pub fn best_of_five(&self, calls: u64) -> Result<(f64, u64)> {
         let mut best = (f64::INFINITY, 0);
         for _ in 0..5 {
-            let mut run = Command::new(&self.path);
-            let (printed, _) = print_of(run.arg(&self.stream).arg(calls.to_string()))?;
-            let (nanoseconds, sum) = printed.trim().split_once(' ').ok_or("no numbers")?;
-            best = (best.0.min(nanoseconds.parse()?), sum.parse()?);
+            let (nanoseconds, sum) = self.timed(calls)?;
+            best = (best.0.min(nanoseconds), sum);
         }
         Ok(best)
     }
