@@ -1,17 +1,20 @@
--- Laws of all eight modules: setting one module's request is one store; the stage and the requests keep the ranges of check 1.
+-- Laws of all eight modules: setting one module's request is one store; one module out of range is all out of range; the
+-- stage and the requests keep the ranges of check 1.
 -- Assumes nothing.
-use Prim.Native.Nat.{ℕ, suc, _≤_}
+use Prim.Native.Nat.{ℕ, zero, suc, _+_, _≤_, _<_}
 use mathlib.Core.Path.{_≡_, refl, sym, ap, _∙_}
-use mathlib.Core.Bool.{Bool}
+use mathlib.Core.Bool.{Bool, true, false, _&&_}
 use mathlib.Core.List.{List, [], _∷_}
+use native.Mathlib.Omega.{arith}
+use native.Mathlib.Nat.{le-of-suc-le-suc}
 use lib.Dec.{T}
 use lib.ListN.{length, getD, set}
-use lib.Seq.{set-out}
+use lib.Seq.{set-out, set-getD}
 use borrow.Author.Tests.{ne-eqb, eq-eqb}
 use Rattle.basics.specs.Choice.{bit}
 use Rattle.basics.specs.Each.{each, eachFrom}
 use Rattle.basics.proofs.ChoiceLaws.{and-left, and-right, and-both}
-use Rattle.basics.proofs.EachLaws.{each-one}
+use Rattle.basics.proofs.EachLaws.{each-one, worked, worked-turn}
 use Rattle.modules.specs.Power.{powerInRange, withRequest}
 use Rattle.modules.specs.Stage.{isWanted, moduleSecond, stageOf, moduleRequested, requestedBy, moduleAsked, requestedOne, modulesInRange}
 use Rattle.modules.proofs.PowerLaws.{switched-in-range}
@@ -32,6 +35,28 @@ module _ (which : ℕ) (on : Bool) where
   pub request-past : (ms : List Module) (d : Module) → length ms ≤ which → ms ≡ requestedOne which on ms
   unfolding requestedOne
   request-past ms d h = sym (set-out ms which _ h) ∙ each-one (moduleAsked which on) which ms d others
+
+-- a turn of setting requests by a mask: a module of the mask is stored with its request, another needs no store
+module _ (mask : ℕ) (on : Bool) (i : ℕ) (ms : List Module) (d : Module) where
+  abbrev before : List Module
+  before = worked (moduleRequested mask on) i ms
+
+  pub in-mask : bit i mask ≡ true → set before i (withRequest on (getD before i d)) ≡ worked (moduleRequested mask on) (i + 1) ms
+  in-mask here = rw here at (worked-turn (moduleRequested mask on) i ms d)
+
+  pub not-in-mask : bit i mask ≡ false → before ≡ worked (moduleRequested mask on) (i + 1) ms
+  not-in-mask out = sym (set-getD before i d) ∙ rw out at (worked-turn (moduleRequested mask on) i ms d)
+
+-- one module out of range
+and-false : (a : Bool) → a && false ≡ false
+and-false true = refl
+and-false false = refl
+
+pub one-out : (i : ℕ) (ms : List Module) (d : Module) → i < length ms → powerInRange (getD ms i d .power) ≡ false → modulesInRange ms ≡ false
+unfolding modulesInRange
+one-out i [] d h out = absurd (omega arith)
+one-out zero (m ∷ ms) d h out = rw out
+one-out (suc i) (m ∷ ms) d h out = rw (one-out i ms d (le-of-suc-le-suc h) out) (and-false (powerInRange (m .power)))
 
 -- a rule that keeps each module's tries and seconds in range keeps all
 module _ (f : ℕ → Module → Module) (keeps : (i : ℕ) (m : Module) → T (powerInRange (m .power)) → T (powerInRange (f i m .power))) where

@@ -1,6 +1,6 @@
 -- The masks of a report: bit i is module i.
 -- Assumes nothing.
-use Prim.Native.Nat.{ℕ, _+_, _*_, _<_}
+use Prim.Native.Nat.{ℕ, _+_, _*_}
 use mathlib.Core.Bool.{Bool, true, false}
 use mathlib.Core.List.{List, [], _∷_}
 use Rattle.modules.specs.Power.{isOn, isFailed}
@@ -25,16 +25,3 @@ masksOf modules =
       on = maskOf (λ m. isOn (m .power)) modules;
       failed = maskOf (λ m. isFailed (m .power)) modules;
     }
-
--- the masks with one module more, below the others
-unfoldable pub withModule : Module → Masks → Masks
-withModule m all =
-    record {
-      requested = below (m .requested) (all .requested);
-      on = below (isOn (m .power)) (all .on);
-      failed = below (isFailed (m .power)) (all .failed);
-    }
-
--- masks of seven bits at most
-abbrev pub Small : Masks → Type 0
-Small all = record { requested : all .requested < 128; on : all .on < 128; failed : all .failed < 128 }

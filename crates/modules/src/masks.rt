@@ -1,8 +1,8 @@
 // The three masks of a report, gathered from the eight modules.
 ghost use mathlib.Core.Path.{_≡_};
-ghost use Prim.Native.Nat.{_<_};
+ghost use Prim.Native.Nat.{_+_, _*_};
 ghost use Rattle.modules.specs.Power.{isOn, isFailed};
-ghost use Rattle.modules.specs.Masks.{below, masksOf, withModule, Small};
+ghost use Rattle.modules.specs.Masks.{below, masksOf};
 use crate::power::Module;
 use crate::power::Power;
 
@@ -13,48 +13,27 @@ pub struct Masks {
     pub failed: u8,
 }
 
-// Whether a module is powered.
-fn is_on(power: Power) -> bool
-    ensures { λ r. ⌜ r ≡ isOn power ⌝ }
+// While they are gathered the masks stand side by side in one number: requested lowest, on from here up.
+const ON: u32 = 256;
+
+// Failed from here up.
+const FAILED: u32 = 65536;
+
+// A module's bit among the requested.
+fn request_bit(requested: bool) -> u32
+    ensures { λ r. ⌜ r ≡ below requested 0 ⌝ }
+{
+    if requested { 1 } else { 0 }
+}
+
+// A module's bits among those on and those failed.
+fn power_bits(power: Power) -> u32
+    ensures { λ r. ⌜ r ≡ below (isOn power) 0 * 256 + below (isFailed power) 0 * 65536 ⌝ }
 {
     match power {
-        Power::On => true,
-        Power::Off(_) => false,
-        Power::Failed(_) => false,
-    }
-}
-
-// Whether it is given up.
-fn is_failed(power: Power) -> bool
-    ensures { λ r. ⌜ r ≡ isFailed power ⌝ }
-{
-    match power {
-        Power::On => false,
-        Power::Off(_) => false,
-        Power::Failed(_) => true,
-    }
-}
-
-// A mask with one bit more, below its others.
-fn push(mask: u8, set: bool) -> u8
-    requires { ⌜ mask < 128 ⌝ }
-    ensures { λ r. ⌜ r ≡ below set mask ⌝ }
-{
-    if set { 1 + 2 * mask } else { 2 * mask }
-}
-
-impl Masks {
-    // The masks with one module more, below the others.
-    fn with(self, m: Module) -> Masks
-        requires { ⌜ Small self ⌝ }
-        ensures { λ r. ⌜ r ≡ withModule m self ⌝ }
-    {
-        let power = m.power;
-        Masks {
-            requested: push(self.requested, m.requested),
-            on: push(self.on, is_on(power)),
-            failed: push(self.failed, is_failed(power)),
-        }
+        Power::On => ON,
+        Power::Off(_) => 0,
+        Power::Failed(_) => FAILED,
     }
 }
 
@@ -62,16 +41,17 @@ impl Masks {
 pub fn masks_of(modules: [Module; 8]) -> Masks
     ensures { λ r. ⌜ r ≡ masksOf modules ⌝ }
 {
-    let mut all = Masks {
-        requested: 0,
-        on: 0,
-        failed: 0,
-    };
+    let mut all: u32 = 0;
     let mut i: usize = 8;
     while 0 < i {
         i -= 1;
         let m = modules[i];
-        all = all.with(m);
+        let power = m.power;
+        all = 2 * all + power_bits(power) + request_bit(m.requested);
     }
-    all
+    Masks {
+        requested: (all % ON) as u8,
+        on: (all / ON % 256) as u8,
+        failed: (all / FAILED % 256) as u8,
+    }
 }

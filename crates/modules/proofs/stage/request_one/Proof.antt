@@ -11,11 +11,6 @@ use borrow.Author.Needs.{needs}
 use Rattle.modules.proofs.stage.request_one.Statement.{statement}
 use Rattle.modules.proofs.stage.request_one.Tie as tie
 
-returns : tie.Need-returns
-returns c =
-    let eight : length (c .before .args .modules) ≡ 8 = search (needs, length-mapped) in
-    request-past (c .before .args .which) (c .before .args .on) (c .before .args .modules) (record { power = On; requested = false }) (omega arith)
-
 mul-m : tie.Need-mul-m
 mul-m c = search needs
 
@@ -31,17 +26,22 @@ mul-next c = search needs
 array-set-from-next : tie.Need-array-set-from-next
 array-set-from-next c = search needs
 
+returns : tie.Need-returns
+returns c = simp (c .with-request .ensures) (request-stored (c .before .before .before .args .which) (c .before .before .before .args .on) (c .before .before .before .args .modules) _)
+
 returns-2 : tie.Need-returns-2
-returns-2 c = simp (c .with-request .ensures) (request-stored (c .before .before .before .args .which) (c .before .before .before .args .on) (c .before .before .before .args .modules) _)
+returns-2 c =
+    let eight : length (c .before .args .modules) ≡ 8 = search (needs, length-mapped) in
+    request-past (c .before .args .which) (c .before .args .on) (c .before .args .modules) (record { power = On; requested = false }) (omega arith)
 
 pub request-one-spec : {M : Type 1} → statement M
 request-one-spec =
     tie.close
     (tie.spec
-    returns
     mul-m
     array-copy-out-m
     with-request-requires
     mul-next
     array-set-from-next
+    returns
     returns-2)
