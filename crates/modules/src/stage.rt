@@ -56,12 +56,12 @@ pub fn request_one(modules: [Module; 8], which: u8, on: bool) -> [Module; 8]
     ensures { λ r. ⌜ r ≡ requestedOne which on modules ⌝ }
 {
     let i = which as usize;
-    let mut next = modules;
+    let mut asked = modules;
     if i < 8 {
-        let m = next[i];
-        next[i] = m.with_request(on);
+        let m = asked[i];
+        asked[i] = m.with_request(on);
     }
-    next
+    asked
 }
 
 // Whether every module's tries or seconds are in their range.

@@ -28,13 +28,14 @@ impl State {
     {
         let watch = self.watch;
         let mode = watch.mode;
-        if mode.is_ill_timed(which, on) {
-            return silent(Answer::NotNow, self);
-        }
         let modules = self.modules;
-        let asked = modules::stage::request_one(modules, which, on);
-        self = self.with_modules(asked);
-        silent(Answer::Done, self)
+        let mut asked = modules;
+        let mut answer = Answer::NotNow;
+        if !mode.is_ill_timed(which, on) {
+            asked = modules::stage::request_one(modules, which, on);
+            answer = Answer::Done;
+        }
+        silent(answer, self.with_modules(asked))
     }
 
     // Thresholds: both are stored.

@@ -41,13 +41,26 @@ impl Mode {
     }
 }
 
-impl State {
-    // The state in another mode, with the modules of a mask requested on or off.
-    fn crossed(self, mode: Mode, mask: u8, on: bool) -> State
-        ensures { λ r. ⌜ r ≡ crossedTo mode mask on self ⌝ }
+impl Crossing {
+    // Whether it is upward.
+    fn is_up(self) -> bool
     {
+        match self {
+            Crossing::Level => false,
+            Crossing::Upward => true,
+            Crossing::Downward => false,
+        }
+    }
+}
+
+impl State {
+    // The state after a crossing, upward or downward.
+    fn crossed(self, up: bool) -> State
+    {
+        let mode = if up { Mode::Safe } else { Mode::Recovery };
+        let mask = if up { CORE } else { MISSION };
         let modules = self.modules;
-        let asked = modules::stage::request(modules, mask, on);
+        let asked = modules::stage::request(modules, mask, up);
         let moved = self.with_mode(mode);
         moved.with_modules(asked)
     }
@@ -65,10 +78,10 @@ impl State {
         self.watch.control = 0;
         let watch = self.watch;
         let mode = watch.mode;
-        match mode.crossing(self.battery) {
+        let crossing = mode.crossing(self.battery);
+        match crossing {
             Crossing::Level => self,
-            Crossing::Upward => self.crossed(Mode::Safe, CORE, true),
-            Crossing::Downward => self.crossed(Mode::Recovery, MISSION, false),
+            _ => self.crossed(crossing.is_up()),
         }
     }
 }

@@ -20,11 +20,11 @@ array-copy-out-m c = search needs
 with-request-requires : tie.Need-with-request-requires
 with-request-requires c κs = search needs
 
-mul-next : tie.Need-mul-next
-mul-next c = search needs
+mul-asked : tie.Need-mul-asked
+mul-asked c = search needs
 
-array-set-from-next : tie.Need-array-set-from-next
-array-set-from-next c = search needs
+array-set-from-asked : tie.Need-array-set-from-asked
+array-set-from-asked c = search needs
 
 returns : tie.Need-returns
 returns c = simp (c .with-request .ensures) (request-stored (c .before .before .before .args .which) (c .before .before .before .args .on) (c .before .before .before .args .modules) _)
@@ -41,7 +41,7 @@ request-one-spec =
     mul-m
     array-copy-out-m
     with-request-requires
-    mul-next
-    array-set-from-next
+    mul-asked
+    array-set-from-asked
     returns
     returns-2)

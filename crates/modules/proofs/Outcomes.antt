@@ -1,0 +1,54 @@
+-- No second outcome satisfies the contract of a public call of this crate.
+-- Assumes nothing.
+use mathlib.Core.Path.{sym, _∙_}
+use Rattle.basics.specs.OneOutcome.{OneOutcome}
+use Rattle.modules.proofs.power.Power.second as second
+use Rattle.modules.proofs.power.Power.second.Reads as second-reads
+use Rattle.modules.proofs.power.Power.in_range as power-in-range
+use Rattle.modules.proofs.power.Power.in_range.Reads as power-in-range-reads
+use Rattle.modules.proofs.power.Module.with_power as with-power
+use Rattle.modules.proofs.power.Module.with_power.Reads as with-power-reads
+use Rattle.modules.proofs.power.Module.with_request as with-request
+use Rattle.modules.proofs.power.Module.with_request.Reads as with-request-reads
+use Rattle.modules.proofs.stage.has as has
+use Rattle.modules.proofs.stage.has.Reads as has-reads
+use Rattle.modules.proofs.stage.stage as stage
+use Rattle.modules.proofs.stage.stage.Reads as stage-reads
+use Rattle.modules.proofs.stage.request as request
+use Rattle.modules.proofs.stage.request.Reads as request-reads
+use Rattle.modules.proofs.stage.request_one as one-request
+use Rattle.modules.proofs.stage.request_one.Reads as one-request-reads
+use Rattle.modules.proofs.stage.in_range as in-range
+use Rattle.modules.proofs.stage.in_range.Reads as in-range-reads
+use Rattle.modules.proofs.masks.masks_of as masks-of
+use Rattle.modules.proofs.masks.masks_of.Reads as masks-of-reads
+
+pub second-one : OneOutcome second.ended second-reads.Asked second-reads.Learnt
+second-one = record { taken = λ κs a. tt; one = λ κs a x y p q i. ((p ∙ sym q) i, (tt, (tt, (tt, tt)))) }
+
+pub power-in-range-one : OneOutcome power-in-range.ended power-in-range-reads.Asked power-in-range-reads.Learnt
+power-in-range-one = record { taken = λ κs a. tt; one = λ κs a x y p q i. ((p ∙ sym q) i, (tt, tt)) }
+
+pub with-power-one : OneOutcome with-power.ended with-power-reads.Asked with-power-reads.Learnt
+with-power-one = record { taken = λ κs a. tt; one = λ κs a x y p q i. ((p ∙ sym q) i, (tt, (tt, tt))) }
+
+pub with-request-one : OneOutcome with-request.ended with-request-reads.Asked with-request-reads.Learnt
+with-request-one = record { taken = λ κs a. tt; one = λ κs a x y p q i. ((p ∙ sym q) i, (tt, (tt, tt))) }
+
+pub has-one : OneOutcome has.ended has-reads.Asked has-reads.Learnt
+has-one = record { taken = λ κs a. tt; one = λ κs a x y p q i. ((p ∙ sym q) i, (tt, (tt, tt))) }
+
+pub stage-one : OneOutcome stage.ended stage-reads.Asked stage-reads.Learnt
+stage-one = record { taken = λ κs a. tt; one = λ κs a x y p q i. ((p ∙ sym q) i, (tt, (tt, (tt, tt)))) }
+
+pub request-one : OneOutcome request.ended request-reads.Asked request-reads.Learnt
+request-one = record { taken = λ κs a. tt; one = λ κs a x y p q i. ((p ∙ sym q) i, (tt, (tt, (tt, tt)))) }
+
+pub one-request-one : OneOutcome one-request.ended one-request-reads.Asked one-request-reads.Learnt
+one-request-one = record { taken = λ κs a. tt; one = λ κs a x y p q i. ((p ∙ sym q) i, (tt, (tt, (tt, tt)))) }
+
+pub in-range-one : OneOutcome in-range.ended in-range-reads.Asked in-range-reads.Learnt
+in-range-one = record { taken = λ κs a. tt; one = λ κs a x y p q i. ((p ∙ sym q) i, (tt, tt)) }
+
+pub masks-of-one : OneOutcome masks-of.ended masks-of-reads.Asked masks-of-reads.Learnt
+masks-of-one = record { taken = λ κs a. tt; one = λ κs a x y p q i. ((p ∙ sym q) i, (tt, tt)) }
