@@ -12,5 +12,5 @@ pub mod ReportLaws
 pub mod RangeKept
 pub mod HistoryLaws
 pub mod SwitchLaws
-pub mod Unique
+pub mod Outcomes
 pub mod ShutOut

@@ -22,6 +22,12 @@ crossingOf (DeployWait phase) battery = Level
 crossingOf Recovery battery = if ltb (battery .ascend) (battery .tension) then Upward else Level
 crossingOf Safe battery = if ltb (battery .tension) (battery .descend) then Downward else Level
 
+-- a crossing is upward
+abbrev pub isUpward : Crossing → Bool
+isUpward Level = false
+isUpward Upward = true
+isUpward Downward = false
+
 -- the state in another mode, with the modules of a mask requested on or off
 abbrev pub crossedTo : Mode → (mask : ℕ) → (on : Bool) → State → State
 crossedTo mode mask on s = withModules (requestedBy mask on (s .modules)) (withMode mode s)

@@ -2,7 +2,9 @@
 ghost use mathlib.Core.Path.{_≡_};
 ghost use Prim.Native.Nat.{_<_};
 ghost use Rattle.supervisor.specs.Range.{judgeTicks};
-ghost use Rattle.supervisor.specs.Control.{crossingOf, crossedTo, controlled};
+ghost use Rattle.basics.specs.Choice.{if_then_else_};
+ghost use Rattle.supervisor.specs.Control.{crossingOf, isUpward, crossed, controlled};
+ghost use Rattle.supervisor.specs.declared.control.Crossing.the-variants.{Upward, Downward};
 use crate::range::JUDGE_TICKS;
 use crate::state::Battery;
 use crate::state::Mode;
@@ -43,7 +45,8 @@ impl Mode {
 
 impl Crossing {
     // Whether it is upward.
-    fn is_up(self) -> bool
+    fn is_upward(self) -> bool
+        ensures { λ r. ⌜ r ≡ isUpward self ⌝ }
     {
         match self {
             Crossing::Level => false,
@@ -54,11 +57,16 @@ impl Crossing {
 }
 
 impl State {
-    // The state after a crossing, upward or downward.
+    // The state after a crossing, upward or downward: one walk over the modules for both.
     fn crossed(self, up: bool) -> State
+        ensures { λ r. ⌜ r ≡ crossed (if up then Upward else Downward) self ⌝ }
     {
-        let mode = if up { Mode::Safe } else { Mode::Recovery };
-        let mask = if up { CORE } else { MISSION };
+        let mut mode = Mode::Recovery;
+        let mut mask = MISSION;
+        if up {
+            mode = Mode::Safe;
+            mask = CORE;
+        }
         let modules = self.modules;
         let asked = modules::stage::request(modules, mask, up);
         let moved = self.with_mode(mode);
@@ -81,7 +89,7 @@ impl State {
         let crossing = mode.crossing(self.battery);
         match crossing {
             Crossing::Level => self,
-            _ => self.crossed(crossing.is_up()),
+            _ => self.crossed(crossing.is_upward()),
         }
     }
 }

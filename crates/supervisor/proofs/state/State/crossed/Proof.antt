@@ -1,5 +1,6 @@
--- `State::crossed` meets its contract.
+-- `State::crossed` meets its contract: upward or downward.
 -- Assumes nothing.
+use mathlib.Core.Logic.{⊎-elim}
 use borrow.Author.Needs.{needs}
 use Rattle.supervisor.proofs.state.State.crossed.Statement.{statement}
 use Rattle.supervisor.proofs.state.State.crossed.Tie as tie
@@ -14,7 +15,11 @@ with-modules-requires : tie.Need-with-modules-requires
 with-modules-requires c κs = search needs
 
 returns : tie.Need-returns
-returns c = simp (c .with-modules .ensures, c .before .with-mode .ensures, c .before .before .request .ensures)
+returns c =
+    ⊎-elim
+    (λ w. simp (c .with-modules .ensures, c .before .with-mode .ensures, c .before .before .request .ensures, w .0 .taken, w .1, w .2))
+    (λ w. simp (c .with-modules .ensures, c .before .with-mode .ensures, c .before .before .request .ensures, w .0 .left, w .1, w .2))
+    (c .before .before .before .before .if1 .came)
 
 pub crossed-spec : {M : Type 1} → statement M
 crossed-spec =
