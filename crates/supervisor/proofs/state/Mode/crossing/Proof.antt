@@ -1,7 +1,9 @@
 -- `Mode::crossing` meets its contract.
 -- Assumes nothing.
+use native.Mathlib.Omega.{arith}
 use borrow.Author.Tests.{lt-ltb, le-ltb}
 use borrow.Author.Needs.{needs}
+use Rattle.supervisor.specs.declared.state.Battery.{Battery}
 use Rattle.supervisor.proofs.state.Mode.crossing.Statement.{statement}
 use Rattle.supervisor.proofs.state.Mode.crossing.Tie as tie
 
@@ -18,16 +20,24 @@ returns : tie.Need-returns
 returns c = search needs
 
 returns-2 : tie.Need-returns-2
-returns-2 c = simp (c .before .before .enum-told2 .given .1, lt-ltb _ _ (c .if1 .taken))
+returns-2 c =
+    let battery : Battery = c .before .before .before .before .args .battery in
+    simp (c .before .before .enum-told2 .given .1, lt-ltb (battery .ascend) (battery .tension) (omega arith))
 
 returns-3 : tie.Need-returns-3
-returns-3 c = simp (c .before .before .enum-told2 .given .1, le-ltb _ _ (c .if1 .left))
+returns-3 c =
+    let battery : Battery = c .before .before .before .before .args .battery in
+    simp (c .before .before .enum-told2 .given .1, le-ltb (battery .ascend) (battery .tension) (omega arith))
 
 returns-4 : tie.Need-returns-4
-returns-4 c = simp (c .before .before .enum-told3 .given .1, lt-ltb _ _ (c .if2 .taken))
+returns-4 c =
+    let battery : Battery = c .before .before .before .before .args .battery in
+    simp (c .before .before .enum-told3 .given .1, lt-ltb (battery .tension) (battery .descend) (omega arith))
 
 returns-5 : tie.Need-returns-5
-returns-5 c = simp (c .before .before .enum-told3 .given .1, le-ltb _ _ (c .if2 .left))
+returns-5 c =
+    let battery : Battery = c .before .before .before .before .args .battery in
+    simp (c .before .before .enum-told3 .given .1, le-ltb (battery .tension) (battery .descend) (omega arith))
 
 pub crossing-spec : {M : Type 1} → statement M
 crossing-spec =
