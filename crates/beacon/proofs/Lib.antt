@@ -1,4 +1,4 @@
 pub mod TextLaws
 pub mod WritingLaws
 pub mod Keyable
-pub mod Unique
+pub mod Outcomes

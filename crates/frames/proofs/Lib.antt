@@ -1,3 +1,3 @@
 pub mod ReadingLaws
 pub mod SerialLaws
-pub mod Unique
+pub mod Outcomes

@@ -12,11 +12,11 @@ use lib.ListN.{length, take, replicate, length-append, length-drop}
 use lib.Seq.{length-take-le}
 use Rattle.basics.specs.Outcome.{Outcome, outcome}
 use Rattle.basics.proofs.ChoiceLaws.{either, decided}
-use Rattle.frames.specs.Kind.{totalOf}
+use Rattle.frames.specs.Answer.{isReported}
+use Rattle.frames.specs.Kind.{totalOf, reportBytes}
 use Rattle.frames.specs.Reading.{byteAt}
 use Rattle.frames.specs.declared.answer.Answer.{Answer}
 use Rattle.supervisor.specs.declared.state.State.{State}
-use Rattle.frames.specs.Kind.{reportBytes}
 use Rattle.supervisor.specs.Step.{stepOf}
 use Rattle.log.specs.declared.cut.Front.{Front}
 use Rattle.log.specs.declared.cut.Front.the-variants as front
@@ -26,7 +26,7 @@ use Rattle.log.specs.declared.entry.Entry.the-variants.{Line, Last, More
 use Rattle.log.specs.Cut.{cutOf}
 use Rattle.log.specs.Line.{longest, placed, lineOf, refusedLine}
 use Rattle.log.specs.declared.entry.Entered.{Entered}
-use Rattle.log.specs.Entry.{isReported, goesOn, ends, printed, worked, enteredAt, enterOf}
+use Rattle.log.specs.Entry.{goesOn, ends, printed, worked, enteredAt, enterOf}
 use Rattle.log.proofs.LineLaws.{length-line, length-refused}
 
 -- a frame is not empty and stands in the bytes, and a line in the room

@@ -1,4 +1,4 @@
 pub mod TextLaws
 pub mod LineLaws
 pub mod EntryLaws
-pub mod Unique
+pub mod Outcomes

@@ -1,13 +1,13 @@
 -- The log's next entry: the frame at the front of a stream, worked, and its line.
 -- Assumes nothing.
 use Prim.Native.Nat.{ℕ, _+_, _%_, _^_}
-use mathlib.Core.Bool.{Bool, _||_}
+use mathlib.Core.Bool.{Bool}
 use mathlib.Core.List.{List}
-use lib.Dec.{eqb, leb}
+use lib.Dec.{leb}
 use lib.ListN.{length, take, replicate}
 use Rattle.basics.specs.Choice.{if_then_else_}
 use Rattle.basics.specs.Outcome.{Outcome, outcome}
-use Rattle.frames.specs.Answer.{answerNumber}
+use Rattle.frames.specs.Answer.{isReported}
 use Rattle.frames.specs.Kind.{reportBytes}
 use Rattle.frames.specs.declared.answer.Answer.{Answer}
 use Rattle.supervisor.specs.Fresh.{freshState}
@@ -26,10 +26,6 @@ use Rattle.log.specs.declared.entry.Entry.the-variants as entry
 -- a log starts from the fresh state and counts frames from 1
 unfoldable pub freshLog : Log
 freshLog = record { state = freshState; n = 1 }
-
--- the answers that come with a report: 0, and 8 to 10
-abbrev pub isReported : Answer → Bool
-isReported answer = eqb (answerNumber answer) 0 || leb 8 (answerNumber answer)
 
 -- an entry, where the log stands after it, and the room
 abbrev entered : Entry → Log → (room : List ℕ) → Outcome Entered

@@ -1,13 +1,12 @@
 // The log's next entry: the frame at the front of a stream, worked, and its line.
 ghost use mathlib.Core.Path.{_≡_};
 ghost use Rattle.basics.specs.Outcome.{outcome};
-ghost use Rattle.log.specs.Entry.{freshLog, isReported, worked, enterOf};
+ghost use Rattle.log.specs.Entry.{freshLog, worked, enterOf};
 use crate::cut::Front;
 use crate::cut::cut;
 use crate::line::LONGEST;
 use crate::line::line;
 use crate::line::refused;
-use frames::answer::Answer;
 use frames::kind::REPORT_BYTES;
 use supervisor::state::State;
 use supervisor::step::step;
@@ -46,14 +45,6 @@ pub fn fresh() -> Log
     }
 }
 
-// Whether an answer comes with a report.
-fn is_reported(answer: Answer) -> bool
-    ensures { λ r. ⌜ r ≡ isReported answer ⌝ }
-{
-    let number = answer.number();
-    (number == 0) | (8 <= number)
-}
-
 // Works a frame and writes its line.
 fn work(log: Log, frame: &[u8], room: &mut [u8]) -> Entered
     ensures { λ r. ⌜ outcome r (now (room .exit)) ≡ worked log (now (frame .entry)) (now (room .entry)) ⌝ }
@@ -61,7 +52,7 @@ fn work(log: Log, frame: &[u8], room: &mut [u8]) -> Entered
     let mut report = [0u8; REPORT_BYTES];
     let stepped = step(log.state, frame, &mut report);
     let answer = stepped.answer;
-    if is_reported(answer) {
+    if answer.is_reported() {
         let state = stepped.state;
         return Entered {
             entry: Entry::Line {

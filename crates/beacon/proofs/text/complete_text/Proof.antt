@@ -36,7 +36,21 @@ digit-requires-4 c κs = search needs
 
 returns : tie.Need-returns
 unfolding basicText completeText
-returns c = cc
+returns c =
+    let figures = c .before .before .before .before .before .before .before .before in
+    let called = figures .before .before .before .before .before in
+    simp (
+      c .digit4 .ensures,
+      c .before .before .digit3 .ensures,
+      c .before .before .before .before .digit2 .ensures,
+      c .before .before .before .before .before .before .digit .ensures,
+      figures .figure4 .ensures,
+      figures .before .figure3 .ensures,
+      figures .before .before .figure2 .ensures,
+      figures .before .before .before .figure .ensures,
+      figures .before .before .before .before .letter .ensures,
+      called .masks-of .ensures,
+    )
 
 pub complete-text-spec : {M : Type 1} → statement M
 complete-text-spec =
