@@ -3,7 +3,7 @@
 use Prim.Native.Nat.{ℕ}
 use native.Mathlib.Omega.{arith}
 use mathlib.Core.Path.{_≡_, refl, sym, ap, _∙_}
-use mathlib.Core.Bool.{Bool, false}
+use mathlib.Core.Bool.{Bool, true, false}
 use mathlib.Core.List.{List, [], _∷_, _++_}
 use lib.ListN.{getD, drop, replicate}
 use Rattle.basics.specs.Choice.{if_then_else_}
@@ -11,6 +11,7 @@ use Rattle.basics.specs.Each.{each, eachFrom}
 use Rattle.basics.specs.Outcome.{Outcome, outcome}
 use Rattle.modules.specs.Stage.{requestedBy, modulesInRange}
 use Rattle.modules.specs.Masks.{maskOf, masksOf}
+use Rattle.frames.specs.Answer.{isReported}
 use Rattle.frames.specs.Kind.{reportBytes, totalOf}
 use Rattle.frames.specs.Reading.{antennasFields, readFrame}
 use Rattle.supervisor.specs.Fresh.{freshState}
@@ -34,9 +35,11 @@ Supervisor = State → (input room : List ℕ) → Outcome Stepped
 abbrev pub ShutOut : Supervisor → Type 0
 ShutOut wrong = ((s : State) (input room : List ℕ) → wrong s input room ≡ stepOf s input room) → ⊥
 
--- it works every frame, and writes the same report for each
+-- it works every frame, and writes the same report for each that has one
 abbrev pub constantReport : List ℕ → Supervisor
-constantReport report s input room = outcome (stepOf s input room .result) (report ++ drop reportBytes room)
+constantReport report s input room =
+    outcome (stepOf s input room .result)
+    (if isReported (stepOf s input room .result .answer) then report ++ drop reportBytes room else room)
 
 -- it works the frames of states that pass a test, such as the fresh one, and then only reports
 abbrev pub onlyReports : (worksIn : State → Bool) → Supervisor
@@ -50,20 +53,36 @@ room = replicate 11 0
 kindOf : Outcome Stepped → ℕ
 kindOf o = getD (o .room) 1 0
 
-tickKind-told : kindOf (stepOf freshState (1 ∷ 0 ∷ []) room) ≡ 1
+-- a tick and an antennas frame on the fresh state
+abbrev tick : List ℕ
+tick = 1 ∷ 0 ∷ []
+
+abbrev antennas : List ℕ
+antennas = 3 ∷ 1 ∷ []
+
+tickKind-told : kindOf (stepOf freshState tick room) ≡ 1
 unfolding room kindOf stepOf freshState requestedBy each eachFrom inRange modulesInRange readFrame totalOf actOf ticked reportOf masksOf maskOf
 tickKind-told = refl
 
-antennasKind-told : kindOf (stepOf freshState (3 ∷ 1 ∷ []) room) ≡ 3
+antennasKind-told : kindOf (stepOf freshState antennas room) ≡ 3
 unfolding room kindOf stepOf freshState requestedBy each eachFrom inRange modulesInRange readFrame totalOf antennasFields actOf reportOf masksOf maskOf
 antennasKind-told = refl
 
--- a tick and an antennas frame have reports of different kinds
+tick-reported : isReported (stepOf freshState tick room .result .answer) ≡ true
+unfolding room stepOf freshState requestedBy each eachFrom inRange modulesInRange readFrame totalOf actOf ticked
+tick-reported = refl
+
+antennas-reported : isReported (stepOf freshState antennas room .result .answer) ≡ true
+unfolding room stepOf freshState requestedBy each eachFrom inRange modulesInRange readFrame totalOf antennasFields actOf
+antennas-reported = refl
+
+-- their reports are of different kinds
 pub constant-report : (report : List ℕ) → ShutOut (constantReport report)
 unfolding kindOf
 constant-report report meets =
+    let same : kindOf (constantReport report freshState tick room) ≡ kindOf (constantReport report freshState antennas room) = rw (tick-reported, antennas-reported) in
     let one : _≡_ {A = ℕ} 1 3 =
-    sym (ap kindOf (meets freshState (1 ∷ 0 ∷ []) room) ∙ tickKind-told) ∙ ap kindOf (meets freshState (3 ∷ 1 ∷ []) room) ∙ antennasKind-told in
+    sym (ap kindOf (meets freshState tick room) ∙ tickKind-told) ∙ same ∙ ap kindOf (meets freshState antennas room) ∙ antennasKind-told in
     omega arith
 
 -- a second into the wait
@@ -76,7 +95,7 @@ waitedOf (DeployWait (Settling seconds)) = 0
 waitedOf Recovery = 0
 waitedOf Safe = 0
 
-two-waited : waitedOf (stepOf waiting (1 ∷ 0 ∷ []) room .result .state .watch .mode) ≡ 2
+two-waited : waitedOf (stepOf waiting tick room .result .state .watch .mode) ≡ 2
 unfolding room waitedOf stepOf freshState requestedBy each eachFrom inRange modulesInRange readFrame totalOf actOf ticked
 two-waited = refl
 
@@ -84,6 +103,6 @@ two-waited = refl
 pub only-reports : (worksIn : State → Bool) → worksIn waiting ≡ false → ShutOut (onlyReports worksIn)
 unfolding waitedOf
 only-reports worksIn idle meets =
-    let same : waiting ≡ stepOf waiting (1 ∷ 0 ∷ []) room .result .state = ap (λ (o : Outcome Stepped). o .result .state) (rw idle at (meets waiting (1 ∷ 0 ∷ []) room)) in
+    let same : waiting ≡ stepOf waiting tick room .result .state = ap (λ (o : Outcome Stepped). o .result .state) (rw idle at (meets waiting tick room)) in
     let one : _≡_ {A = ℕ} 1 2 = ap (λ (s : State). waitedOf (s .watch .mode)) same ∙ two-waited in
     omega arith
