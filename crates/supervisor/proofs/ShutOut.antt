@@ -3,21 +3,26 @@
 use Prim.Native.Nat.{ℕ}
 use native.Mathlib.Omega.{arith}
 use mathlib.Core.Path.{_≡_, refl, sym, ap, _∙_}
-use mathlib.Core.Bool.{Bool, true, false}
+use mathlib.Core.Bool.{Bool, true, false, _&&_, not, true≢false}
 use mathlib.Core.List.{List, [], _∷_, _++_}
 use lib.ListN.{getD, drop, replicate}
 use Rattle.basics.specs.Choice.{if_then_else_}
 use Rattle.basics.specs.Each.{each, eachFrom}
 use Rattle.basics.specs.Outcome.{Outcome, outcome}
-use Rattle.modules.specs.Stage.{requestedBy, modulesInRange}
+use Rattle.modules.specs.Power.{isOn, switched}
+use Rattle.modules.specs.Stage.{stageOf, requestedBy, modulesInRange}
 use Rattle.modules.specs.Masks.{maskOf, masksOf}
+use Rattle.modules.specs.declared.power.Power.the-variants.{On}
 use Rattle.frames.specs.Answer.{isReported}
 use Rattle.frames.specs.Kind.{reportBytes, totalOf}
 use Rattle.frames.specs.Reading.{antennasFields, readFrame}
+use Rattle.frames.specs.About.{About, about, aTick, aCommand, neither}
 use Rattle.supervisor.specs.Fresh.{freshState}
-use Rattle.supervisor.specs.State.{withMode}
+use Rattle.supervisor.specs.State.{isDeployWait, moduleAt, withMode, withControl, withTension, withModules}
 use Rattle.supervisor.specs.Range.{inRange}
-use Rattle.supervisor.specs.Tick.{ticked}
+use Rattle.supervisor.specs.Control.{controlled}
+use Rattle.supervisor.specs.Due.{beaconStage}
+use Rattle.supervisor.specs.Tick.{beforeModules, moduleStage, ticked}
 use Rattle.supervisor.specs.Act.{actOf}
 use Rattle.supervisor.specs.Report.{reportOf}
 use Rattle.supervisor.specs.Step.{stepOf}
@@ -46,6 +51,21 @@ abbrev pub onlyReports : (worksIn : State → Bool) → Supervisor
 onlyReports worksIn s input room =
     if worksIn s then stepOf s input room
     else outcome (record { answer = stepOf s input room .result .answer; state = s }) (stepOf s input room .room)
+
+-- it runs the module stage before control: in a done tick outside DEPLOY_WAIT the state is that of the stages swapped
+abbrev pub swapped : (shorts : ℕ) → State → State
+swapped shorts s = beaconStage (beforeModules (moduleStage shorts s)) .state
+
+abbrev pub runsModulesFirst : About → (moves : Bool) → State → Outcome Stepped → Outcome Stepped
+runsModulesFirst (aTick shorts) moves s right =
+    if moves then outcome (record { answer = right .result .answer; state = swapped shorts s }) (right .room) else right
+runsModulesFirst (aCommand sender command) moves s right = right
+runsModulesFirst neither moves s right = right
+
+abbrev pub modulesFirst : Supervisor
+modulesFirst s input room =
+    runsModulesFirst (about (readFrame input))
+    (isReported (stepOf s input room .result .answer) && not (isDeployWait (s .watch .mode))) s (stepOf s input room)
 
 room : List ℕ
 room = replicate 11 0
@@ -106,3 +126,23 @@ only-reports worksIn idle meets =
     let same : waiting ≡ stepOf waiting tick room .result .state = ap (λ (o : Outcome Stepped). o .result .state) (rw idle at (meets waiting tick room)) in
     let one : _≡_ {A = ℕ} 1 2 = ap (λ (s : State). waitedOf (s .watch .mode)) same ∙ two-waited in
     omega arith
+
+-- SAFE with every module on and the tension below descend, a tick before the mode is judged
+abbrev pub aboutToFall : State
+aboutToFall =
+    withModules (replicate 8 (record { power = On; requested = true })) (withMode Safe (withControl 29 (withTension 6000 freshState)))
+
+-- PAYLOAD after that tick: off by the rules, and still on
+payloadOn : Outcome Stepped → Bool
+payloadOn o = isOn (moduleAt 4 (o .result .state) .power)
+
+payload-off : payloadOn (stepOf aboutToFall tick room) ≡ false
+unfolding payloadOn room stepOf freshState requestedBy each eachFrom inRange modulesInRange readFrame totalOf actOf ticked beforeModules controlled moduleStage stageOf switched beaconStage
+payload-off = refl
+
+payload-on : payloadOn (modulesFirst aboutToFall tick room) ≡ true
+unfolding payloadOn room stepOf freshState requestedBy each eachFrom inRange modulesInRange readFrame totalOf actOf ticked beforeModules controlled moduleStage stageOf switched beaconStage
+payload-on = refl
+
+pub modules-first : ShutOut modulesFirst
+modules-first meets = true≢false (sym payload-on ∙ ap payloadOn (meets aboutToFall tick room) ∙ payload-off)
