@@ -1,6 +1,7 @@
--- "Replies by number": the page's number of each answer.
+-- "Replies by number": the page's number of each answer, and what becomes of the reply room.
 -- Assumes nothing.
 use Prim.Native.Nat.{ℕ}
+use mathlib.Core.Bool.{Bool, true, false}
 use Rattle.frames.specs.declared.answer.Answer.{Answer}
 use Rattle.frames.specs.declared.answer.Answer.the-variants.{Done, BadState, ShortRoom, NoInput}
 use Rattle.frames.specs.declared.answer.Answer.the-variants.{UnknownKind, BadLength, BadField, NotPermitted}
@@ -19,3 +20,17 @@ answerNumber NotPermitted = 7
 answerNumber Repeat = 8
 answerNumber Stale = 9
 answerNumber NotNow = 10
+
+-- the reply room: a report, or untouched
+abbrev pub isReported : Answer → Bool
+isReported Done = true
+isReported BadState = false
+isReported ShortRoom = false
+isReported NoInput = false
+isReported UnknownKind = false
+isReported BadLength = false
+isReported BadField = false
+isReported NotPermitted = false
+isReported Repeat = true
+isReported Stale = true
+isReported NotNow = true

@@ -1,6 +1,6 @@
 // What a call of `step` answers: one case for each number of the page.
 ghost use mathlib.Core.Path.{_≡_};
-ghost use Rattle.frames.specs.Answer.{answerNumber};
+ghost use Rattle.frames.specs.Answer.{answerNumber, isReported};
 
 // The answer, by its case.
 pub enum Answer {
@@ -45,6 +45,25 @@ impl Answer {
             Answer::Repeat => 8,
             Answer::Stale => 9,
             Answer::NotNow => 10,
+        }
+    }
+
+    // Whether a report is written with it: not with the refusals 1 to 7.
+    pub fn is_reported(self) -> bool
+        ensures { λ r. ⌜ r ≡ isReported self ⌝ }
+    {
+        match self {
+            Answer::Done => true,
+            Answer::BadState => false,
+            Answer::ShortRoom => false,
+            Answer::NoInput => false,
+            Answer::UnknownKind => false,
+            Answer::BadLength => false,
+            Answer::BadField => false,
+            Answer::NotPermitted => false,
+            Answer::Repeat => true,
+            Answer::Stale => true,
+            Answer::NotNow => true,
         }
     }
 }
