@@ -100,13 +100,16 @@ module _ (image room : List ℕ) (own : hasLayout image ≡ true) (s : State) (s
     answers : isReported (stepOf s frame room .result .answer) ≡ isReported (after .answer)
     answers = ap (λ o. isReported (o .result .answer)) (sym steps)
 
-    -- with a report, the image becomes the next state's, which is in range
+    -- with a report, the state is in range before and after, and the image becomes the next state's
     module _ (reported : isReported (after .answer) ≡ true) where
       valid : T (inRange s)
       valid = reported-valid s call (answers ∙ reported)
 
-      pub next-in-range : inRange (after .state) ≡ true
-      next-in-range = ap (λ o. inRange (o .result .state)) steps ∙ is-true (inRange (called s call .result .state)) (called-in-range s call valid)
+      pub both-in-range : (inRange s ≡ true) × (inRange (after .state) ≡ true)
+      both-in-range = (
+        is-true (inRange s) valid,
+        ap (λ o. inRange (o .result .state)) steps ∙ is-true (inRange (called s call .result .state)) (called-in-range s call valid),
+      )
 
       pub step-reported : outcome (imaged (answerNumber (after .answer)) (saved (after .state))) room′ ≡ stepImage image frame room
       unfolding stepImage loaded

@@ -10,7 +10,7 @@ use Rattle.frames.specs.Answer.{isReported}
 use Rattle.supervisor.specs.Step.{stepOf}
 use Rattle.flight.specs.Loading.{hasLayout, decoded}
 use Rattle.flight.proofs.LoadingLaws.{layout}
-use Rattle.flight.proofs.CallsLaws.{step-foreign, step-reported, step-refused, next-in-range}
+use Rattle.flight.proofs.CallsLaws.{step-foreign, step-reported, step-refused, both-in-range}
 use Rattle.flight.proofs.calls.ems_step.Statement.{statement}
 use Rattle.flight.proofs.calls.ems_step.Tie as tie
 
@@ -46,10 +46,10 @@ save-requires c κs =
     let reported = c .before .before in
     let step = reported .before .before .before in
     let decode = step .before .before in
-    let test = decode .before .before in (
-      layout _ (own test) .size,
-      next-in-range _ _ (own test) _ (decode .decode .ensures) _ (step .step .result) _ (step .step .ensures) (sym (reported .is-reported .ensures) ∙ c .before .if2 .taken),
-    )
+    let test = decode .before .before in
+    let both =
+    both-in-range _ _ (own test) _ (decode .decode .ensures) _ (step .step .result) _ (step .step .ensures) (sym (reported .is-reported .ensures) ∙ c .before .if2 .taken) in
+    (layout _ (own test) .size, search (both))
 
 number-requires-2 : tie.Need-number-requires-2
 number-requires-2 c κs = search needs
