@@ -37,31 +37,33 @@ extern "C" {
 #endif
 
 /* The bytes of an image: the whole state of the board, kept by the caller.
- * Numbers are big-endian.
+ * Numbers have their low byte first.
  *
  *   at   bytes  holds
  *    0     1    the layout's version, EMS_IMAGE_VERSION
- *    1     1    mode: 0 DEPLOY_WAIT, 1 RECOVERY, 2 SAFE
- *    2     1    deploy phase: 1 waiting, 2 settling; 0 outside DEPLOY_WAIT
- *    3     4    seconds waited (0 to 86,399), or left to settle (1 to 900);
- *               0 outside DEPLOY_WAIT
- *    7     1    control count, 0 to 29; 0 in DEPLOY_WAIT
- *    8     2    beacon count, 0 to 299; 0 in DEPLOY_WAIT
- *   10     1    antennas: 0 folded, 1 deployed
- *   11     2    tension in millivolts, 5,000 to 9,000; 0 before any reading
- *   13     2    ascend, 5,000 to 9,000
- *   15     2    descend, 5,000 to ascend
- *   17     2    the ground's last serial
- *   19     2    the payload's last serial
- *   21     4    module 0, then 4 bytes for each of the modules 1 to 7:
- *     +0   1      power: 0 on, 1 off, 2 failed
- *     +1   2      0 when on; tries left (1 to 5) when off; seconds left
- *                 (0 to 600) when failed
- *     +3   1      requested: 0 or 1
+ *    1     3    mode, and in DEPLOY_WAIT its phase with the seconds:
+ *                 0 to 86,399       waiting, so many seconds waited
+ *                 86,400 to 87,299  settling, 1 to 900 seconds left (86,399 more)
+ *                 87,300            RECOVERY
+ *                 87,301            SAFE
+ *    4     1    control count, 0 to 29; 0 in DEPLOY_WAIT
+ *    5     2    beacon count, 0 to 299; 0 in DEPLOY_WAIT
+ *    7     1    antennas: 0 folded, 1 deployed
+ *    8     2    tension in millivolts, 5,000 to 9,000; 0 before any reading
+ *   10     2    ascend, 5,000 to 9,000
+ *   12     2    descend, 5,000 to ascend
+ *   14     2    the ground's last serial
+ *   16     2    the payload's last serial
+ *   18     2    module 0, then 2 bytes for each of the modules 1 to 7; when it
+ *               is requested, 32,768 more (the top bit of its second byte):
+ *                 0                 on
+ *                 1 to 5            off, so many tries left
+ *                 6 to 606          failed, 0 to 600 seconds left (6 more)
  *
- * Bytes that are not exactly such an image are refused with EMS_BAD_STATE. */
-#define EMS_IMAGE_BYTES 53
-#define EMS_IMAGE_VERSION 1
+ * Each state in range has one image. Bytes that are none are refused with
+ * EMS_BAD_STATE. */
+#define EMS_IMAGE_BYTES 34
+#define EMS_IMAGE_VERSION 2
 
 /* The bytes of a report: 81, kind answered, origin, serial (2), answer, mode,
  * requested mask, on mask, failed mask, beacon. */

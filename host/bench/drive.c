@@ -12,7 +12,7 @@
 #ifdef PEER
 #include "peer/ems.h"
 #include "peer/morse.h"
-#define IMAGE_BYTES 53
+#define IMAGE_BYTES 34
 #define KEY peer_key
 #define READ peer_read
 #else
@@ -33,19 +33,27 @@ static unsigned two(const uint8_t *at) { return (unsigned)(at[0] << 8 | at[1]); 
 #ifdef PEER
 static struct ems state;
 
+/* The image's numbers, the low byte first, and those that stand for modes and modules. */
+static unsigned low(const uint8_t *at) { return (unsigned)(at[0] | at[1] << 8); }
+enum { SETTLING = 86399, RECOVERY = 87300, FAILED = 6, REQUESTED = 32768 };
+
 /* The C version has no image: its state is set up from one. */
 static void put_back(const uint8_t *image)
 {
+    unsigned long mode = low(image + 1) + ((unsigned long)image[3] << 16);
     state = (struct ems){
-        .mode = image[1], .phase = image[2], .antennas = image[10], .control = image[7],
-        .beacon = (uint16_t)two(image + 8), .tension = (uint16_t)two(image + 11),
-        .ascend = (uint16_t)two(image + 13), .descend = (uint16_t)two(image + 15),
-        .last = { (uint16_t)two(image + 17), (uint16_t)two(image + 19) },
-        .count = two(image + 3) << 16 | two(image + 5),
+        .mode = mode < RECOVERY ? 0 : mode == RECOVERY ? 1 : 2, .antennas = image[7], .control = image[4],
+        .phase = mode <= SETTLING ? 1 : mode < RECOVERY ? 2 : 0,
+        .count = mode <= SETTLING ? mode : mode < RECOVERY ? mode - SETTLING : 0,
+        .beacon = (uint16_t)low(image + 5), .tension = (uint16_t)low(image + 8),
+        .ascend = (uint16_t)low(image + 10), .descend = (uint16_t)low(image + 12),
+        .last = { (uint16_t)low(image + 14), (uint16_t)low(image + 16) },
     };
     for (int i = 0; i < 8; i++) {
-        const uint8_t *at = image + 21 + 4 * i;
-        state.m[i] = (struct module){ at[0], at[3], (uint16_t)two(at + 1) };
+        unsigned code = low(image + 18 + 2 * i), power = code % REQUESTED;
+        state.m[i] = (struct module){
+            power == 0 ? 0 : power < FAILED ? 1 : 2, code >= REQUESTED,
+            (uint16_t)(power < FAILED ? power : power - FAILED) };
     }
 }
 

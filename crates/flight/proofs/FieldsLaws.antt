@@ -1,15 +1,58 @@
--- Laws of numbers as bytes: read back as they were stored, and lists of bytes compared.
+-- Laws of numbers as bytes: read back as they were stored, and stored as they were read.
 -- Assumes nothing.
-use Prim.Native.Nat.{ℕ, _+_, _*_, _/_, _%_}
-use native.Mathlib.Nat.{div-add-mod'}
-use mathlib.Core.Path.{_≡_, refl}
+use Prim.Native.Nat.{ℕ, _+_, _*_, _/_, _%_, _<_, _≤_}
+use native.Mathlib.Omega.{arith}
+use mathlib.Core.Path.{_≡_, refl, sym}
 use mathlib.Core.Bool.{Bool, true, false}
-use lib.Dec.{eqb}
-use Rattle.flight.specs.Fields.{flag}
+use mathlib.Core.List.{List}
+use lib.Dec.{eqb, leb}
+use lib.ListN.{getD}
+use borrow.Author.Tests.{eqb-true, eqb-false}
+use Rattle.frames.specs.Reading.{byteAt}
+use Rattle.flight.specs.Fields.{flag, pairAt, tripleAt}
+
+-- every element is a byte
+abbrev pub AllBytes : List ℕ → Type 0
+AllBytes bytes = (i : ℕ) → getD bytes i 0 < 256
 
 pub flag-back : (test : Bool) → eqb (flag test) 1 ≡ test
 flag-back true = refl
 flag-back false = refl
 
-pub word-back : (n : ℕ) → n / 256 * 256 + n % 256 ≡ n
-word-back n = div-add-mod' n 256
+pub pair-back : (n : ℕ) → n % 256 + n / 256 * 256 ≡ n
+pair-back n = omega arith
+
+pub triple-back : (n : ℕ) → n % 256 + n / 256 % 256 * 256 + n / 65536 * 65536 ≡ n
+triple-back n = omega arith
+
+pub flag-low : (test : Bool) → leb (flag test) 1 ≡ true
+flag-low true = refl
+flag-low false = refl
+
+pub flag-stored : (n : ℕ) → n ≤ 1 → flag (eqb n 1) ≡ n
+flag-stored n h = by-test (eqb n 1) refl
+  where
+    by-test : (t : Bool) → eqb n 1 ≡ t → flag t ≡ n
+    by-test true e = sym (eqb-true n 1 e)
+    by-test false e = omega (arith, eqb-false n 1 e)
+
+module _ (bytes : List ℕ) (small : AllBytes bytes) (i : ℕ) where
+  pub pair-small : pairAt i bytes < 65536
+  pair-small = omega (arith, small i, small (i + 1))
+
+  pub pair-low : pairAt i bytes % 256 ≡ byteAt i bytes
+  pair-low = omega (arith, small i)
+
+  pub pair-high : pairAt i bytes / 256 ≡ byteAt (i + 1) bytes
+  pair-high = omega (arith, small i)
+
+  pub triple-low : tripleAt i bytes % 256 ≡ byteAt i bytes
+  triple-low = omega (arith, small i)
+
+  pub triple-middle : tripleAt i bytes / 256 % 256 ≡ byteAt (i + 1) bytes
+  triple-middle =
+      let rest : tripleAt i bytes / 256 ≡ byteAt (i + 1) bytes + byteAt (i + 2) bytes * 256 = omega (arith, small i) in
+      rw rest (omega (arith, small (i + 1)))
+
+  pub triple-high : tripleAt i bytes / 65536 ≡ byteAt (i + 2) bytes
+  triple-high = omega (arith, small i, small (i + 1))

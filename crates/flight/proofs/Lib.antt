@@ -1,8 +1,8 @@
 pub mod FieldsLaws
+pub mod CodesLaws
 pub mod SavingLaws
 pub mod LoadingLaws
-pub mod ComparedLaws
 pub mod LoadSave
 pub mod CallsLaws
 pub mod Images
-pub mod Unique
+pub mod Outcomes

@@ -1,75 +1,58 @@
--- Laws of loading: the modules of an image, and that the fields of a saved state say that state.
+-- Laws of loading: the fields of a saved state say that state, and what the fields of an image say saves to that image.
 -- Assumes nothing.
-use Prim.Native.Nat.{ℕ, zero, suc, _+_, _*_, _<_}
+use Prim.Native.Nat.{ℕ, zero, suc, _+_, _*_, _<_, _≤_}
 use native.Mathlib.Omega.{arith}
-use native.Mathlib.Nat.{add-assoc, div-add-mod', mod-eq-of-lt, le-of-suc-le-suc, not-suc-le-zero}
+use native.Mathlib.Numerals.{add-one}
+use native.Mathlib.Nat.{add-assoc, le-of-suc-le-suc, not-suc-le-zero}
 use mathlib.Core.Path.{_≡_, refl, sym, ap, _∙_}
 use mathlib.Core.Bool.{true}
 use mathlib.Core.List.{List, [], _∷_, _++_}
-use lib.Dec.{T, eqb}
-use lib.ListN.{length, getD, replicate}
-use lib.Seq.{getD-append-add, ext-getD}
-use Rattle.basics.proofs.ChoiceLaws.{holds, and-left, and-right, within-high}
+use lib.Dec.{T, eqb→eq, leb→le}
+use lib.ListN.{length, getD, take, drop, replicate}
+use lib.Seq.{getD-append-add, ext-getD, drop-cons, take-all}
+use Rattle.basics.specs.Each.{each, eachFrom}
+use Rattle.basics.proofs.ChoiceLaws.{holds, and-left, and-right}
 use Rattle.basics.proofs.EachLaws.{length-each, at-each}
 use Rattle.modules.specs.Groups.{moduleCount}
-use Rattle.modules.specs.Power.{powerInRange, fullTries}
+use Rattle.modules.specs.Power.{powerInRange}
 use Rattle.modules.specs.Stage.{modulesInRange}
-use Rattle.modules.specs.declared.power.Power.{Power}
-use Rattle.modules.specs.declared.power.Power.the-variants.{On, Off, Failed}
 use Rattle.modules.specs.declared.power.Module.{Module}
-use Rattle.supervisor.specs.State.{modeNumber, withMode}
-use Rattle.supervisor.specs.Range.{watchInRange, settleSeconds, inRange}
-use Rattle.supervisor.specs.declared.state.Phase.the-variants.{Waiting, Settling}
-use Rattle.supervisor.specs.declared.state.Mode.{Mode}
-use Rattle.supervisor.specs.declared.state.Mode.the-variants.{DeployWait, Recovery, Safe}
+use Rattle.frames.specs.Reading.{byteAt}
+use Rattle.supervisor.specs.Range.{inRange}
 use Rattle.supervisor.specs.declared.state.State.{State}
-use Rattle.supervisor.proofs.RangeLaws.{parts, phase-in-range}
+use Rattle.supervisor.proofs.RangeLaws.{parts}
 use Rattle.supervisor.proofs.ModuleLaws.{Eight}
-use Rattle.flight.specs.Fields.{flag}
-use Rattle.flight.specs.Saving.{modulesPlace, phaseNumber, phaseSeconds, powerNumber, powerLeft, moduleBytes, modulesBytes, headBytes, saved}
-use Rattle.flight.specs.Loading.{modeFrom, powerFrom, moduleFrom, blank, modulesIn, decoded}
-use Rattle.flight.proofs.FieldsLaws.{flag-back, word-back}
+use Rattle.flight.specs.Fields.{flag, pairBytes, pairAt, tripleAt}
+use Rattle.flight.specs.Codes.{modeFrom, moduleCode, moduleFrom}
+use Rattle.flight.specs.Saving.{imageBytes, layoutVersion, modulesPlace, modulesBytes, headBytes, saved}
+use Rattle.flight.specs.Loading.{hasLayout, blank, modulesIn, decoded}
+use Rattle.flight.proofs.FieldsLaws.{AllBytes, flag-back, pair-back, triple-back, flag-stored}
+use Rattle.flight.proofs.FieldsLaws.{pair-small, pair-low, pair-high, triple-low, triple-middle, triple-high}
+use Rattle.flight.proofs.CodesLaws.{mode-code, mode-back, module-code, module-back}
+use Rattle.flight.proofs.SavingLaws.{mode-in-range}
 
 module _ (bytes : List ℕ) where
-  pub length-in : length (modulesIn bytes) ≡ moduleCount
+  length-in : length (modulesIn bytes) ≡ moduleCount
   unfolding modulesIn
-  length-in = length-each (λ i m. moduleFrom (modulesPlace + 4 * i) bytes) (replicate moduleCount blank)
+  length-in = length-each (λ i m. moduleFrom (pairAt (modulesPlace + 2 * i) bytes)) (replicate moduleCount blank)
 
-  pub module-in : (i : ℕ) → i < moduleCount → getD (modulesIn bytes) i blank ≡ moduleFrom (modulesPlace + 4 * i) bytes
+  module-in : (i : ℕ) → i < moduleCount → getD (modulesIn bytes) i blank ≡ moduleFrom (pairAt (modulesPlace + 2 * i) bytes)
   unfolding modulesIn
-  module-in i low = at-each (λ i m. moduleFrom (modulesPlace + 4 * i) bytes) (replicate moduleCount blank) i blank low
+  module-in i low = at-each (λ i m. moduleFrom (pairAt (modulesPlace + 2 * i) bytes)) (replicate moduleCount blank) i blank low
 
 -- what the fields of a saved state say
 
-power-back : (p : Power) → T (powerInRange p) → powerFrom (powerNumber p) (powerLeft p) ≡ p
-power-back On h = refl
-power-back (Off tries) h = ap Off (mod-eq-of-lt (omega (arith, within-high 1 fullTries tries h)))
-power-back (Failed left) h = refl
+-- bytes in front of a number's move its place
+pair-shift : (front bytes : List ℕ) (at : ℕ) → pairAt (length front + at) (front ++ bytes) ≡ pairAt at bytes
+pair-shift front bytes at = simp (add-assoc, getD-append-add)
 
-mode-back : (m : Mode) (control beacon : ℕ) → T (watchInRange m control beacon) → modeFrom (modeNumber m) (phaseNumber m) (phaseSeconds m) ≡ m
-mode-back (DeployWait (Waiting waited)) control beacon h = refl
-mode-back (DeployWait (Settling left)) control beacon h =
-    ap (λ n. DeployWait (Settling n)) (mod-eq-of-lt (omega (arith, within-high 1 settleSeconds left (phase-in-range (Settling left) control beacon h))))
-mode-back Recovery control beacon h = refl
-mode-back Safe control beacon h = refl
-
--- bytes in front of a module's move its place
-module-shift : (front bytes : List ℕ) (at : ℕ) → moduleFrom (length front + at) (front ++ bytes) ≡ moduleFrom at bytes
-module-shift front bytes at = simp (add-assoc, getD-append-add)
-
-module-back : (m : Module) (rest : List ℕ) → T (powerInRange (m .power)) → moduleFrom 0 (moduleBytes m ++ rest) ≡ m
-module-back m rest h =
-    ap (λ n. record { power = powerFrom (powerNumber (m .power)) n; requested = eqb (flag (m .requested)) 1 }) (word-back (powerLeft (m .power)))
-    ∙ ap (λ p. record { power = p; requested = eqb (flag (m .requested)) 1 }) (power-back (m .power) h)
-    ∙ ap (λ r. record { power = m .power; requested = r }) (flag-back (m .requested))
-
-module-of : (ms : List Module) (i : ℕ) → i < length ms → T (modulesInRange ms) → moduleFrom (4 * i) (modulesBytes ms) ≡ getD ms i blank
+module-of : (ms : List Module) (i : ℕ) → i < length ms → T (modulesInRange ms) → moduleFrom (pairAt (2 * i) (modulesBytes ms)) ≡ getD ms i blank
 unfolding modulesBytes modulesInRange
 module-of [] i h r = absurd (not-suc-le-zero h)
-module-of (m ∷ ms) zero h r = module-back m (modulesBytes ms) (and-left (powerInRange (m .power)) (modulesInRange ms) r)
+module-of (m ∷ ms) zero h r = ap moduleFrom (pair-back (moduleCode m)) ∙ module-back m (and-left (powerInRange (m .power)) (modulesInRange ms) r)
 module-of (m ∷ ms) (suc i) h r =
-    let e : 4 * suc i ≡ 4 + 4 * i = omega arith in
-    rw e (module-shift (moduleBytes m) (modulesBytes ms) (4 * i))
+    let e : 2 * suc i ≡ 2 + 2 * i = omega arith in
+    rw e (ap moduleFrom (pair-shift (pairBytes (moduleCode m)) (modulesBytes ms) (2 * i)))
     ∙ module-of ms i (le-of-suc-le-suc h) (and-right (powerInRange (m .power)) (modulesInRange ms) r)
 
 modules-back : (s : State) → T (modulesInRange (s .modules)) → Eight s → modulesIn (saved s) ≡ s .modules
@@ -78,14 +61,73 @@ modules-back s r eight =
     let n = length-in (saved s) in
     ext-getD blank (modulesIn (saved s)) (s .modules) (n ∙ sym eight)
     (λ i h. module-in (saved s) i (omega arith)
-    ∙ module-shift (headBytes s) (modulesBytes (s .modules)) (4 * i)
+    ∙ ap moduleFrom (pair-shift (headBytes s) (modulesBytes (s .modules)) (2 * i))
     ∙ module-of (s .modules) i (omega arith) r)
 
 pub decoded-saved : (s : State) → inRange s ≡ true → Eight s → decoded (saved s) ≡ s
 unfolding decoded saved headBytes
 decoded-saved s e eight =
-    let valid = parts s (holds (inRange s) e) in
-    let mode = s .watch .mode in
-    let seconds = ap (modeFrom (modeNumber mode) (phaseNumber mode)) (div-add-mod' (phaseSeconds mode) 65536) in
-    simp (modules-back s (valid .modules) eight, word-back, flag-back)
-    (ap (λ m. withMode m s) (seconds ∙ mode-back mode (s .watch .control) (s .watch .beacon) (valid .watch)))
+    let modules = modules-back s (parts s (holds (inRange s) e) .modules) eight in
+    simp (modules, pair-back, triple-back, flag-back, mode-back (s .watch .mode) (mode-in-range s e))
+
+-- what the fields of an image say saves to that image
+
+-- what has the layout
+pub record Layout (bytes : List ℕ) : Type 0 where
+  pub size : length bytes ≡ imageBytes
+  pub version : byteAt 0 bytes ≡ layoutVersion
+  pub antennas : byteAt 7 bytes ≤ 1
+
+pub layout : (bytes : List ℕ) → hasLayout bytes ≡ true → Layout bytes
+unfolding hasLayout
+layout bytes e =
+    let t = holds _ e in
+    record {
+      size = eqb→eq (length bytes) imageBytes (search (and-left, and-right));
+      version = eqb→eq (byteAt 0 bytes) layoutVersion (search (and-left, and-right));
+      antennas = leb→le (byteAt 7 bytes) 1 (search (and-left, and-right));
+    }
+
+-- n bytes from k on, one by one
+listed : (n k : ℕ) → List ℕ → List ℕ
+listed zero k bytes = []
+listed (suc n) k bytes = byteAt k bytes ∷ listed n (suc k) bytes
+
+part-listed : (n k : ℕ) (bytes : List ℕ) → k + n ≤ length bytes → take n (drop k bytes) ≡ listed n k bytes
+unfolding listed
+part-listed zero k bytes h = refl
+part-listed (suc n) k bytes h = rw (drop-cons bytes k 0 (omega arith)) (ap (λ l. byteAt k bytes ∷ l) (part-listed n (suc k) bytes (omega arith)))
+
+module _ (bytes : List ℕ) (small : AllBytes bytes) where
+  head-stored : Layout bytes → headBytes (decoded bytes) ≡ listed modulesPlace 0 bytes
+  unfolding headBytes decoded listed
+  head-stored l =
+      simp (
+        mode-code,
+        triple-low bytes small 1,
+        triple-middle bytes small 1,
+        triple-high bytes small 1,
+        pair-low bytes small,
+        pair-high bytes small,
+        flag-stored (byteAt 7 bytes) (l .antennas),
+        l .version,
+      )
+
+  modules-stored :
+      (n k : ℕ) →
+      modulesBytes (eachFrom (λ i m. moduleFrom (pairAt (modulesPlace + 2 * i) bytes)) k (replicate n blank)) ≡ listed (2 * n) (modulesPlace + 2 * k) bytes
+  unfolding modulesBytes eachFrom listed
+  modules-stored zero k = refl
+  modules-stored (suc n) k =
+      let at = modulesPlace + 2 * k in
+      let twice : 2 * suc n ≡ suc (suc (2 * n)) = omega arith in
+      let next : modulesPlace + 2 * suc k ≡ suc (suc at) = omega arith in
+      rw (twice, module-code (pairAt at bytes) (pair-small bytes small at), pair-low bytes small at, pair-high bytes small at, add-one at)
+      (ap (λ l. byteAt at bytes ∷ byteAt (suc at) bytes ∷ l) (modules-stored n (suc k) ∙ ap (λ p. listed (2 * n) p bytes) next))
+
+  pub saved-decoded : Layout bytes → saved (decoded bytes) ≡ bytes
+  unfolding saved decoded modulesIn each listed
+  saved-decoded l =
+      let size = l .size in
+      let whole : bytes ≡ listed imageBytes 0 bytes = sym (take-all imageBytes bytes (omega arith)) ∙ part-listed imageBytes 0 bytes (omega arith) in
+      rw (head-stored l, modules-stored moduleCount 0) (sym whole)

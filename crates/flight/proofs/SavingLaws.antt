@@ -1,20 +1,33 @@
--- Laws of saving: an image's length, and how it is stored part by part.
+-- Laws of saving: an image's length, the ranges of what it holds, and how it is stored part by part.
 -- Assumes nothing.
-use Prim.Native.Nat.{ℕ, suc, _+_, _*_, _<_}
+use Prim.Native.Nat.{ℕ, zero, suc, _+_, _*_, _<_, _≤_}
 use native.Mathlib.Omega.{arith}
+use native.Mathlib.Nat.{le-of-suc-le-suc, not-suc-le-zero}
 use native.Mathlib.Numerals.{add-one}
 use mathlib.Core.Path.{_≡_, refl, sym, ap, _∙_}
+use mathlib.Core.Bool.{Bool, true, false}
 use mathlib.Core.List.{List, [], _∷_, _++_, append-nil}
-use lib.ListN.{length, getD, set, take, drop, length-append, drop-of-length-le}
+use lib.Dec.{T}
+use lib.ListN.{length, getD, take, drop, length-append, drop-of-length-le}
 use lib.Seq.{sets, take-length, drop-cons}
+use Rattle.basics.proofs.ChoiceLaws.{holds, is-true, and-left, and-right}
 use Rattle.basics.proofs.Stores.{sets-append, sets-front}
+use Rattle.modules.specs.Power.{powerInRange}
+use Rattle.modules.specs.Stage.{modulesInRange}
 use Rattle.modules.specs.declared.power.Module.{Module}
+use Rattle.supervisor.specs.Range.{watchInRange, inRange}
+use Rattle.supervisor.specs.declared.state.Mode.{Mode}
+use Rattle.supervisor.specs.declared.state.Mode.the-variants.{DeployWait, Recovery, Safe}
 use Rattle.supervisor.specs.declared.state.State.{State}
 use Rattle.supervisor.proofs.ModuleLaws.{Eight}
-use Rattle.flight.specs.Saving.{imageBytes, modulesPlace, moduleBytes, modulesBytes, headBytes, saved}
+use Rattle.supervisor.proofs.RangeLaws.{parts, phase-in-range}
+use Rattle.flight.specs.Fields.{pairBytes}
+use Rattle.flight.specs.Codes.{safeCode, modeCode, moduleCode}
+use Rattle.flight.specs.Saving.{imageBytes, modulesPlace, modulesBytes, headBytes, saved}
+use Rattle.flight.proofs.CodesLaws.{modeInRange, mode-small}
 
--- four bytes a module
-length-modules : (ms : List Module) → length (modulesBytes ms) ≡ 4 * length ms
+-- two bytes a module
+length-modules : (ms : List Module) → length (modulesBytes ms) ≡ 2 * length ms
 unfolding modulesBytes
 length-modules [] = refl
 length-modules (m ∷ ms) = omega (arith, length-modules ms)
@@ -23,25 +36,43 @@ pub length-saved : (s : State) → Eight s → length (saved s) ≡ imageBytes
 unfolding saved headBytes
 length-saved s eight = omega (arith, length-append (headBytes s) (modulesBytes (s .modules)), length-modules (s .modules))
 
+-- of a state in range, the mode and each module are in range
+
+watch-mode : (m : Mode) (control beacon : ℕ) → T (watchInRange m control beacon) → T (modeInRange m)
+watch-mode (DeployWait phase) control beacon h = phase-in-range phase control beacon h
+watch-mode Recovery control beacon h = tt
+watch-mode Safe control beacon h = tt
+
+module _ (s : State) (e : inRange s ≡ true) where
+  pub mode-in-range : T (modeInRange (s .watch .mode))
+  mode-in-range = watch-mode (s .watch .mode) (s .watch .control) (s .watch .beacon) (parts s (holds (inRange s) e) .watch)
+
+  pub mode-code-small : modeCode (s .watch .mode) ≤ safeCode
+  mode-code-small = mode-small (s .watch .mode) mode-in-range
+
+  pub modules-in-range : modulesInRange (s .modules) ≡ true
+  modules-in-range = is-true (modulesInRange (s .modules)) (parts s (holds (inRange s) e) .modules)
+
+pub module-in-range : (ms : List Module) (i : ℕ) (d : Module) → i < length ms → T (modulesInRange ms) → T (powerInRange (getD ms i d .power))
+unfolding modulesInRange
+module-in-range [] i d h r = absurd (not-suc-le-zero h)
+module-in-range (m ∷ ms) zero d h r = and-left (powerInRange (m .power)) (modulesInRange ms) r
+module-in-range (m ∷ ms) (suc i) d h r = module-in-range ms i d (le-of-suc-le-suc h) (and-right (powerInRange (m .power)) (modulesInRange ms) r)
+
 -- storing, part by part
 
-pub stored-module : (room : List ℕ) (at power high low requested : ℕ)
-    → set (set (set (set room at power) (at + 1) high) (at + 2) low) (at + 3) requested ≡ sets room at (power ∷ high ∷ low ∷ requested ∷ [])
-stored-module room at power high low requested =
-    let two : at + 2 ≡ suc (suc at) = omega arith in
-    let three : at + 3 ≡ suc (suc (suc at)) = omega arith in
-    rw (add-one, two, three)
-
-pub stored-turn : (ms : List Module) (i at : ℕ) (room : List ℕ) (d : Module) → i < length ms
-    → sets (sets room at (moduleBytes (getD ms i d))) (at + 4) (modulesBytes (drop (i + 1) ms)) ≡ sets room at (modulesBytes (drop i ms))
+pub stored-turn :
+    (ms : List Module) (i at : ℕ) (room : List ℕ) (d : Module) → i < length ms →
+    sets (sets room at (pairBytes (moduleCode (getD ms i d)))) (at + 2) (modulesBytes (drop (i + 1) ms)) ≡ sets room at (modulesBytes (drop i ms))
 unfolding modulesBytes
 stored-turn ms i at room d h =
     let rest : drop i ms ≡ getD ms i d ∷ drop (i + 1) ms = rw add-one (drop-cons ms i d h) in
-    rw rest (sym (sets-append (moduleBytes (getD ms i d)) (modulesBytes (drop (i + 1) ms)) room at))
+    rw rest (sym (sets-append (pairBytes (moduleCode (getD ms i d))) (modulesBytes (drop (i + 1) ms)) room at))
 
 -- the modules after a head that was copied
-pub stored-state : (s : State) (head room : List ℕ) → head ≡ headBytes s → Eight s → length room ≡ imageBytes
-    → sets (take (length head) head ++ drop (length head) room) modulesPlace (modulesBytes (s .modules)) ≡ saved s
+pub stored-state :
+    (s : State) (head room : List ℕ) → head ≡ headBytes s → Eight s → length room ≡ imageBytes →
+    sets (take (length head) head ++ drop (length head) room) modulesPlace (modulesBytes (s .modules)) ≡ saved s
 unfolding saved headBytes
 stored-state s head room e eight fits =
     let n = length-saved s eight in

@@ -1,4 +1,5 @@
 pub mod Fields
+pub mod Codes
 pub mod Saving
 pub mod Loading
 pub mod Calls

@@ -1,4 +1,4 @@
-// What C and Rust call. An image is the caller's: 53 bytes, the whole state.
+// What C and Rust call. An image is the caller's: 34 bytes, the whole state.
 // A slice passes as a pointer and a length, a count through a pointer; each call answers the page's number.
 ghost use mathlib.Core.Path.{_≡_};
 ghost use Rattle.basics.specs.Outcome.{outcome, reply};
@@ -6,7 +6,8 @@ ghost use Rattle.morse.specs.Keying.{keyReply, keyOf};
 ghost use Rattle.beacon.specs.Writing.{writtenReply};
 ghost use Rattle.beacon.specs.declared.text.Form.the-variants as form;
 ghost use Rattle.flight.specs.Calls.{imaged, freshImage, stepImage, beaconImage, replied, ReadReplied};
-use crate::loading::load;
+use crate::loading::decode;
+use crate::loading::has_layout;
 use crate::saving::IMAGE_BYTES;
 use crate::saving::save;
 use beacon::text::Form;
@@ -32,15 +33,15 @@ pub extern "C" fn ems_step(image: &mut [u8], frame: &[u8], room: &mut [u8]) -> u
     ensures { λ r. ⌜ outcome (imaged r (now (image .exit))) (now (room .exit))
         ≡ stepImage (now (image .entry)) (now (frame .entry)) (now (room .entry)) ⌝ }
 {
-    let loaded = load(image);
-    if !loaded.ok {
+    if !has_layout(image) {
         return Answer::BadState.number();
     }
-    let state = loaded.state;
+    let state = decode(image);
     let after = supervisor::step::step(state, frame, room);
-    let next = after.state;
     let answer = after.answer;
-    save(next, image);
+    if answer.is_reported() {
+        save(after.state, image);
+    }
     answer.number()
 }
 
@@ -48,11 +49,10 @@ pub extern "C" fn ems_step(image: &mut [u8], frame: &[u8], room: &mut [u8]) -> u
 fn write_beacon(image: &[u8], form: Form, text: &mut [u8]) -> Written
     ensures { λ r. ⌜ outcome r (now (text .exit)) ≡ beaconImage form (now (image .entry)) (now (text .entry)) ⌝ }
 {
-    let loaded = load(image);
-    if !loaded.ok {
+    if !has_layout(image) {
         return Written::BadState;
     }
-    let state = loaded.state;
+    let state = decode(image);
     beacon::writing::write(state, form, text)
 }
 

@@ -1,184 +1,75 @@
-// The state of an image: loaded, where the bytes are the save of a state.
-// What the fields say is compared with the image number by number, so that no other bytes are taken.
+// The state of an image: what its fields say, each number by itself.
+// Numbers that no state in range has make a state out of range, which `step` and the beacon refuse.
 ghost use mathlib.Core.Path.{_≡_};
-ghost use Prim.Native.Nat.{_+_, _≤_};
-ghost use lib.ListN.{length, take, drop};
-ghost use Rattle.supervisor.specs.State.{withModules};
-ghost use Rattle.basics.specs.Bytes.{alike};
-ghost use Rattle.flight.specs.Saving.{imageBytes, modulesPlace, moduleBytes, modulesBytes, headBytes};
-ghost use Rattle.flight.specs.Loading.{modeFrom, powerFrom, moduleFrom, modulesIn, decoded, found, loaded};
-use crate::fields::flag;
-use crate::fields::long_at;
-use crate::fields::word_at;
+ghost use lib.ListN.{length};
+ghost use Rattle.flight.specs.Saving.{imageBytes};
+ghost use Rattle.flight.specs.Loading.{hasLayout, modulesIn, decoded};
+use crate::codes::mode_from;
+use crate::codes::module_from;
+use crate::fields::pair_at;
 use crate::saving::IMAGE_BYTES;
 use crate::saving::MODULE_COUNT;
 use crate::saving::MODULES_PLACE;
 use crate::saving::VERSION;
-use crate::saving::phase_number;
-use crate::saving::phase_seconds;
-use crate::saving::power_left;
-use crate::saving::power_number;
 use frames::serial::Serials;
 use modules::power::Module;
 use modules::power::Power;
-use supervisor::fresh::fresh;
 use supervisor::state::Battery;
-use supervisor::state::Mode;
-use supervisor::state::Phase;
 use supervisor::state::State;
 use supervisor::state::Watch;
 
-// A mode by its number, and by the number and the seconds of its phase.
-fn mode_from(mode: u8, phase: u8, seconds: u32) -> Mode
-    ensures { λ r. ⌜ r ≡ modeFrom mode phase seconds ⌝ }
+// Whether the bytes are of this layout: their number, the version, and antennas that are 0 or 1.
+pub(crate) fn has_layout(image: &[u8]) -> bool
+    ensures { λ r. ⌜ r ≡ hasLayout (now (image .entry)) ⌝ }
 {
-    if mode == 1 {
-        return Mode::Recovery;
+    if image.len() != IMAGE_BYTES {
+        return false;
     }
-    if mode == 2 {
-        return Mode::Safe;
-    }
-    if phase == 2 {
-        return Mode::DeployWait(Phase::Settling((seconds % 65536) as u16));
-    }
-    Mode::DeployWait(Phase::Waiting(seconds))
+    (image[0] == VERSION) & (image[7] <= 1)
 }
 
-// A power by its number, and what it has left.
-fn power_from(power: u8, left: u16) -> Power
-    ensures { λ r. ⌜ r ≡ powerFrom power left ⌝ }
-{
-    if power == 1 {
-        return Power::Off((left % 256) as u8);
-    }
-    if power == 2 {
-        return Power::Failed(left);
-    }
-    Power::On
-}
-
-// The module that stands at a place.
-fn module_from(image: &[u8], at: usize) -> Module
-    requires { ⌜ at + 4 ≤ length (now image) ⌝ }
-    ensures { λ r. ⌜ r ≡ moduleFrom at (now (image .entry)) ⌝ }
-{
-    Module {
-        power: power_from(image[at], word_at(image, at + 1)),
-        requested: image[at + 3] == 1,
-    }
-}
-
-// Whether the first bytes of an image are a state's.
-fn is_head(state: State, image: &[u8]) -> bool
+// The eight modules of an image. The loop goes by the image's length, which the compiler does not know: it stays a loop.
+fn modules_in(image: &[u8]) -> [Module; MODULE_COUNT]
     requires { ⌜ length (now image) ≡ imageBytes ⌝ }
-    ensures { λ r. ⌜ r ≡ alike (headBytes state) (take modulesPlace (now (image .entry))) ⌝ }
-{
-    let watch = state.watch;
-    let mode = watch.mode;
-    let seconds = phase_seconds(mode);
-    let battery = state.battery;
-    let serials = state.serials;
-    (VERSION == image[0])
-        & (mode.number() == image[1])
-        & (phase_number(mode) == image[2])
-        & ((seconds / 65536) as u16 == word_at(image, 3))
-        & ((seconds % 65536) as u16 == word_at(image, 5))
-        & (watch.control == image[7])
-        & (watch.beacon == word_at(image, 8))
-        & (flag(state.antennas) == image[10])
-        & (battery.tension == word_at(image, 11))
-        & (battery.ascend == word_at(image, 13))
-        & (battery.descend == word_at(image, 15))
-        & (serials.ground == word_at(image, 17))
-        & (serials.payload == word_at(image, 19))
-}
-
-// Whether the bytes at a place are a module's.
-fn is_module(m: Module, image: &[u8], at: usize) -> bool
-    requires { ⌜ at + 4 ≤ length (now image) ⌝ }
-    ensures { λ r. ⌜ r ≡ alike (moduleBytes m) (take 4 (drop at (now (image .entry)))) ⌝ }
-{
-    let power = m.power;
-    (power_number(power) == image[at])
-        & (power_left(power) == word_at(image, at + 1))
-        & (flag(m.requested) == image[at + 3])
-}
-
-// What was loaded of the modules: whether the last bytes of an image are theirs, and they.
-struct LoadedModules {
-    ok: bool,
-    modules: [Module; MODULE_COUNT],
-}
-
-// The eight modules of an image, and whether its last bytes are theirs.
-fn modules_in(image: &[u8]) -> LoadedModules
-    requires { ⌜ length (now image) ≡ imageBytes ⌝ }
-    ensures { λ r. ⌜ (r .modules ≡ modulesIn (now (image .entry)))
-        × (r .ok ≡ alike (modulesBytes (modulesIn (now (image .entry)))) (drop modulesPlace (now (image .entry)))) ⌝ }
+    ensures { λ r. ⌜ r ≡ modulesIn (now (image .entry)) ⌝ }
 {
     let blank = Module {
         power: Power::On,
         requested: false,
     };
     let mut modules = [blank; MODULE_COUNT];
-    let mut ok = true;
     let mut i: usize = 0;
-    while i < MODULE_COUNT {
-        let at = MODULES_PLACE + 4 * i;
-        let m = module_from(image, at);
-        ok = ok & is_module(m, image, at);
-        modules[i] = m;
+    let mut at: usize = MODULES_PLACE;
+    while at < image.len() {
+        modules[i] = module_from(pair_at(image, at));
         i += 1;
+        at += 2;
     }
-    LoadedModules { ok, modules }
+    modules
 }
 
-// The state that the fields of an image say, with its modules, be it one that was saved or not.
-fn decode(image: &[u8], modules: [Module; MODULE_COUNT]) -> State
+// The state that the fields of an image say, in range or not.
+pub(crate) fn decode(image: &[u8]) -> State
     requires { ⌜ length (now image) ≡ imageBytes ⌝ }
-    ensures { λ r. ⌜ r ≡ withModules modules (decoded (now (image .entry))) ⌝ }
+    ensures { λ r. ⌜ r ≡ decoded (now (image .entry)) ⌝ }
 {
+    let modules = modules_in(image);
     State {
         watch: Watch {
-            mode: mode_from(image[1], image[2], long_at(image, 3)),
-            control: image[7],
-            beacon: word_at(image, 8),
+            mode: mode_from((pair_at(image, 1) as u32) + (image[3] as u32) * 65536),
+            control: image[4],
+            beacon: pair_at(image, 5),
         },
-        antennas: image[10] == 1,
+        antennas: image[7] == 1,
         battery: Battery {
-            tension: word_at(image, 11),
-            ascend: word_at(image, 13),
-            descend: word_at(image, 15),
+            tension: pair_at(image, 8),
+            ascend: pair_at(image, 10),
+            descend: pair_at(image, 12),
         },
         serials: Serials {
-            ground: word_at(image, 17),
-            payload: word_at(image, 19),
+            ground: pair_at(image, 14),
+            payload: pair_at(image, 16),
         },
         modules,
-    }
-}
-
-// Whether the bytes are the save of a state, and of which.
-pub(crate) struct Loaded {
-    pub(crate) ok: bool,
-    pub(crate) state: State,
-}
-
-// The state of which the bytes are the save, if there is one.
-pub(crate) fn load(image: &[u8]) -> Loaded
-    ensures { λ r. ⌜ found r ≡ loaded (now (image .entry)) ⌝ }
-{
-    if image.len() != IMAGE_BYTES {
-        return Loaded {
-            ok: false,
-            state: fresh(),
-        };
-    }
-    let read = modules_in(image);
-    let modules = read.modules;
-    let state = decode(image, modules);
-    Loaded {
-        ok: is_head(state, image) & read.ok,
-        state,
     }
 }

@@ -1,7 +1,7 @@
 //! Images from a seed: of states in range, at the ranges' ends, and outside.
 
 use crate::rng::Rng;
-use model::image::{self, at};
+use model::image::{self, at, code};
 use model::state::{
     Last, Mode, Module, Power, CONTROL_TICKS, FAILED_SECONDS, SETTLE_SECONDS, TRIES, WAIT_SECONDS,
 };
@@ -67,11 +67,59 @@ pub fn good(rng: &mut Rng) -> Vec<u8> {
     image::save(&state(rng)).to_vec()
 }
 
-/// Bytes that mostly are no image: a byte or two of a good one changed, another
-/// length, or noise behind a version.
+/// Numbers of modes around the ends of what each says, and beyond the last.
+const MODES: [u32; 13] = [
+    0,
+    1,
+    code::SETTLING - 1,
+    code::SETTLING,
+    code::SETTLING + 1,
+    code::SETTLING + 2,
+    code::RECOVERY - 2,
+    code::RECOVERY - 1,
+    code::RECOVERY,
+    code::SAFE,
+    code::SAFE + 1,
+    code::SAFE + 2,
+    0xFF_FFFF,
+];
+
+/// Numbers of powers around the ends of what each says, and beyond the last.
+const POWERS: [u16; 11] = [
+    0,
+    1,
+    TRIES,
+    code::FAILED,
+    code::FAILED + 1,
+    code::FAILED + FAILED_SECONDS - 1,
+    code::FAILED + FAILED_SECONDS,
+    code::FAILED + FAILED_SECONDS + 1,
+    code::FAILED + FAILED_SECONDS + 2,
+    code::REQUESTED - 2,
+    code::REQUESTED - 1,
+];
+
+/// Sets an image's mode by its number.
+pub fn set_mode(bytes: &mut [u8], number: u32) {
+    bytes[at::MODE..at::CONTROL].copy_from_slice(&number.to_le_bytes()[..3]);
+}
+
+/// Sets a module of an image by its number.
+pub fn set_module(bytes: &mut [u8], place: usize, number: u16) {
+    let begin = at::MODULES + 2 * place;
+    bytes[begin..begin + 2].copy_from_slice(&number.to_le_bytes());
+}
+
+/// Sets both counts of an image to 0, which is in range in every mode.
+pub fn clear_counts(bytes: &mut [u8]) {
+    bytes[at::CONTROL..at::ANTENNAS].fill(0);
+}
+
+/// Bytes that often are no image: a number of a mode or of modules at an edge, a
+/// tag beside the right ones, a byte or two changed, another length, noise.
 pub fn damaged(rng: &mut Rng) -> Vec<u8> {
     let mut bytes = good(rng);
-    match rng.below(8) {
+    match rng.below(10) {
         0 => {
             let length = rng.below(70);
             bytes.resize(length, 0);
@@ -81,9 +129,26 @@ pub fn damaged(rng: &mut Rng) -> Vec<u8> {
             bytes[at::VERSION] = image::VERSION;
         }
         2 => {
-            // Small numbers everywhere: the tags are often right.
+            // Small numbers everywhere.
             bytes = (0..image::BYTES).map(|_| rng.below(3) as u8).collect();
         }
+        3 => {
+            set_mode(&mut bytes, rng.pick(&MODES));
+            if rng.once_in(2) {
+                clear_counts(&mut bytes);
+            }
+        }
+        4 => {
+            for _ in 0..=rng.below(3) {
+                let requested = rng.pick(&[0, code::REQUESTED]);
+                let number = requested + rng.pick(&POWERS);
+                set_module(&mut bytes, rng.below(8), number);
+            }
+        }
+        5 => match rng.below(2) {
+            0 => bytes[at::VERSION] = rng.pick(&[0, 1, 3]),
+            _ => bytes[at::ANTENNAS] = rng.pick(&[2, 3, 128, 255]),
+        },
         _ => {
             for _ in 0..=rng.below(2) {
                 let place = rng.below(bytes.len());

@@ -7,7 +7,7 @@ use differential::rng::Rng;
 use differential::shrink::tell_flight;
 use differential::sides::{Calls, MODEL};
 use model::image::{self, at};
-use model::state::{Mode, CONTROL_TICKS};
+use model::state::{Mode, CONTROL_TICKS, FAILED_SECONDS};
 use model::{report, table, State};
 
 /// What a group says of a faulty side.
@@ -72,7 +72,8 @@ fn judges_at_equality(image: &mut [u8], frame: &[u8], room: &mut [u8]) -> u8 {
     let crosses = frame == [table::TICK, 0] && image::load(image).is_some_and(at_descend);
     let answer = model::calls::step(image, frame, room);
     if crosses && answer == 0 {
-        image[at::MODE] = Mode::Recovery.number();
+        let mode = image::code::RECOVERY.to_le_bytes();
+        image[at::MODE..at::CONTROL].copy_from_slice(&mode[..3]);
     }
     answer
 }
@@ -92,8 +93,7 @@ fn misreads_when_deployed(image: &mut [u8], frame: &[u8], room: &mut [u8]) -> u8
     let answer = model::calls::step(image, frame, room);
     let reading = frame.first() == Some(&table::BATTERY);
     if answer == 0 && reading && image[at::ANTENNAS] == 1 {
-        let low = at::TENSION + 1;
-        image[low] ^= 1;
+        image[at::TENSION] ^= 1;
     }
     answer
 }
@@ -110,6 +110,28 @@ fn a_long_flight_from_the_fresh_start_comes_out_as_two_frames() {
     let start = image::save(&State::fresh());
     let told = tell_flight(&[faulty, MODEL], &start, shots);
     assert_eq!(frames(&told), 2, "{told}");
+}
+
+/// Takes a module that is failed for a second too long.
+fn takes_601_seconds(image: &mut [u8], frame: &[u8], room: &mut [u8]) -> u8 {
+    let past = (image::code::FAILED + FAILED_SECONDS + 1).to_le_bytes();
+    let last = at::MODULES..image.len() - 1;
+    for begin in last.step_by(2) {
+        if image[begin..begin + 2] == past {
+            image[begin] -= 1;
+        }
+    }
+    model::calls::step(image, frame, room)
+}
+
+#[test]
+fn a_number_past_the_last_is_found() {
+    let faulty = Calls {
+        step: takes_601_seconds,
+        ..MODEL
+    };
+    let told = told("every number of a mode and a module", faulty);
+    assert_eq!(frames(&told), 1, "{told}");
 }
 
 /// Reads units with a gap behind the last sign.

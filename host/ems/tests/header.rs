@@ -1,7 +1,7 @@
 //! The header and the wrapper say the same, and programs in C and C++ build
 //! with the header and fly with the library.
 
-use ems::answer;
+use ems::{answer, Craft};
 use std::{path::Path, process::Command};
 
 const HEADER: &str = include_str!("../../../include/ems.h");
@@ -30,6 +30,12 @@ fn lengths_are_the_header_s() {
     ] {
         assert_eq!(number(name), Some(value), "{name}");
     }
+}
+
+#[test]
+fn the_version_is_the_header_s() {
+    let version = Craft::fresh().image()[0];
+    assert_eq!(number("EMS_IMAGE_VERSION"), Some(version.into()));
 }
 
 #[test]

@@ -42,8 +42,8 @@ fn a_mask_is_read_as_its_modules() {
 
 #[test]
 fn the_modes_are_the_header_s() {
-    let modes = Mode::ALL.map(|mode| format!("{} {mode}", mode.number()));
-    assert!(HEADER.contains(&format!("mode: {}\n", modes.join(", "))));
+    let modes = Mode::ALL.map(|mode| format!("EMS_{mode} = {}", mode.number()));
+    assert!(HEADER.contains(&format!("enum ems_mode {{ {} }};\n", modes.join(", "))));
     for number in 0..=u8::MAX {
         let found = Mode::of(number);
         assert!(found.is_none_or(|mode| mode.number() == number));

@@ -7,7 +7,7 @@ use crate::images;
 use crate::rng::Rng;
 use crate::shrink::Shot;
 use crate::sides::Calls;
-use model::image::{self, at};
+use model::image;
 use model::state::{Last, Mode};
 use model::table::{self, FROM_GROUND, FROM_PAYLOAD};
 use model::State;
@@ -43,7 +43,7 @@ pub fn longest_wait(sides: &[Calls; 2], rng: &mut Rng) -> Verdict {
     };
     let shots = (0..88_000).map(|_| tick(rng)).collect();
     let (steps, end) = fly(sides, &image::save(&State::fresh()), shots)?;
-    if end[at::MODE] != Mode::Recovery.number() {
+    if !image::load(&end).is_some_and(|state| state.mode == Mode::Recovery) {
         return Err(format!("not in RECOVERY: {}", hex(&end)));
     }
     Ok(steps)

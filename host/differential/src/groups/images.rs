@@ -42,6 +42,29 @@ pub fn image_bytes(sides: &[Calls; 2], rng: &mut Rng) -> Verdict {
     Ok(made)
 }
 
+/// Every number of a mode up to some beyond the last, then others, and every
+/// number of a module: a tick's step.
+pub fn codes(sides: &[Calls; 2], rng: &mut Rng) -> Verdict {
+    let mut made = 0;
+    let mut step = |bytes: &[u8], shorts: u8| -> Result<(), String> {
+        made += fly(sides, bytes, vec![(vec![TICK, shorts], ROOM)])?.0;
+        Ok(())
+    };
+    let beyond = (100_000..1 << 24).step_by(997);
+    for number in (0..100_000).chain(beyond) {
+        let mut bytes = images::good(rng);
+        images::set_mode(&mut bytes, number);
+        images::clear_counts(&mut bytes);
+        step(&bytes, 0)?;
+    }
+    for number in 0..=u16::MAX {
+        let mut bytes = images::good(rng);
+        images::set_module(&mut bytes, rng.below(8), number);
+        step(&bytes, rng.byte())?;
+    }
+    Ok(made)
+}
+
 /// Images in and out of range, of any length: a frame of any kind and beacons.
 pub fn damaged_images(sides: &[Calls; 2], rng: &mut Rng) -> Verdict {
     let mut made = 0;

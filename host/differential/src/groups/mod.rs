@@ -21,7 +21,7 @@ pub type Verdict = Result<u64, String>;
 pub type Group = (&'static str, fn(&[Calls; 2], &mut Rng) -> Verdict);
 
 /// All groups.
-pub const GROUPS: [Group; 13] = [
+pub const GROUPS: [Group; 14] = [
     ("fresh start, every length", images::fresh_starts),
     ("flights by the table", |sides, rng| {
         flights::of(sides, rng, Maker::Structured, 4_000_000)
@@ -39,6 +39,7 @@ pub const GROUPS: [Group; 13] = [
     ("every room length", flights::rooms),
     ("every serial", flights::serials),
     ("every value of every image byte", images::image_bytes),
+    ("every number of a mode and a module", images::codes),
     ("damaged images", images::damaged_images),
     ("every text of up to 2 bytes", texts::short_texts),
     ("texts of up to 70 bytes", texts::any_texts),

@@ -1,6 +1,11 @@
 -- `flight::calls::ems_fresh` meets its contract: the test is the rule's.
+use mathlib.Core.Path.{ap, _∙_}
 use borrow.Author.Tests.{eq-eqb, ne-eqb}
 use borrow.Author.Needs.{needs}
+use Rattle.basics.proofs.ChoiceLaws.{is-true}
+use Rattle.supervisor.specs.Fresh.{freshState}
+use Rattle.supervisor.specs.Range.{inRange}
+use Rattle.supervisor.proofs.FreshLaws.{fresh-in-range}
 use Rattle.flight.specs.Calls.{freshImage}
 use Rattle.flight.proofs.calls.ems_fresh.Statement.{statement}
 use Rattle.flight.proofs.calls.ems_fresh.Tie as tie
@@ -16,7 +21,7 @@ fresh-requires : tie.Need-fresh-requires
 fresh-requires c κs = search needs
 
 save-requires : tie.Need-save-requires
-save-requires c κs = search needs
+save-requires c κs = (search needs, ap inRange (c .before .fresh .ensures) ∙ is-true (inRange freshState) fresh-in-range)
 
 number-requires-2 : tie.Need-number-requires-2
 number-requires-2 c κs = search needs

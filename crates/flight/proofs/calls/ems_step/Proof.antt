@@ -1,15 +1,21 @@
--- `flight::calls::ems_step` meets its contract: an image with no state is refused, any other becomes that of the next state.
-use mathlib.Core.Path.{_≡_}
-use mathlib.Core.Option.{some}
+-- `flight::calls::ems_step` meets its contract: bytes of another layout are refused; else the state that they say is worked, and its image
+-- becomes the next state's if a report was written.
+use mathlib.Core.Path.{_≡_, sym, ap, _∙_}
+use mathlib.Core.Bool.{true}
+use mathlib.Core.Logic.{⊎-elim}
+use borrow.Author.Tests.{not-true, not-false}
 use borrow.Author.Needs.{needs}
-use Rattle.flight.specs.Loading.{loaded}
-use Rattle.flight.proofs.LoadSave.{not-loaded, is-loaded, loaded-length}
-use Rattle.flight.proofs.CallsLaws.{step-refused, step-taken}
+use Rattle.basics.specs.Outcome.{outcome}
+use Rattle.frames.specs.Answer.{isReported}
+use Rattle.supervisor.specs.Step.{stepOf}
+use Rattle.flight.specs.Loading.{hasLayout, decoded}
+use Rattle.flight.proofs.LoadingLaws.{layout}
+use Rattle.flight.proofs.CallsLaws.{step-foreign, step-reported, step-refused, both-in-range}
 use Rattle.flight.proofs.calls.ems_step.Statement.{statement}
 use Rattle.flight.proofs.calls.ems_step.Tie as tie
 
-load-requires : tie.Need-load-requires
-load-requires c κs = search needs
+has-layout-requires : tie.Need-has-layout-requires
+has-layout-requires c κs = search needs
 
 number-requires : tie.Need-number-requires
 number-requires c κs = search needs
@@ -19,44 +25,67 @@ same-length c = search needs
 
 returns : tie.Need-returns
 returns c =
-    let load = c .before .before .before .load in
-    simp (c .number .ensures) (step-refused _ _ _ (not-loaded (load .result) _ (load .ensures) (c .before .if1 .taken)))
+    let test = c .before in
+    simp (c .number .ensures) (step-foreign _ _ (sym (test .before .has-layout .ensures) ∙ not-true _ (test .if1 .taken)) _)
 
--- past the test, the image has the state that was loaded
-has-state : (c : tie.Else1) → loaded (c .before .before .before .before .before .before .before .args .image .now) ≡ some (c .before .before .load .result .state)
-has-state c = is-loaded (c .before .before .load .result) _ (c .before .before .load .ensures) (c .if1 .left)
+-- past the test, the image has the layout
+own : (c : tie.Else1) → hasLayout (c .before .before .before .before .before .before .args .image .now) ≡ true
+own c = sym (c .before .has-layout .ensures) ∙ not-false _ (c .if1 .left)
+
+decode-requires : tie.Need-decode-requires
+decode-requires c κs = layout _ (own (c .before)) .size
 
 step-requires : tie.Need-step-requires
 step-requires c κs = search needs
 
+is-reported-requires : tie.Need-is-reported-requires
+is-reported-requires c κs = search needs
+
 save-requires : tie.Need-save-requires
-save-requires c κs = loaded-length _ _ (has-state (c .before .before .before .before .before .before .before))
+save-requires c κs =
+    let reported = c .before .before in
+    let step = reported .before .before .before in
+    let decode = step .before .before in
+    let test = decode .before .before in
+    let both =
+    both-in-range _ _ (own test) _ (decode .decode .ensures) _ (step .step .result) _ (step .step .ensures) (sym (reported .is-reported .ensures) ∙ c .before .if2 .taken) in
+    (layout _ (own test) .size, search (both))
 
 number-requires-2 : tie.Need-number-requires-2
 number-requires-2 c κs = search needs
 
 same-length-2 : tie.Need-same-length-2
-same-length-2 c = search needs
+same-length-2 c = ⊎-elim (λ w. search needs) (λ w. search needs) (c .before .if2 .came)
 
 same-length-3 : tie.Need-same-length-3
 same-length-3 c = search needs
 
 returns-2 : tie.Need-returns-2
 returns-2 c =
-    let save = c .before .before .before in
-    let step = save .before .before .before .before .before in
-    simp (c .number2 .ensures, save .save .ensures)
-    (step-taken _ _ _ _ (step .step .result) (has-state (step .before .before .before)) (step .step .ensures))
+    let reported = c .before .before in
+    let step = reported .before .before .before in
+    let decode = step .before .before in
+    let test = decode .before .before in
+    simp (c .number2 .ensures)
+    (⊎-elim
+    (λ w. simp (w .5, w .2 .ensures)
+    (step-reported _ _ (own test) _ (decode .decode .ensures) _ (step .step .result) _ (step .step .ensures) (sym (reported .is-reported .ensures) ∙ w .0 .taken)))
+    (λ w. simp (w .1)
+    (step-refused _ _ (own test) _ (decode .decode .ensures) _ (step .step .result) _ (step .step .ensures)
+    (λ i. test .before .before .before .before .before .slice-known .given i .fits) (sym (reported .is-reported .ensures) ∙ w .0 .left)))
+    (c .before .if2 .came))
 
 pub ems-step-spec : {M : Type 1} → statement M
 ems-step-spec =
     tie.close
     (tie.spec
-    load-requires
+    has-layout-requires
     number-requires
     same-length
     returns
+    decode-requires
     step-requires
+    is-reported-requires
     save-requires
     number-requires-2
     same-length-2

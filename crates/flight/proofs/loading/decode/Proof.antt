@@ -1,44 +1,57 @@
 -- `flight::loading::decode` meets its contract: each field is the rule's.
-use borrow.Author.Needs.{needs}
+use native.Mathlib.Omega.{arith}
 use Rattle.flight.specs.Loading.{decoded}
+use borrow.Author.Needs.{needs}
 use Rattle.flight.proofs.loading.decode.Statement.{statement}
 use Rattle.flight.proofs.loading.decode.Tie as tie
+
+modules-in-requires : tie.Need-modules-in-requires
+modules-in-requires c κs = search needs
+
+pair-at-requires : tie.Need-pair-at-requires
+pair-at-requires c κs = search needs
+
+cast-mode-from : tie.Need-cast-mode-from
+cast-mode-from c = search needs
 
 shared-slice-read-mode-from : tie.Need-shared-slice-read-mode-from
 shared-slice-read-mode-from c = search needs
 
-shared-slice-read-mode-from-2 : tie.Need-shared-slice-read-mode-from-2
-shared-slice-read-mode-from-2 c = search needs
+cast-mode-from-2 : tie.Need-cast-mode-from-2
+cast-mode-from-2 c = omega (arith, c .shared-slice-known2 .given 3)
 
-long-at-requires : tie.Need-long-at-requires
-long-at-requires c κs = search needs
+mul-mode-from : tie.Need-mul-mode-from
+mul-mode-from c = omega (arith, c .shared-slice-known2 .given 3)
+
+add-mode-from : tie.Need-add-mode-from
+add-mode-from c = omega (arith, c .shared-slice-known2 .given 3)
 
 mode-from-requires : tie.Need-mode-from-requires
 mode-from-requires c κs = search needs
 
-shared-slice-read-t10 : tie.Need-shared-slice-read-t10
-shared-slice-read-t10 c = search needs
+shared-slice-read-t12 : tie.Need-shared-slice-read-t12
+shared-slice-read-t12 c = search needs
 
-word-at-requires : tie.Need-word-at-requires
-word-at-requires c κs = search needs
+pair-at-requires-2 : tie.Need-pair-at-requires-2
+pair-at-requires-2 c κs = search needs
 
-shared-slice-read-t14 : tie.Need-shared-slice-read-t14
-shared-slice-read-t14 c = search needs
+shared-slice-read-t16 : tie.Need-shared-slice-read-t16
+shared-slice-read-t16 c = search needs
 
-word-at-requires-2 : tie.Need-word-at-requires-2
-word-at-requires-2 c κs = search needs
+pair-at-requires-3 : tie.Need-pair-at-requires-3
+pair-at-requires-3 c κs = search needs
 
-word-at-requires-3 : tie.Need-word-at-requires-3
-word-at-requires-3 c κs = search needs
+pair-at-requires-4 : tie.Need-pair-at-requires-4
+pair-at-requires-4 c κs = search needs
 
-word-at-requires-4 : tie.Need-word-at-requires-4
-word-at-requires-4 c κs = search needs
+pair-at-requires-5 : tie.Need-pair-at-requires-5
+pair-at-requires-5 c κs = search needs
 
-word-at-requires-5 : tie.Need-word-at-requires-5
-word-at-requires-5 c κs = search needs
+pair-at-requires-6 : tie.Need-pair-at-requires-6
+pair-at-requires-6 c κs = search needs
 
-word-at-requires-6 : tie.Need-word-at-requires-6
-word-at-requires-6 c κs = search needs
+pair-at-requires-7 : tie.Need-pair-at-requires-7
+pair-at-requires-7 c κs = search needs
 
 returns : tie.Need-returns
 unfolding decoded
@@ -49,31 +62,37 @@ returns c =
     let tension = ascend .before in
     let beacon = tension .before .before in
     let mode = beacon .before .before in
+    let low = mode .before .before in
     simp (
-      c .word-at6 .ensures,
-      ground .word-at5 .ensures,
-      descend .word-at4 .ensures,
-      ascend .word-at3 .ensures,
-      tension .word-at2 .ensures,
-      beacon .word-at .ensures,
+      c .pair-at7 .ensures,
+      ground .pair-at6 .ensures,
+      descend .pair-at5 .ensures,
+      ascend .pair-at4 .ensures,
+      tension .pair-at3 .ensures,
+      beacon .pair-at2 .ensures,
       mode .mode-from .ensures,
-      mode .before .long-at .ensures,
+      low .pair-at .ensures,
+      low .before .modules-in .ensures,
     )
 
 pub decode-spec : {M : Type 1} → statement M
 decode-spec =
     tie.close
     (tie.spec
+    modules-in-requires
+    pair-at-requires
+    cast-mode-from
     shared-slice-read-mode-from
-    shared-slice-read-mode-from-2
-    long-at-requires
+    cast-mode-from-2
+    mul-mode-from
+    add-mode-from
     mode-from-requires
-    shared-slice-read-t10
-    word-at-requires
-    shared-slice-read-t14
-    word-at-requires-2
-    word-at-requires-3
-    word-at-requires-4
-    word-at-requires-5
-    word-at-requires-6
+    shared-slice-read-t12
+    pair-at-requires-2
+    shared-slice-read-t16
+    pair-at-requires-3
+    pair-at-requires-4
+    pair-at-requires-5
+    pair-at-requires-6
+    pair-at-requires-7
     returns)

@@ -1,11 +1,11 @@
 -- `flight::saving::save` meets its contract: the head, then the modules, fill the image.
 use mathlib.Core.Path.{_≡_, ap, _∙_}
 use lib.Seq.{sets}
-use borrow.Author.Needs.{needs}
 use Rattle.basics.proofs.EachLaws.{length-mapped}
 use Rattle.supervisor.proofs.ModuleLaws.{Eight}
 use Rattle.flight.specs.Saving.{modulesPlace, modulesBytes}
-use Rattle.flight.proofs.SavingLaws.{stored-state}
+use Rattle.flight.proofs.SavingLaws.{modules-in-range, stored-state}
+use borrow.Author.Needs.{needs}
 use Rattle.flight.proofs.saving.save.Statement.{statement}
 use Rattle.flight.proofs.saving.save.Tie as tie
 
@@ -19,7 +19,9 @@ copy-requires : tie.Need-copy-requires
 copy-requires c κs = search needs
 
 put-modules-requires : tie.Need-put-modules-requires
-put-modules-requires c κs = search needs
+put-modules-requires c κs =
+    let start : tie.Start = c .before .before .before .before .before .before .before .before .before in
+    (search needs, modules-in-range (start .args .state) (start .pre .1))
 
 same-length : tie.Need-same-length
 same-length c = search needs
@@ -32,7 +34,7 @@ returns c =
     let copy = c .before .before .before .before .before .before in
     c .before .before .put-modules .ensures
     ∙ ap (λ r. sets r modulesPlace (modulesBytes (s .modules))) (copy .copy .ensures .1)
-    ∙ stored-state s _ (start .args .image .now) (copy .before .before .before .head .ensures) eight (start .pre)
+    ∙ stored-state s _ (start .args .image .now) (copy .before .before .before .head .ensures) eight (start .pre .0)
 
 pub save-spec : {M : Type 1} → statement M
 save-spec =
