@@ -17,24 +17,22 @@ use Rattle.supervisor.proofs.ActLaws.{watch-still}
 use Rattle.supervisor.proofs.BeforeModulesLaws.{before-eight}
 use Rattle.supervisor.proofs.FreshLaws.{fresh-eight, fresh-requested, fresh-off}
 use Rattle.supervisor.proofs.HistoryLaws.{Comes, stopped, ticking, other, comes, called-eight, after-eight, after-append}
-use Rattle.supervisor.proofs.ModuleLaws.{Eight, mission-low}
+use Rattle.supervisor.proofs.ModuleLaws.{Eight}
 use Rattle.supervisor.proofs.SwitchLaws.{act-power, on-requested}
 use Rattle.supervisor.proofs.TickLaws.{Ticks, waits, runs, ticks, ticked-flies}
-use Rattle.promises.specs.AsTold.{AsTold, said, lastWord}
+use Rattle.promises.specs.AsTold.{AsTold, Requested, OnAfter, crossing, said, lastWord}
 use Rattle.promises.proofs.Requests.{called-said}
 
 -- the requests of a history
 after-said :
-    (mission : Bool) (i : ℕ) → i < moduleCount → isMission i ≡ mission → (cs : List Call) (s : State) (word : Bool) → Eight s → moduleAt i s .requested ≡ word →
-    moduleAt i (after s cs) .requested ≡ lastWord mission i word s cs
-after-said mission i low e [] s word n h = h
-after-said mission i low e (c ∷ cs) s word n h =
-    after-said mission i low e cs (called s c .result .state) (said mission i s c word) (called-eight s c n) (called-said i low mission e s n c ∙ ap (said mission i s c) h)
+    (i : ℕ) → i < moduleCount → (cs : List Call) (s : State) (word : Bool) → Eight s → moduleAt i s .requested ≡ word →
+    moduleAt i (after s cs) .requested ≡ lastWord crossing i word s cs
+after-said i low [] s word n h = h
+after-said i low (c ∷ cs) s word n h =
+    after-said i low cs (called s c .result .state) (said crossing i s c word) (called-eight s c n) (called-said i low s n c ∙ ap (said crossing i s c) h)
 
-fresh-said :
-    (mission : Bool) (i : ℕ) → i < moduleCount → isMission i ≡ mission → (cs : List Call) →
-    moduleAt i (after freshState cs) .requested ≡ lastWord mission i (not mission) freshState cs
-fresh-said mission i low e cs = after-said mission i low e cs freshState (not mission) fresh-eight (fresh-requested i low ∙ ap not e)
+fresh-said : Requested crossing
+fresh-said i low cs = after-said i low cs freshState (not (isMission i)) fresh-eight (fresh-requested i low)
 
 module _ (i : ℕ) (low : i < moduleCount) where
   -- in DEPLOY_WAIT the module is off
@@ -69,13 +67,10 @@ module _ (i : ℕ) (low : i < moduleCount) where
   called-asked s c n dark (ticking shorts w) d t = rw (w .leaves) (tick-asked shorts s n dark (ticks shorts s) (rw (w .leaves) at t))
   called-asked s c n dark (other f e w) d t = absurd (rw (w .tick, e) at d)
 
-asked-for :
-    (i : ℕ) → isMission i ≡ true → (cs : List Call) (c : Call) → T (doneTick (after freshState cs) c) →
-    T (isOn (moduleAt i (called (after freshState cs) c .result .state) .power)) → T (lastWord true i false freshState (cs ++ c ∷ []))
-asked-for i m cs c d t =
-    let low : i < moduleCount = mission-low i m in
-    rw (← fresh-said true i low m (cs ++ c ∷ []), after-append cs c freshState)
+asked-for : OnAfter doneTick
+asked-for i low cs c d t =
+    rw (← fresh-said i low (cs ++ c ∷ []), after-append cs c freshState)
     (called-asked i low (after freshState cs) c (after-eight cs freshState fresh-eight) (after-dark i low cs freshState fresh-eight (λ h. fresh-off i low)) (comes (after freshState cs) c) d t)
 
 pub as-told : AsTold
-as-told = record { mission = λ i m. fresh-said true i (mission-low i m) m; core = λ i low m. fresh-said false i low m; askedFor = asked-for }
+as-told = record { requested = fresh-said; askedFor = asked-for }

@@ -12,7 +12,6 @@ use Rattle.basics.proofs.ChoiceLaws.{is-true, within-low, within-high}
 use Rattle.frames.specs.Answer.{answerNumber}
 use Rattle.frames.specs.Serial.{serialCount, staleFrom, distance, classOf, lastOf}
 use Rattle.frames.specs.About.{serialFrom, about}
-use Rattle.frames.specs.Reading.{readFrame}
 use Rattle.frames.specs.declared.sender.Origin.{Origin}
 use Rattle.frames.specs.declared.serial.Class.{Class}
 use Rattle.frames.specs.declared.serial.Class.the-variants.{Repeat, Fresh, Stale}
@@ -28,11 +27,11 @@ use Rattle.supervisor.specs.State.{moduleAt}
 use Rattle.supervisor.specs.declared.acted.Acted.{Acted}
 use Rattle.supervisor.specs.declared.state.State.{State}
 use Rattle.supervisor.proofs.CommandLaws.{Judged, act-answers}
-use Rattle.supervisor.proofs.HistoryLaws.{Works, Comes, stopped, ticking, other, comes, called-read, called-in-range, after-in-range}
+use Rattle.supervisor.proofs.HistoryLaws.{Works, Comes, stopped, ticking, other, comes, called-in-range, after-in-range}
 use Rattle.supervisor.proofs.SerialLaws.{View, foreign, own, view, judged-last, from}
 use Rattle.promises.specs.Serials.{verdict}
-use Rattle.promises.specs.Dawn.{Dawn, Late, NotTaken, stride, movedOn, memory}
-use Rattle.promises.proofs.Serials.{read-verdict}
+use Rattle.promises.specs.Dawn.{Dawn, Old, stride, movedOn, memory}
+use Rattle.promises.proofs.Serials.{call-tells}
 use Rattle.promises.proofs.Refusals.{refusals}
 
 -- what lies at most 32,768 behind is not fresh
@@ -117,15 +116,13 @@ eight-or-nine n true q e f h = rw (eqb-true n 8 e) tt
 eight-or-nine n false true e f h = rw (eqb-true n 9 f) tt
 eight-or-nine n false false e f h = absurd (h refl)
 
-late-not-taken :
-    (origin : Origin) (s : State) (first : Call) (since : List Call) (late : Call) → Late origin s first since late →
-    NotTaken (after (called s first .result .state) since) late
+late-not-taken : Old memory
 late-not-taken origin s first since late l =
     let (valid, last) = taken-last origin s first (l .serial) (l .firstSerial) (l .taken) (comes s first) in
     let t : State = after (called s first .result .state) since in
     let v : T (inRange t) = after-in-range since (called s first .result .state) (called-in-range s first valid) in
     let e : verdict (answered t late) ≡ classOf (l .old) (lastOf origin (t .serials)) =
-    rw (called-read t late v (l .room)) (read-verdict origin (l .old) (readFrame (late .input)) t (late .room) (l .lateSerial)) in
+    call-tells origin (l .old) late (l .room) (l .lateSerial) t v .says in
     let m : lastOf origin (t .serials) % serialCount ≡ (l .serial + movedOn origin (called s first .result .state) since) % serialCount =
     rw last at (after-strides origin since (called s first .result .state)) in
     let old : T (within 8 9 (answered t late)) =

@@ -1,7 +1,9 @@
+pub mod Rules
 pub mod InRange
 pub mod KeyerRefusals
 pub mod BeaconRefusals
 pub mod Refusals
+pub mod OutOfRange
 pub mod Deployment
 pub mod TwoModes
 pub mod TwoControl
@@ -16,3 +18,4 @@ pub mod AsTold
 pub mod BeaconLaws
 pub mod NeverSilent
 pub mod Numbers
+pub mod Edge

@@ -27,14 +27,10 @@ movedOn origin s (c ∷ cs) =
     stride (isTaken (answered s c)) (serialFrom origin (aboutOf c)) (lastOf origin (s .serials))
     + movedOn origin (called s c .result .state) cs
 
--- how far behind, and moved on, together an old frame is still known as old
-abbrev pub memory : ℕ
-memory = 32768
-
 -- a frame of an origin, with its serial, was taken; any calls were made since; now another frame of that origin comes,
 -- with room for its report: its serial is the first's or k behind it, and k and what the origin moved on since are
--- 32,768 at most
-pub record Late (origin : Origin) (s : State) (first : Call) (since : List Call) (late : Call) : Type 0 where
+-- together at most what is remembered
+pub record Late (memory : ℕ) (origin : Origin) (s : State) (first : Call) (since : List Call) (late : Call) : Type 0 where
   pub serial : ℕ
   pub firstSerial : serialFrom origin (aboutOf first) ≡ serial ∷ []
   pub taken : T (isTaken (answered s first))
@@ -51,14 +47,22 @@ pub record NotTaken (s : State) (late : Call) : Type 0 where
   pub state : called s late .result .state ≡ s
 
 -- what is late is not taken
+abbrev pub Old : (memory : ℕ) → Type 0
+Old memory =
+    (origin : Origin) (s : State) (first : Call) (since : List Call) (late : Call) →
+    Late memory origin s first since late → NotTaken (after (called s first .result .state) since) late
+
+-- how far behind, and moved on, together an old frame is still known as old
+abbrev pub memory : ℕ
+memory = 32768
+
+-- what is late is not taken
 pub record Dawn : Type 0 where
-  pub old :
-      (origin : Origin) (s : State) (first : Call) (since : List Call) (late : Call) → Late origin s first since late →
-      NotTaken (after (called s first .result .state) since) late
+  pub old : Old memory
   -- so after a done "off" no older "on" of the same origin brings the module back
   pub off :
       (origin : Origin) (which : ℕ) (s : State) (first : Call) (since : List Call) (late : Call) →
-      (l : Late origin s first since late) →
+      (l : Late memory origin s first since late) →
       aboutOf first ≡ aCommand (record { origin = origin; serial = l .serial }) (Order which false) →
       aboutOf late ≡ aCommand (record { origin = origin; serial = l .old }) (Order which true) →
       moduleAt which (called (after (called s first .result .state) since) late .result .state)

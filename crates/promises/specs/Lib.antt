@@ -1,9 +1,9 @@
-pub mod InRange
-pub mod Refusals
-pub mod Deployment
 pub mod TwoCraft
 pub mod Serials
+pub mod Numbers
+pub mod InRange
 pub mod Dawn
 pub mod AsTold
+pub mod Deployment
+pub mod Refusals
 pub mod NeverSilent
-pub mod Numbers

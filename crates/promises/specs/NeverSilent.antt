@@ -27,16 +27,26 @@ SafeTicks s (c ∷ cs) =
     (T (doneTick s c) → isSafe (called s c .result .state .watch .mode) ≡ true)
     × SafeTicks (called s c .result .state) cs
 
--- done ticks without a beacon are fewer than these: a promise in seconds, whatever the rules call them
+-- from a state that passes a test, a beacon falls due in so many done ticks, whatever is sent between them
+abbrev pub DueIn : (from : State → Bool) → (ticks : ℕ) → Type 0
+DueIn from ticks = (s : State) (cs : List Call) → T (from s) → ticks ≤ doneTicks s cs → T (someDue s cs)
+
+-- the same of done ticks after each of which the mode is SAFE
+abbrev pub DueInSafe : (ticks : ℕ) → Type 0
+DueInSafe ticks = (s : State) (cs : List Call) → SafeTicks s cs → ticks ≤ doneTicks s cs → T (someDue s cs)
+
+-- outside DEPLOY_WAIT
+abbrev pub deployed : State → Bool
+deployed s = not (inDeployWait s)
+
+-- in seconds, whatever the rules call them
 abbrev pub fiveMinutes : ℕ
 fiveMinutes = 300
 
--- and in SAFE than these
 abbrev pub oneMinute : ℕ
 oneMinute = 60
 
--- whatever is sent between the ticks
+-- how long it may be silent at most
 pub record NeverSilent : Type 0 where
-  pub always :
-      (s : State) (cs : List Call) → inDeployWait s ≡ false → fiveMinutes ≤ doneTicks s cs → T (someDue s cs)
-  pub safe : (s : State) (cs : List Call) → SafeTicks s cs → oneMinute ≤ doneTicks s cs → T (someDue s cs)
+  pub always : DueIn deployed fiveMinutes
+  pub safe : DueInSafe oneMinute

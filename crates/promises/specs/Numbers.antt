@@ -1,7 +1,7 @@
 -- Numbers on either side: the fourteen that the page marks to be proved, each through the definition that a public
 -- call's contract cites.
 -- Assumes nothing.
-use Prim.Native.Nat.{ℕ, _-_, _/_, _%_}
+use Prim.Native.Nat.{ℕ, _/_, _%_}
 use mathlib.Core.Path.{_≡_}
 use mathlib.Core.Bool.{Bool, true, false}
 use mathlib.Core.List.{List, [], _∷_}

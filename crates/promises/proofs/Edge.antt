@@ -1,0 +1,9 @@
+pub mod Flights
+pub mod TwoCraft
+pub mod Serials
+pub mod InRange
+pub mod Dawn
+pub mod AsTold
+pub mod Deployment
+pub mod Refusals
+pub mod NeverSilent
