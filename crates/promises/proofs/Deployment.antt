@@ -19,10 +19,11 @@ use Rattle.supervisor.specs.declared.state.Mode.{Mode}
 use Rattle.supervisor.specs.declared.state.Mode.the-variants.{DeployWait, Recovery, Safe}
 use Rattle.supervisor.specs.declared.state.State.{State}
 use Rattle.supervisor.proofs.ActLaws.{watch-still}
-use Rattle.supervisor.proofs.HistoryLaws.{Comes, stopped, ticking, other, comes, after-in-range, after-keeps}
+use Rattle.supervisor.proofs.HistoryLaws.{after-in-range, after-keeps}
 use Rattle.supervisor.proofs.RangeLaws.{parts, phase-in-range}
 use Rattle.supervisor.proofs.TickLaws.{Ticks, waits, runs, ticks, ticked-flies}
 use Rattle.promises.specs.Deployment.{Deployment, longestDeployment}
+use Rattle.promises.proofs.OnlyTicks.{Turn, moves, still, turn, only-ticks}
 use Rattle.promises.proofs.OutOfRange.{no-ticks}
 
 -- the seconds that are left of DEPLOY_WAIT
@@ -61,14 +62,13 @@ ticked-left shorts s h (waits phase e w) =
 ticked-left shorts s h (runs e w) = omega (arith, none-left (ticked shorts s .state .watch .mode) (ticked-flies shorts s e))
 
 -- a call takes off as many seconds as it is done ticks
-left-after : (s : State) (c : Call) → Comes s c → secondsLeft (called s c .result .state .watch .mode) ≤ secondsLeft (s .watch .mode) - (if doneTick s c then 1 else 0)
-left-after s c (stopped answer w) = rw (w .tick, w .leaves) (omega arith)
-left-after s c (ticking shorts w) = rw (w .tick, w .leaves) (ticked-left shorts s (w .valid) (ticks shorts s))
-left-after s c (other f e w) = rw (w .tick, e, w .leaves, watch-still f (w .fits) e s) (omega arith)
+left-after : (s : State) (c : Call) → Turn s c → secondsLeft (called s c .result .state .watch .mode) ≤ secondsLeft (s .watch .mode) - (if doneTick s c then 1 else 0)
+left-after s c (moves shorts w) = rw (w .tick, w .leaves) (ticked-left shorts s (w .valid) (ticks shorts s))
+left-after s c (still e) = rw (e, only-ticks .watch s c e) (omega arith)
 
 left-in-all : (cs : List Call) (s : State) → secondsLeft (after s cs .watch .mode) ≤ secondsLeft (s .watch .mode) - doneTicks s cs
 left-in-all [] s = omega arith
-left-in-all (c ∷ cs) s = omega (arith, left-in-all cs (called s c .result .state), left-after s c (comes s c))
+left-in-all (c ∷ cs) s = omega (arith, left-in-all cs (called s c .result .state), left-after s c (turn s c))
 
 -- outside DEPLOY_WAIT every history stays outside
 pub stays-over : (s : State) (cs : List Call) → inDeployWait s ≡ false → inDeployWait (after s cs) ≡ false

@@ -3,6 +3,9 @@ pub mod InRange
 pub mod KeyerRefusals
 pub mod BeaconRefusals
 pub mod Refusals
+pub mod EachModule
+pub mod OnlyTicks
+pub mod ForAReason
 pub mod OutOfRange
 pub mod Deployment
 pub mod TwoModes

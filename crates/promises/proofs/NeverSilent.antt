@@ -12,9 +12,11 @@ use Rattle.supervisor.specs.Range.{inRange, completeTicks}
 use Rattle.supervisor.specs.History.{Call, called, after, doneTicks}
 use Rattle.supervisor.specs.State.{inDeployWait}
 use Rattle.supervisor.specs.declared.state.State.{State}
-use Rattle.supervisor.proofs.HistoryLaws.{comes, after-in-range}
+use Rattle.supervisor.proofs.HistoryLaws.{after-in-range}
 use Rattle.supervisor.proofs.RangeLaws.{counts-of}
-use Rattle.promises.specs.NeverSilent.{NeverSilent, beaconDue, someDue, SafeTicks, deployed, fiveMinutes}
+use Rattle.promises.specs.Deployment.{deployed}
+use Rattle.promises.specs.NeverSilent.{NeverSilent, beaconDue, someDue, SafeTicks, fiveMinutes}
+use Rattle.promises.proofs.OnlyTicks.{turn}
 use Rattle.promises.proofs.OutOfRange.{no-ticks}
 use Rattle.promises.proofs.Deployment.{stays-over}
 use Rattle.promises.proofs.BeaconLaws.{call-count, call-sixty}
@@ -28,13 +30,13 @@ silent-count : (cs : List Call) (s : State) → inDeployWait s ≡ false → som
 silent-count [] s out h = omega arith
 silent-count (c ∷ cs) s out h =
     let (here, later) = neither (beaconDue s c) (someDue (called s c .result .state) cs) h in
-    omega (arith, silent-count cs (called s c .result .state) (stays-over s (c ∷ []) out) later, call-count s c here out (comes s c))
+    omega (arith, silent-count cs (called s c .result .state) (stays-over s (c ∷ []) out) later, call-count s c here out (turn s c))
 
 silent-sixty : (cs : List Call) (s : State) → SafeTicks s cs → someDue s cs ≡ false → after s cs .watch .beacon % completeTicks ≡ s .watch .beacon % completeTicks + doneTicks s cs
 silent-sixty [] s safe h = omega arith
 silent-sixty (c ∷ cs) s safe h =
     let (here, later) = neither (beaconDue s c) (someDue (called s c .result .state) cs) h in
-    omega (arith, silent-sixty cs (called s c .result .state) (safe .1) later, call-sixty s c here (safe .0) (comes s c))
+    omega (arith, silent-sixty cs (called s c .result .state) (safe .1) later, call-sixty s c here (safe .0) (turn s c))
 
 below-five-minutes : (cs : List Call) (s : State) (valid : Bool) → inRange s ≡ valid → inDeployWait s ≡ false → someDue s cs ≡ false → doneTicks s cs < fiveMinutes
 below-five-minutes cs s false e out h = omega (arith, no-ticks cs s e)

@@ -3,11 +3,15 @@
 -- Assumes nothing.
 use Prim.Native.Nat.{ℕ, _≤_}
 use mathlib.Core.Path.{_≡_}
-use mathlib.Core.Bool.{false}
+use mathlib.Core.Bool.{Bool, false, not}
 use mathlib.Core.List.{List}
 use Rattle.supervisor.specs.History.{Call, after, doneTicks}
 use Rattle.supervisor.specs.State.{inDeployWait}
 use Rattle.supervisor.specs.declared.state.State.{State}
+
+-- a state is outside DEPLOY_WAIT
+abbrev pub deployed : State → Bool
+deployed s = not (inDeployWait s)
 
 -- after so many done ticks, from any state, the board is out of DEPLOY_WAIT
 abbrev pub EndsIn : (ticks : ℕ) → Type 0

@@ -2,8 +2,10 @@ pub mod TwoCraft
 pub mod Serials
 pub mod Numbers
 pub mod InRange
-pub mod Dawn
-pub mod AsTold
 pub mod Deployment
+pub mod OnlyTicks
+pub mod ForAReason
+pub mod AsTold
+pub mod Dawn
 pub mod Refusals
 pub mod NeverSilent

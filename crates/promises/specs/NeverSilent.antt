@@ -6,10 +6,11 @@ use mathlib.Core.Bool.{Bool, true, false, not, _&&_, _||_}
 use mathlib.Core.List.{List, [], _∷_}
 use lib.Dec.{T, eqb}
 use lib.ListN.{getD}
-use Rattle.supervisor.specs.State.{isSafe, inDeployWait}
+use Rattle.supervisor.specs.State.{isSafe}
 use Rattle.supervisor.specs.History.{Call, called, doneTick, doneTicks}
 use Rattle.supervisor.specs.Report.{beaconByte}
 use Rattle.supervisor.specs.declared.state.State.{State}
+use Rattle.promises.specs.Deployment.{deployed}
 
 -- a beacon falls due in a call: a done tick whose report says so
 abbrev pub beaconDue : State → Call → Bool
@@ -34,10 +35,6 @@ DueIn from ticks = (s : State) (cs : List Call) → T (from s) → ticks ≤ don
 -- the same of done ticks after each of which the mode is SAFE
 abbrev pub DueInSafe : (ticks : ℕ) → Type 0
 DueInSafe ticks = (s : State) (cs : List Call) → SafeTicks s cs → ticks ≤ doneTicks s cs → T (someDue s cs)
-
--- outside DEPLOY_WAIT
-abbrev pub deployed : State → Bool
-deployed s = not (inDeployWait s)
 
 -- in seconds, whatever the rules call them
 abbrev pub fiveMinutes : ℕ

@@ -8,7 +8,8 @@ use Rattle.supervisor.specs.Fresh.{freshState}
 use Rattle.supervisor.specs.State.{isSafe}
 use Rattle.supervisor.specs.History.{Call, called, after}
 use Rattle.supervisor.specs.declared.state.State.{State}
-use Rattle.promises.specs.NeverSilent.{DueIn, DueInSafe, SafeTicks, deployed}
+use Rattle.promises.specs.Deployment.{deployed}
+use Rattle.promises.specs.NeverSilent.{DueIn, DueInSafe, SafeTicks}
 use Rattle.promises.proofs.Rules.{rules}
 use Rattle.promises.proofs.Edge.Flights.{seconds, toRecovery, toSafe, sent}
 
