@@ -39,18 +39,18 @@ fresh-said i low cs = after-said i low cs freshState (not (isMission i)) fresh-e
 
 module _ (i : ℕ) where
   -- in DEPLOY_WAIT the module is off
-  abbrev Dark : State → Type 0
+  abbrev pub Dark : State → Type 0
   Dark s = inDeployWait s ≡ true → isOn (moduleAt i s .power) ≡ false
 
   dark-by : (s : State) (c : Call) → Dark s → (waits : Bool) → inDeployWait s ≡ waits → Dark (called s c .result .state)
   dark-by s c dark true e h = rw (deploy-power i s c e) (dark e)
   dark-by s c dark false e h = absurd (true≢false (sym h ∙ stays-over s (c ∷ []) e))
 
-  after-dark : (cs : List Call) (s : State) → Dark s → Dark (after s cs)
+  pub after-dark : (cs : List Call) (s : State) → Dark s → Dark (after s cs)
   after-dark [] s dark = dark
   after-dark (c ∷ cs) s dark = after-dark cs (called s c .result .state) (dark-by s c dark (inDeployWait s) refl)
 
-  -- in a flight a module that is on after a done tick is requested
+  -- then a module that is on after a done tick is requested
   asked-by :
       (s : State) (c : Call) → Dark s → (waits : Bool) → inDeployWait s ≡ waits → T (doneTick s c) → T (isOn (moduleAt i (called s c .result .state) .power)) →
       T (moduleAt i (called s c .result .state) .requested)
@@ -61,17 +61,17 @@ module _ (i : ℕ) where
       and-left (moduleAt i next .requested) (bit i (allowedIn (next .watch .mode)))
       (and-left (isWanted i next) (not (shorted i (aboutOf c))) (for-a-reason .on i s c d out t))
 
+  pub called-asked :
+      (s : State) (c : Call) → Dark s → T (doneTick s c) → T (isOn (moduleAt i (called s c .result .state) .power)) → T (moduleAt i (called s c .result .state) .requested)
+  called-asked s c dark = asked-by s c dark (inDeployWait s) refl
+
 -- from the fresh start
 pub fresh-dark : (i : ℕ) → i < moduleCount → (cs : List Call) → Dark i (after freshState cs)
 fresh-dark i low cs = after-dark i cs freshState (λ h. fresh-off i low)
 
-pub on-asked :
-    (i : ℕ) → i < moduleCount → (cs : List Call) (c : Call) → T (doneTick (after freshState cs) c) →
-    T (isOn (moduleAt i (called (after freshState cs) c .result .state) .power)) → T (moduleAt i (called (after freshState cs) c .result .state) .requested)
-on-asked i low cs c = asked-by i (after freshState cs) c (fresh-dark i low cs) (inDeployWait (after freshState cs)) refl
-
 asked-for : OnAfter doneTick
-asked-for i low cs c d t = rw (← fresh-said i low (cs ++ c ∷ []), after-append cs c freshState) (on-asked i low cs c d t)
+asked-for i low cs c d t =
+    rw (← fresh-said i low (cs ++ c ∷ []), after-append cs c freshState) (called-asked i (after freshState cs) c (fresh-dark i low cs) d t)
 
 pub as-told : AsTold
 as-told = record { requested = fresh-said; askedFor = asked-for }

@@ -15,9 +15,10 @@ pub mod TwoFrames
 pub mod TwoPower
 pub mod TwoCraft
 pub mod Serials
-pub mod Dawn
 pub mod Requests
 pub mod AsTold
+pub mod Late
+pub mod Dawn
 pub mod BeaconLaws
 pub mod NeverSilent
 pub mod Numbers

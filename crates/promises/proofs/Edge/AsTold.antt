@@ -6,7 +6,7 @@ use mathlib.Core.List.{List, _∷_, _++_}
 use lib.Dec.{lit<}
 use Rattle.promises.specs.AsTold.{Requested, OnAfter}
 use Rattle.promises.proofs.Rules.{rules}
-use Rattle.promises.proofs.Edge.Flights.{battery, comm2, camera, comm2Off, cameraOn, cameraOff, seconds, toRecovery, toSafe, send, sent}
+use Rattle.promises.proofs.Edge.Flights.{battery, comm2, camera, comm2Off, cameraOff, cameraRuns, seconds, toRecovery, send, sent}
 
 -- COMM2, ordered off in RECOVERY, is requested on again by a crossing up
 abbrev pub comm2Back : List (List ℕ)
@@ -17,9 +17,6 @@ unfolding rules
 not-by-orders-alone says = true≢false (says comm2 (lit< tt) (sent comm2Back))
 
 -- the camera is on and is ordered off: it stays on until the next tick, though the last word was "off"
-abbrev pub cameraRuns : List (List ℕ)
-cameraRuns = toSafe ++ (cameraOn 1 ∷ seconds 1)
-
 pub not-after-any-call : OnAfter (λ s c. true) → ⊥
 unfolding rules
 not-after-any-call says = says camera (lit< tt) (sent cameraRuns) (send (cameraOff 2)) tt tt

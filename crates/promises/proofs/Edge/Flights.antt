@@ -55,6 +55,10 @@ toRecovery = antennasOut ∷ seconds 901
 abbrev pub toSafe : List (List ℕ)
 toSafe = toRecovery ++ (battery 8000 ∷ seconds 30)
 
+-- then the camera is ordered on, and is on after a tick
+abbrev pub cameraRuns : List (List ℕ)
+cameraRuns = toSafe ++ (cameraOn 1 ∷ seconds 1)
+
 -- RECOVERY with COMM2 ordered off, 8,000 mV, and 29 ticks: the next one crosses upward
 abbrev pub aboutToCross : List (List ℕ)
 aboutToCross = toRecovery ++ (comm2Off 1 ∷ battery 8000 ∷ seconds 29)
