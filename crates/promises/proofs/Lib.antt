@@ -23,3 +23,4 @@ pub mod BeaconLaws
 pub mod NeverSilent
 pub mod Numbers
 pub mod Edge
+pub mod Tied
