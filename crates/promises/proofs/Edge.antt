@@ -9,3 +9,4 @@ pub mod AsTold
 pub mod Dawn
 pub mod Refusals
 pub mod NeverSilent
+pub mod OnTheGround

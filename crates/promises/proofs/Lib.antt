@@ -21,6 +21,7 @@ pub mod Late
 pub mod Dawn
 pub mod BeaconLaws
 pub mod NeverSilent
+pub mod OnTheGround
 pub mod Numbers
 pub mod Edge
 pub mod Tied

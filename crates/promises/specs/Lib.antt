@@ -9,4 +9,5 @@ pub mod AsTold
 pub mod Dawn
 pub mod Refusals
 pub mod NeverSilent
+pub mod OnTheGround
 pub mod Tied
