@@ -21,7 +21,7 @@ use Rattle.supervisor.proofs.TickLaws.{waits}
 use Rattle.promises.specs.AsTold.{AsTold, Requested, OnAfter, crossing, said, lastWord}
 use Rattle.promises.specs.TwoCraft.{shorted}
 use Rattle.promises.specs.Deployment.{deployed}
-use Rattle.promises.specs.ForAReason.{isWanted}
+use Rattle.promises.specs.ForAReason.{wantedIn}
 use Rattle.promises.proofs.Deployment.{stays-over}
 use Rattle.promises.proofs.ForAReason.{deploy-power, for-a-reason}
 use Rattle.promises.proofs.Requests.{called-said}
@@ -59,7 +59,7 @@ module _ (i : ℕ) where
       let next : State = called s c .result .state in
       let out : T (deployed s) = rw e tt in
       and-left (moduleAt i next .requested) (bit i (allowedIn (next .watch .mode)))
-      (and-left (isWanted i next) (not (shorted i (aboutOf c))) (for-a-reason .on i s c d out t))
+      (and-left (wantedIn next i) (not (shorted i (aboutOf c))) (for-a-reason .on i s c d out t))
 
   pub called-asked :
       (s : State) (c : Call) → Dark s → T (doneTick s c) → T (isOn (moduleAt i (called s c .result .state) .power)) → T (moduleAt i (called s c .result .state) .requested)

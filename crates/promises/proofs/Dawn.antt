@@ -29,7 +29,7 @@ use Rattle.supervisor.specs.declared.step.Stepped.{Stepped}
 use Rattle.supervisor.proofs.FreshLaws.{fresh-eight}
 use Rattle.supervisor.proofs.HistoryLaws.{called-eight, after-eight, after-append}
 use Rattle.supervisor.proofs.ModuleLaws.{Eight, mission-low}
-use Rattle.promises.specs.AsTold.{orders, crossing}
+use Rattle.promises.specs.AsTold.{orders, ordered, crossing}
 use Rattle.promises.specs.Dawn.{Dawn, OrderedOff, StillOff, memory}
 use Rattle.promises.proofs.OnlyTicks.{only-ticks}
 use Rattle.promises.proofs.Requests.{called-said}
@@ -41,7 +41,9 @@ room-by : (s : State) (c : Call) (room : Bool) → leb reportBytes (length (c .r
 unfolding stepOf
 room-by s c true e z = leb-true reportBytes (length (c .room)) e
 room-by s c false e z =
-    absurd (either (λ (o : Outcome Stepped). answerNumber (o .result .answer) ≡ 0 → ⊥) (inRange s) (λ (n : _≡_ {A = ℕ} 2 0). omega arith) (λ (n : _≡_ {A = ℕ} 1 0). omega arith) (rw e at z))
+    absurd
+    (either (λ (o : Outcome Stepped). answerNumber (o .result .answer) ≡ 0 → ⊥) (inRange s) (λ (n : _≡_ {A = ℕ} 2 0). omega arith)
+    (λ (n : _≡_ {A = ℕ} 1 0). omega arith) (rw e at z))
 
 done-room : (s : State) (c : Call) → answered s c ≡ 0 → HasRoom c
 done-room s c = room-by s c (leb reportBytes (length (c .room))) refl
@@ -72,7 +74,7 @@ module _ (which : ℕ) (mission : isMission which ≡ true) where
   no-crossing : (before after : Mode) → crossing true before after false ≡ false
   no-crossing before after = either (λ (w : Bool). w ≡ false) (isSafe before && isRecovery after) refl refl
 
-  called-quiet : (s : State) (c : Call) → Eight s → (if isDone (answered s c) then orders which (aboutOf c) (moduleAt which s .requested) else moduleAt which s .requested) ≡ false → Quiet (called s c .result .state)
+  called-quiet : (s : State) (c : Call) → Eight s → ordered which s c (moduleAt which s .requested) ≡ false → Quiet (called s c .result .state)
   called-quiet s c n e = called-said which low s n c ∙ rw (mission, e) (no-crossing (s .watch .mode) (called s c .result .state .watch .mode))
 
   -- an "on" that is not done leaves it so
@@ -90,7 +92,9 @@ module _ (which : ℕ) (mission : isMission which ≡ true) where
   abbrev Off : State → Type 0
   Off s = isOn (moduleAt which s .power) ≡ false
 
-  off-by : (s : State) (c : Call) → Dark which s → Quiet (called s c .result .state) → (tick : Bool) → doneTick s c ≡ tick → (d : ℕ) → (1 ≤ d → Off s) → 1 ≤ d + (if tick then 1 else 0) → Off (called s c .result .state)
+  off-by :
+      (s : State) (c : Call) → Dark which s → Quiet (called s c .result .state) → (tick : Bool) → doneTick s c ≡ tick → (d : ℕ) → (1 ≤ d → Off s) →
+      1 ≤ d + (if tick then 1 else 0) → Off (called s c .result .state)
   off-by s c dark q true e d p h = is-false (isOn (moduleAt which (called s c .result .state) .power)) (λ t. rw q at (called-asked which s c dark (holds (doneTick s c) e) t))
   off-by s c dark q false e d p h = rw (only-ticks .power which s c e) (p (omega arith))
 
@@ -111,8 +115,9 @@ module _ (which : ℕ) (mission : isMission which ≡ true) where
         let next : State = called s c .result .state in
         let quiet : Quiet next = no-on s c n q (rw e (late-on before rest c f)) in
         let (requested, power) =
-        still (before ++ (c ∷ [])) rest next (ap (λ (t : State). called t c .result .state) e ∙ sym (after-append before c first)) (f ∙ sym (append-assoc before (c ∷ []) rest)) (called-eight s c n)
-        (after-dark which (c ∷ []) s dark) quiet (d + (if doneTick s c then 1 else 0)) (off-by s c dark quiet (doneTick s c) refl d p) in
+        still (before ++ (c ∷ [])) rest next (ap (λ (t : State). called t c .result .state) e ∙ sym (after-append before c first))
+        (f ∙ sym (append-assoc before (c ∷ []) rest)) (called-eight s c n) (after-dark which (c ∷ []) s dark) quiet (d + (if doneTick s c then 1 else 0))
+        (off-by s c dark quiet (doneTick s c) refl d p) in
         (requested, λ h. power (omega arith))
 
     first-quiet : Quiet first
@@ -125,8 +130,8 @@ module _ (which : ℕ) (mission : isMission which ≡ true) where
     unfolding first
     stays-off =
         let (requested, power) =
-        still [] since first refl refl (called-eight (after freshState cs) off (after-eight cs freshState fresh-eight)) (after-dark which (off ∷ []) (after freshState cs) (fresh-dark which low cs)) first-quiet 0
-        (λ h. absurd (omega arith)) in
+        still [] since first refl refl (called-eight (after freshState cs) off (after-eight cs freshState fresh-eight))
+        (after-dark which (off ∷ []) (after freshState cs) (fresh-dark which low cs)) first-quiet 0 (λ h. absurd (omega arith)) in
         record { requested = requested; power = λ h. power (omega arith) }
 
 pub dawn : Dawn

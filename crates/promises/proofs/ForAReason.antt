@@ -19,7 +19,7 @@ use Rattle.supervisor.specs.declared.state.State.{State}
 use Rattle.supervisor.proofs.TickLaws.{Ticks, waits, runs, ticks, ticked-stages}
 use Rattle.promises.specs.TwoCraft.{shorted}
 use Rattle.promises.specs.Deployment.{deployed}
-use Rattle.promises.specs.ForAReason.{ForAReason, isWanted, sound}
+use Rattle.promises.specs.ForAReason.{ForAReason, wantedIn, sound}
 use Rattle.promises.proofs.EachModule.{at-stage, before-power}
 use Rattle.promises.proofs.OnlyTicks.{Turn, moves, still, turn, only-ticks}
 
@@ -47,7 +47,7 @@ wanted-on false short p t h = absurd t
 -- a tick outside DEPLOY_WAIT: a second of module i, by whether it is wanted after it
 module _ (i shorts : ℕ) (s : State) where
   abbrev Second : State → Type 0
-  Second t = moduleAt i t .power ≡ switched (isWanted i t) (bit i shorts) (moduleAt i s .power)
+  Second t = moduleAt i t .power ≡ switched (wantedIn t i) (bit i shorts) (moduleAt i s .power)
 
   stages-second : Second (stages shorts s .state)
   unfolding beaconStage moduleStage
@@ -59,7 +59,7 @@ module _ (i shorts : ℕ) (s : State) where
 -- a call
 called-second :
     (i : ℕ) (s : State) (c : Call) → Turn s c → T (doneTick s c) → inDeployWait s ≡ false →
-    moduleAt i (called s c .result .state) .power ≡ switched (isWanted i (called s c .result .state)) (shorted i (aboutOf c)) (moduleAt i s .power)
+    moduleAt i (called s c .result .state) .power ≡ switched (wantedIn (called s c .result .state) i) (shorted i (aboutOf c)) (moduleAt i s .power)
 called-second i s c (moves shorts w) d e = rw (w .leaves, w .read) (ticked-second i shorts s e)
 called-second i s c (still n) d e = absurd (rw n at d)
 
@@ -76,16 +76,16 @@ pub deploy-power : (i : ℕ) (s : State) (c : Call) → inDeployWait s ≡ true 
 deploy-power i s c e = deploy-by i s c e (turn s c)
 
 module _ (i : ℕ) (s : State) (c : Call) (d : T (doneTick s c)) (out : T (deployed s)) where
-  second : moduleAt i (called s c .result .state) .power ≡ switched (isWanted i (called s c .result .state)) (shorted i (aboutOf c)) (moduleAt i s .power)
+  second : moduleAt i (called s c .result .state) .power ≡ switched (wantedIn (called s c .result .state) i) (shorted i (aboutOf c)) (moduleAt i s .power)
   second = called-second i s c (turn s c) d (not-true (inDeployWait s) (is-true (deployed s) out))
 
-  on : T (isOn (moduleAt i (called s c .result .state) .power)) → T (isWanted i (called s c .result .state) && not (shorted i (aboutOf c)))
-  on t = on-reason (isWanted i (called s c .result .state)) (shorted i (aboutOf c)) (moduleAt i s .power) (rw second at t)
+  on : T (isOn (moduleAt i (called s c .result .state) .power)) → T (wantedIn (called s c .result .state) i && not (shorted i (aboutOf c)))
+  on t = on-reason (wantedIn (called s c .result .state) i) (shorted i (aboutOf c)) (moduleAt i s .power) (rw second at t)
 
   is-on :
-      T (isWanted i (called s c .result .state) && not (shorted i (aboutOf c))) → T (sound (moduleAt i s .power)) →
+      T (wantedIn (called s c .result .state) i && not (shorted i (aboutOf c))) → T (sound (moduleAt i s .power)) →
       T (isOn (moduleAt i (called s c .result .state) .power))
-  is-on t h = rw second (wanted-on (isWanted i (called s c .result .state)) (shorted i (aboutOf c)) (moduleAt i s .power) t h)
+  is-on t h = rw second (wanted-on (wantedIn (called s c .result .state) i) (shorted i (aboutOf c)) (moduleAt i s .power) t h)
 
 pub for-a-reason : ForAReason
 for-a-reason = record { on = on; wanted = is-on }

@@ -63,8 +63,10 @@ module _ (origin : Origin) where
       lastOf origin (called s c .result .state .serials) % serialCount
       ≡ (lastOf origin (s .serials) + stride (isTaken (answered s c)) (serialFrom origin (aboutOf c)) (lastOf origin (s .serials))) % serialCount
 
-  own-strides : (class : Class) (serial : ℕ) (s : State) (a : Acted) → classOf serial (lastOf origin (s .serials)) ≡ class → Judged class (from origin serial) s a →
-      lastOf origin (a .state .serials) % serialCount ≡ (lastOf origin (s .serials) + stride (isTaken (answerNumber (a .answer))) (serial ∷ []) (lastOf origin (s .serials))) % serialCount
+  own-strides :
+      (class : Class) (serial : ℕ) (s : State) (a : Acted) → classOf serial (lastOf origin (s .serials)) ≡ class → Judged class (from origin serial) s a →
+      lastOf origin (a .state .serials) % serialCount
+      ≡ (lastOf origin (s .serials) + stride (isTaken (answerNumber (a .answer))) (serial ∷ []) (lastOf origin (s .serials))) % serialCount
   own-strides Repeat serial s a e d = rw (d .0) (omega (arith, judged-last origin Repeat serial s a d))
   own-strides Stale serial s a e d = rw (d .0) (omega (arith, judged-last origin Stale serial s a d))
   own-strides Fresh serial s a e d =

@@ -52,7 +52,9 @@ Turns sender command s a =
 not-ten : {P : Type 0} (n : ℕ) → T (within 0 9 n) → n ≡ 10 → P
 not-ten n h e = absurd (rw e at h)
 
-ill-order : (which : ℕ) (on : Bool) (s : State) → (on′ m safe : Bool) → on ≡ on′ → isMission which ≡ m → isSafe (s .watch .mode) ≡ safe → on′ && m && not safe ≡ true → Ill (Order which on) s
+ill-order :
+    (which : ℕ) (on : Bool) (s : State) (on′ m safe : Bool) → on ≡ on′ → isMission which ≡ m → isSafe (s .watch .mode) ≡ safe →
+    on′ && m && not safe ≡ true → Ill (Order which on) s
 ill-order which on s true true false e f g t = record { which = which; mission = f; on = rw (eq-eqb which which refl) e; mode = rw g }
 ill-order which on s true true true e f g t = absurd (false≢true t)
 ill-order which on s true false safe e f g t = absurd (false≢true t)

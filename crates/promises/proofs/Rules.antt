@@ -17,6 +17,17 @@ use Rattle.supervisor.specs.Act.{actOf}
 use Rattle.supervisor.specs.Report.{reportOf}
 use Rattle.supervisor.specs.Step.{stepOf}
 
+-- of the modules
+modules : Unit {0}
+unfolding each eachFrom switched stageOf requestedBy requestedOne modulesInRange maskOf masksOf
+modules = tt
+
+-- of the frames
+frames : Unit {0}
+unfolding totalOf classOf batteryFields antennasFields orderFields thresholdsFields readFrame
+frames = tt
+
+-- all
 unfoldable pub rules : Unit {0}
-unfolding each eachFrom switched stageOf requestedBy requestedOne modulesInRange maskOf masksOf totalOf classOf batteryFields antennasFields orderFields thresholdsFields readFrame inRange freshState isIllTimed requestSet bySerial controlled beaconStage beforeModules moduleStage ticked actOf reportOf stepOf
+unfolding modules frames inRange freshState isIllTimed requestSet bySerial controlled beaconStage beforeModules moduleStage ticked actOf reportOf stepOf
 rules = tt

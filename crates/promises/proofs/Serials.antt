@@ -66,7 +66,9 @@ module _ (origin : Origin) where
       rw (← e) (judged-tells (classOf n (lastOf origin (s .serials))) n s a d)
 
   -- one call, with room
-  read-last : (r : Reading) (s : State) (room : List ℕ) → lastOf origin (stepRead r s room .result .state .serials) ≡ lastAfter (lastOf origin (s .serials)) (serialFrom origin (about r))
+  read-last :
+      (r : Reading) (s : State) (room : List ℕ) →
+      lastOf origin (stepRead r s room .result .state .serials) ≡ lastAfter (lastOf origin (s .serials)) (serialFrom origin (about r))
   read-last (Refused answer) s room = refl
   read-last (Accepted f) s room = view-last f s (actOf f s) (view origin f s (actOf f s) (act-answers f s))
 

@@ -58,33 +58,41 @@ module _ (i : ℕ) (mission : isMission i ≡ true) where
 
   good-lit :
       (n : ℕ) {x y : List ℕ} → AsGood inReach x y → n + oneMore (shorted i (about (readFrame x))) ≤ shortsBorne → (room room′ : List ℕ) (a b : State) → Beside i a b →
-      Bright i mission n a b → Bright i mission (n + oneMore (shorted i (about (readFrame x)))) (stepRead (readFrame x) a room .result .state) (stepRead (readFrame y) b room′ .result .state)
+      Bright i mission n a b →
+      Bright i mission (n + oneMore (shorted i (about (readFrame x)))) (stepRead (readFrame x) a room .result .state) (stepRead (readFrame y) b room′ .result .state)
   unfolding actOf
   good-lit n (same {bytes = x}) few room room′ a b h l = reading-lit n (readFrame x) (read-sound x) few room room′ a b h l
   good-lit n (higher high low high′ low′ r r′ more) few room room′ a b h l =
       rw (battery-read high low r, battery-read high′ low′ r′) (lit-later n (n + 0) (omega arith) (moduleAt i a .power) (moduleAt i b .power) l)
 
   -- one call on each, both with room
-  module _ (c d : Call) (room : HasRoom c) (room′ : HasRoom d) (good : AsGood inReach (c .input) (d .input)) (a b : State) (valid : T (inRange a)) (valid′ : T (inRange b)) (h : Beside i a b) where
+  module _
+      (c d : Call) (room : HasRoom c) (room′ : HasRoom d) (good : AsGood inReach (c .input) (d .input)) (a b : State) (valid : T (inRange a)) (valid′ : T (inRange b))
+      (h : Beside i a b) where
     called-beside : Beside i (called a c .result .state) (called b d .result .state)
     called-beside = rw (called-read a c valid room, called-read b d valid′ room′) (good-beside good (c .room) (d .room) a b h)
 
-    called-lit : (n : ℕ) → n + oneMore (shorted i (aboutOf c)) ≤ shortsBorne → Bright i mission n a b → Bright i mission (n + oneMore (shorted i (aboutOf c))) (called a c .result .state) (called b d .result .state)
+    called-lit :
+        (n : ℕ) → n + oneMore (shorted i (aboutOf c)) ≤ shortsBorne → Bright i mission n a b →
+        Bright i mission (n + oneMore (shorted i (aboutOf c))) (called a c .result .state) (called b d .result .state)
     called-lit n few l = rw (called-read a c valid room, called-read b d valid′ room′) (good-lit n good few (c .room) (d .room) a b h l)
 
   -- all calls
-  after-beside : {cs ds : List Call} → Paired inReach cs ds → Roomy cs → Roomy ds → (a b : State) → T (inRange a) → T (inRange b) → Beside i a b → Beside i (after a cs) (after b ds)
+  after-beside :
+      {cs ds : List Call} → Paired inReach cs ds → Roomy cs → Roomy ds → (a b : State) → T (inRange a) → T (inRange b) → Beside i a b →
+      Beside i (after a cs) (after b ds)
   after-beside start r r′ a b v v′ h = h
   after-beside (next {c = c} {d = d} good p) r r′ a b v v′ h =
-      after-beside p (r .1) (r′ .1) (called a c .result .state) (called b d .result .state) (called-in-range a c v) (called-in-range b d v′) (called-beside c d (r .0) (r′ .0) good a b v v′ h)
+      after-beside p (r .1) (r′ .1) (called a c .result .state) (called b d .result .state) (called-in-range a c v) (called-in-range b d v′)
+      (called-beside c d (r .0) (r′ .0) good a b v v′ h)
 
   after-lit :
       (n : ℕ) {cs ds : List Call} → Paired inReach cs ds → Roomy cs → Roomy ds → n + shortsOf i cs ≤ shortsBorne → (a b : State) → T (inRange a) → T (inRange b) → Beside i a b →
       Bright i mission n a b → T (isOn (moduleAt i (after a cs) .power)) → T (isOn (moduleAt i (after b ds) .power))
   after-lit n start r r′ few a b v v′ h l = l .lit
   after-lit n (next {c = c} {d = d} good p) r r′ few a b v v′ h l =
-      after-lit (n + oneMore (shorted i (aboutOf c))) p (r .1) (r′ .1) (omega arith) (called a c .result .state) (called b d .result .state) (called-in-range a c v) (called-in-range b d v′)
-      (called-beside c d (r .0) (r′ .0) good a b v v′ h) (called-lit c d (r .0) (r′ .0) good a b v v′ h n (omega arith) l)
+      after-lit (n + oneMore (shorted i (aboutOf c))) p (r .1) (r′ .1) (omega arith) (called a c .result .state) (called b d .result .state)
+      (called-in-range a c v) (called-in-range b d v′) (called-beside c d (r .0) (r′ .0) good a b v v′ h) (called-lit c d (r .0) (r′ .0) good a b v v′ h n (omega arith) l)
 
   -- the fresh start
   fresh-beside : Beside i freshState freshState

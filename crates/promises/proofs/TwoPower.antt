@@ -26,10 +26,10 @@ use Rattle.supervisor.specs.State.{isSafe, moduleAt}
 use Rattle.supervisor.specs.declared.state.Mode.{Mode}
 use Rattle.supervisor.specs.declared.state.Mode.the-variants.{DeployWait, Recovery, Safe}
 use Rattle.supervisor.specs.declared.state.State.{State}
-use Rattle.supervisor.proofs.BeforeModulesLaws.{before-power}
-use Rattle.supervisor.proofs.ModuleLaws.{at-stage, mission-low, mission-allowed}
+use Rattle.supervisor.proofs.ModuleLaws.{mission-low, mission-allowed}
 use Rattle.supervisor.proofs.SwitchLaws.{act-power}
 use Rattle.promises.specs.TwoCraft.{shorted, shortsBorne}
+use Rattle.promises.proofs.EachModule.{at-stage, before-power}
 use Rattle.promises.proofs.TwoModes.{AtMost, even, behind, safe-at-most}
 use Rattle.promises.proofs.TwoControl.{Beside, before-beside}
 
@@ -112,7 +112,7 @@ module _ (i : ℕ) (mission : isMission i ≡ true) where
         let low : i < moduleCount = mission-low i mission in
         let m : Module = moduleAt i a in
         let m′ : Module = moduleAt i b in
-        rw (at-stage a (h .flown .eight) i low shorts, at-stage b (h .flown .eight′) i low shorts)
+        rw (at-stage a i shorts, at-stage b i shorts)
         (rw (mission-allowed i low mission (a .watch .mode), mission-allowed i low mission (b .watch .mode))
         (lit-switched n (bit i shorts) (m .requested && isSafe (a .watch .mode)) (m′ .requested && isSafe (b .watch .mode)) (m .power) (m′ .power) few
         (wanted (m .requested) (m′ .requested) (isSafe (a .watch .mode)) (isSafe (b .watch .mode)) (h .flown .asked .grows) (safe-at-most (h .flown .modes))) l))
@@ -121,7 +121,7 @@ module _ (i : ℕ) (mission : isMission i ≡ true) where
     unfolding beaconStage
     stages-lit a b h l =
         staged-lit (beforeModules a) (beforeModules b) (before-beside i mission a b h)
-        (rw (before-power a (h .flown .eight) i (mission-low i mission), before-power b (h .flown .eight′) i (mission-low i mission)) l)
+        (rw (before-power a i, before-power b i) l)
 
     -- in DEPLOY_WAIT nothing is switched
     in-modes :

@@ -28,7 +28,15 @@ orders i (aTick shorts) word = word
 orders i (aCommand sender command) word = commands i command word
 orders i neither word = word
 
--- if it is done
+-- an order "on" for module i: it turns the word "off"
+abbrev pub SaysOn : ℕ → About → Type 0
+SaysOn i frame = orders i frame false ≡ true
+
+-- an order "off" for it
+abbrev pub SaysOff : ℕ → About → Type 0
+SaysOff i frame = orders i frame true ≡ false
+
+-- what a call orders, if it is done
 abbrev pub ordered : ℕ → State → Call → (word : Bool) → Bool
 ordered i s c word = if isDone (answered s c) then orders i (aboutOf c) word else word
 
@@ -65,7 +73,8 @@ Requested crosses =
 abbrev pub OnAfter : (State → Call → Bool) → Type 0
 OnAfter passes =
     (i : ℕ) → i < moduleCount → (cs : List Call) (c : Call) → T (passes (after freshState cs) c) →
-    T (isOn (moduleAt i (called (after freshState cs) c .result .state) .power)) → T (lastSaid crossing i (cs ++ c ∷ []))
+    T (isOn (moduleAt i (called (after freshState cs) c .result .state) .power)) →
+    T (lastSaid crossing i (cs ++ c ∷ []))
 
 -- the last word, and what came of it
 pub record AsTold : Type 0 where

@@ -16,7 +16,7 @@ use Rattle.supervisor.specs.State.{moduleAt}
 use Rattle.supervisor.specs.Fresh.{freshState}
 use Rattle.supervisor.specs.History.{Call, aboutOf, called, answered, isTaken, after, HasRoom, doneTicks}
 use Rattle.supervisor.specs.declared.state.State.{State}
-use Rattle.promises.specs.AsTold.{orders}
+use Rattle.promises.specs.AsTold.{SaysOn, SaysOff}
 
 -- how far one frame moves an origin on: its distance, if it is the origin's and taken
 abbrev pub stride : (taken : Bool) → (serials : List ℕ) → (last : ℕ) → ℕ
@@ -33,7 +33,8 @@ movedOn origin s (c ∷ cs) =
 -- a frame of an origin, with its serial, was taken; any calls were made since; now another frame of that origin comes,
 -- with room for its report: its serial is the first's or k behind it, and k and what the origin moved on since are
 -- together at most what is remembered
-pub record Late (memory : ℕ) (origin : Origin) (s : State) (first : Call) (since : List Call) (late : Call) : Type 0 where
+pub record Late (memory : ℕ) (origin : Origin) (s : State) (first : Call) (since : List Call) (late : Call)
+    : Type 0 where
   pub serial : ℕ
   pub firstSerial : serialFrom origin (aboutOf first) ≡ serial ∷ []
   pub taken : T (isTaken (answered s first))
@@ -59,11 +60,11 @@ Old memory =
 -- room was late
 pub record OrderedOff (memory : ℕ) (origin : Origin) (which : ℕ) (cs : List Call) (off : Call) (since : List Call)
     : Type 0 where
-  pub order : orders which (aboutOf off) true ≡ false
+  pub order : SaysOff which (aboutOf off)
   pub done : answered (after freshState cs) off ≡ 0
   pub lateOns :
-      (before later : List Call) (on : Call) → since ≡ before ++ on ∷ later → orders which (aboutOf on) false ≡ true →
-      HasRoom on → Late memory origin (after freshState cs) off before on
+      (before later : List Call) (on : Call) → since ≡ before ++ on ∷ later → SaysOn which (aboutOf on) → HasRoom on →
+      Late memory origin (after freshState cs) off before on
 
 -- a module is not requested after a history, and after so many done ticks of it is not on
 pub record StillOff (ticks which : ℕ) (s : State) (since : List Call) : Type 0 where

@@ -4,8 +4,8 @@
 use Prim.Native.Nat.{ℕ}
 use mathlib.Core.Bool.{Bool, not, _&&_}
 use lib.Dec.{T}
-use Rattle.basics.specs.Choice.{bit}
 use Rattle.modules.specs.Power.{isOn, isFailed}
+use Rattle.modules.specs.Stage.{isWanted}
 use Rattle.modules.specs.declared.power.Power.{Power}
 use Rattle.supervisor.specs.State.{moduleAt}
 use Rattle.supervisor.specs.Tick.{allowedIn}
@@ -15,22 +15,22 @@ use Rattle.promises.specs.TwoCraft.{shorted}
 use Rattle.promises.specs.Deployment.{deployed}
 
 -- module i is requested, and allowed in the mode
-abbrev pub isWanted : ℕ → State → Bool
-isWanted i s = moduleAt i s .requested && bit i (allowedIn (s .watch .mode))
+abbrev pub wantedIn : State → ℕ → Bool
+wantedIn s i = isWanted (allowedIn (s .watch .mode)) i (moduleAt i s)
 
 -- a module that is on after a done tick, from a state that passes a test, is not short in it, and wanted in the state
 -- before it or after it
-abbrev pub OnIfWanted : (from : State → Bool) → (at : (before after : State) → State) → Type 0
-OnIfWanted from at =
+abbrev pub OnMeansWanted : (from : State → Bool) → (at : (before after : State) → State) → Type 0
+OnMeansWanted from at =
     (i : ℕ) (s : State) (c : Call) → T (doneTick s c) → T (from s) →
     T (isOn (moduleAt i (called s c .result .state) .power)) →
-    T (isWanted i (at s (called s c .result .state)) && not (shorted i (aboutOf c)))
+    T (wantedIn (at s (called s c .result .state)) i && not (shorted i (aboutOf c)))
 
 -- one that is wanted in the state after it and not short in it, and whose power before it passes a test, is on after it
-abbrev pub WantedIsOn : (from : State → Bool) → (power : Power → Bool) → Type 0
-WantedIsOn from power =
+abbrev pub WantedMeansOn : (from : State → Bool) → (power : Power → Bool) → Type 0
+WantedMeansOn from power =
     (i : ℕ) (s : State) (c : Call) → T (doneTick s c) → T (from s) →
-    T (isWanted i (called s c .result .state) && not (shorted i (aboutOf c))) → T (power (moduleAt i s .power)) →
+    T (wantedIn (called s c .result .state) i && not (shorted i (aboutOf c))) → T (power (moduleAt i s .power)) →
     T (isOn (moduleAt i (called s c .result .state) .power))
 
 -- judged after the tick
@@ -43,5 +43,5 @@ sound power = not (isFailed power)
 
 -- the reason
 pub record ForAReason : Type 0 where
-  pub on : OnIfWanted deployed afterwards
-  pub wanted : WantedIsOn deployed sound
+  pub on : OnMeansWanted deployed afterwards
+  pub wanted : WantedMeansOn deployed sound

@@ -36,10 +36,11 @@ DueIn from ticks = (s : State) (cs : List Call) → T (from s) → ticks ≤ don
 abbrev pub DueInSafe : (ticks : ℕ) → Type 0
 DueInSafe ticks = (s : State) (cs : List Call) → SafeTicks s cs → ticks ≤ doneTicks s cs → T (someDue s cs)
 
--- in seconds, whatever the rules call them
+-- five minutes, in seconds, whatever the rules call them
 abbrev pub fiveMinutes : ℕ
 fiveMinutes = 300
 
+-- a minute
 abbrev pub oneMinute : ℕ
 oneMinute = 60
 

@@ -40,7 +40,8 @@ pub record IsHeard (form : Form) (s : State) (page air ground : List ℕ) : Type
   pub units : List ℕ
   pub keyed : keyOf text air ≡ outcome (keyed.Done (length units)) (written units air)
   pub heard :
-      (after : Outcome Heard) → Read units ground after → after ≡ outcome (heard.Done (length text)) (written text ground)
+      (after : Outcome Heard) → Read units ground after →
+      after ≡ outcome (heard.Done (length text)) (written text ground)
 
 -- with room: so many bytes for the text, and a byte for each unit
 abbrev pub HeardWith : (bytes : ℕ) → Type 0

@@ -1,5 +1,5 @@
--- Only ticks: mode, counts and what is powered change in done ticks alone, and a tick changes nothing that was
--- reported or ordered but requests.
+-- Only ticks: a call that is no done tick leaves the mode, both counts and every module's power; a tick leaves serials,
+-- tension, thresholds and antennas.
 -- Assumes nothing.
 use Prim.Native.Nat.{ℕ}
 use mathlib.Core.Path.{_≡_}
@@ -31,4 +31,5 @@ pub record OnlyTicks : Type 0 where
   pub serials : TicksLeave Serials (λ s. s .serials)
   -- the tension and both thresholds
   pub battery : TicksLeave Battery (λ s. s .battery)
+  -- the antennas' last report
   pub antennas : TicksLeave Bool (λ s. s .antennas)

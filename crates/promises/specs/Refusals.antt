@@ -2,7 +2,7 @@
 -- Assumes nothing.
 use Prim.Native.Nat.{ℕ, _≤_}
 use mathlib.Core.Path.{_≡_}
-use mathlib.Core.Bool.{Bool, true, false, not}
+use mathlib.Core.Bool.{Bool, true, not}
 use mathlib.Core.List.{List, _++_}
 use lib.Dec.{T}
 use lib.ListN.{drop}
@@ -26,7 +26,7 @@ use Rattle.morse.specs.Reading.{Read, readReply}
 use Rattle.morse.specs.declared.reading.Heard.{Heard}
 use Rattle.beacon.specs.Writing.{beaconOf, writtenReply}
 use Rattle.beacon.specs.declared.text.Form.{Form}
-use Rattle.promises.specs.AsTold.{orders}
+use Rattle.promises.specs.AsTold.{SaysOn}
 
 -- nothing was moved, and nothing written
 pub record Untouched (s : State) (c : Call) : Type 0 where
@@ -56,7 +56,7 @@ nothing sender s = s
 pub record IllTimed (modes : Mode → Bool) (s : State) (c : Call) : Type 0 where
   pub which : ℕ
   pub mission : isMission which ≡ true
-  pub on : orders which (aboutOf c) false ≡ true
+  pub on : SaysOn which (aboutOf c)
   pub mode : modes (s .watch .mode) ≡ true
 
 -- the count is 0, and nothing was written
@@ -64,27 +64,31 @@ pub record Unwritten (r : Reply) (before after : List ℕ) : Type 0 where
   pub count : r .count ≡ 0
   pub room : after ≡ before
 
--- `step`, at answers from 1 to a last one, and from 8 to a last one; and at 10
+-- `step`, at answers from 1 to a last one
 abbrev pub UntouchedTo : (last : ℕ) → Type 0
 UntouchedTo last = (s : State) (c : Call) → T (within 1 last (answered s c)) → Untouched s c
 
+-- at answers from 8 to a last one
 abbrev pub UnmovedTo : (last : ℕ) → Type 0
 UnmovedTo last = (s : State) (c : Call) → T (within 8 last (answered s c)) → TurnedDown nothing s c
 
+-- what is answered 10
 abbrev pub TenIn : (modes : Mode → Bool) → Type 0
 TenIn modes = (s : State) (c : Call) → answered s c ≡ 10 → IllTimed modes s c
 
--- keying, reading back (whose contract is `Read`) and the beacon's text, at answers from a first one on
+-- keying, at answers from a first one on
 abbrev pub KeyingFrom : (first : ℕ) → Type 0
 KeyingFrom first =
     (text room : List ℕ) → first ≤ keyReply (keyOf text room .result) .number →
     Unwritten (keyReply (keyOf text room .result)) room (keyOf text room .room)
 
+-- reading back, whose contract is `Read`
 abbrev pub ReadingFrom : (first : ℕ) → Type 0
 ReadingFrom first =
     (units room : List ℕ) (after : Outcome Heard) → Read units room after → first ≤ readReply (after .result) .number →
     Unwritten (readReply (after .result)) room (after .room)
 
+-- the beacon's text
 abbrev pub BeaconFrom : (first : ℕ) → Type 0
 BeaconFrom first =
     (form : Form) (s : State) (room : List ℕ) → first ≤ writtenReply (beaconOf form s room .result) .number →

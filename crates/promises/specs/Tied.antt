@@ -37,11 +37,13 @@ pub record Tied : Type 0 where
   -- step(state, input, room)
   pub step :
       Says step.ended step-reads.Learnt
-      (λ κs a x. outcome (x .0) (x .1 .1 .1 .0) ≡ called (a .0) (record { input = a .1 .0 .now; room = a .1 .1 .0 .now }))
+      (λ κs a x.
+      outcome (x .0) (x .1 .1 .1 .0) ≡ called (a .0) (record { input = a .1 .0 .now; room = a .1 .1 .0 .now }))
   -- key(text, units)
   pub key : Says key.ended key-reads.Learnt (λ κs a x. outcome (x .0) (x .1 .1 .0) ≡ keyOf (a .0 .now) (a .1 .0 .now))
   -- read(units, text)
   pub read : Says read.ended read-reads.Learnt (λ κs a x. Read (a .0 .now) (a .1 .0 .now) (outcome (x .0) (x .1 .1 .0)))
   -- write(state, form, text), the beacon's
   pub write :
-      Says write.ended write-reads.Learnt (λ κs a x. outcome (x .0) (x .1 .1 .1 .0) ≡ beaconOf (a .1 .0) (a .0) (a .1 .1 .0 .now))
+      Says write.ended write-reads.Learnt
+      (λ κs a x. outcome (x .0) (x .1 .1 .1 .0) ≡ beaconOf (a .1 .0) (a .0) (a .1 .1 .0 .now))

@@ -60,7 +60,7 @@ TwoCraftOf modules readings shorts =
     (cs ds : List Call) → Roomy cs → Roomy ds → Paired readings cs ds →
     (n : ℕ) → Better modules shorts (take n cs) (after freshState (take n cs)) (after freshState (take n ds))
 
--- readings in range
+-- readings that are taken: 5,000 to 9,000 mV
 abbrev pub inReach : ℕ → Bool
 inReach millivolts = within 5000 9000 millivolts
 

@@ -90,7 +90,9 @@ not-dark-with-comm2 says =
 pub not-dark-at-once : StaysOff memory isMission 0 → ⊥
 unfolding rules
 not-dark-at-once says =
-    true≢false (says Ground camera (sent cameraRuns) (send (cameraOff 2)) [] refl (ordered-off memory camera (sent cameraRuns) (send (cameraOff 2)) [] refl refl tt) .power (lit≤ tt))
+    let off : OrderedOff memory Ground camera (sent cameraRuns) (send (cameraOff 2)) [] =
+    ordered-off memory camera (sent cameraRuns) (send (cameraOff 2)) [] refl refl tt in
+    true≢false (says Ground camera (sent cameraRuns) (send (cameraOff 2)) [] refl off .power (lit≤ tt))
 
 -- the payload's own "on" is done after ground's "off"
 abbrev pub payloadsOwn : List (List ℕ)

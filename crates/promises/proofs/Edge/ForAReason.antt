@@ -10,7 +10,7 @@ use Rattle.supervisor.specs.State.{withModules}
 use Rattle.supervisor.specs.History.{after}
 use Rattle.supervisor.specs.declared.state.State.{State}
 use Rattle.promises.specs.Deployment.{deployed}
-use Rattle.promises.specs.ForAReason.{OnIfWanted, WantedIsOn, afterwards}
+use Rattle.promises.specs.ForAReason.{OnMeansWanted, WantedMeansOn, afterwards}
 use Rattle.promises.proofs.Rules.{rules}
 use Rattle.promises.proofs.Edge.Flights.{quiet, short, comm2, camera, cameraOn, toSafe, aboutToCross, send, sent}
 
@@ -18,12 +18,12 @@ use Rattle.promises.proofs.Edge.Flights.{quiet, short, comm2, camera, c
 abbrev pub litTooSoon : State
 litTooSoon = withModules (replicate 8 (record { power = On; requested = true })) freshState
 
-pub not-in-deploy-wait : OnIfWanted (λ s. true) afterwards → ⊥
+pub not-in-deploy-wait : OnMeansWanted (λ s. true) afterwards → ⊥
 unfolding rules
 not-in-deploy-wait says = says comm2 litTooSoon (send quiet) tt tt tt
 
 -- COMM2, which was ordered off, is requested by the tick that crosses upward, and on after it
-pub not-judged-before : OnIfWanted deployed (λ before after. before) → ⊥
+pub not-judged-before : OnMeansWanted deployed (λ before after. before) → ⊥
 unfolding rules
 not-judged-before says = says comm2 (after freshState (sent aboutToCross)) (send quiet) tt tt tt
 
@@ -31,6 +31,6 @@ not-judged-before says = says comm2 (after freshState (sent aboutToCross)) (send
 abbrev pub cameraFailed : List (List ℕ)
 cameraFailed = toSafe ++ (cameraOn 1 ∷ short 16 ∷ short 16 ∷ short 16 ∷ short 16 ∷ short 16 ∷ [])
 
-pub not-if-failed : WantedIsOn deployed (λ power. true) → ⊥
+pub not-if-failed : WantedMeansOn deployed (λ power. true) → ⊥
 unfolding rules
 not-if-failed says = says camera (after freshState (sent cameraFailed)) (send quiet) tt tt tt tt
