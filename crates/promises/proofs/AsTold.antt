@@ -1,81 +1,77 @@
 -- As told, proved.
 -- Assumes nothing.
 use Prim.Native.Nat.{ℕ, _<_}
-use mathlib.Core.Path.{_≡_, sym, ap, _∙_}
+use mathlib.Core.Path.{_≡_, refl, sym, ap, _∙_}
 use mathlib.Core.Bool.{Bool, true, false, not, true≢false}
 use mathlib.Core.List.{List, [], _∷_, _++_}
 use lib.Dec.{T}
+use Rattle.basics.specs.Choice.{bit}
+use Rattle.basics.proofs.ChoiceLaws.{and-left}
 use Rattle.modules.specs.Power.{isOn}
 use Rattle.modules.specs.Groups.{isMission, moduleCount}
 use Rattle.supervisor.specs.Fresh.{freshState}
-use Rattle.supervisor.specs.Tick.{ticked, beforeModules}
-use Rattle.supervisor.specs.Due.{beaconStage}
-use Rattle.supervisor.specs.History.{Call, called, after, doneTick}
+use Rattle.supervisor.specs.Tick.{allowedIn}
+use Rattle.supervisor.specs.History.{Call, called, after, aboutOf, doneTick}
 use Rattle.supervisor.specs.State.{moduleAt, inDeployWait}
 use Rattle.supervisor.specs.declared.state.State.{State}
-use Rattle.supervisor.proofs.ActLaws.{watch-still}
-use Rattle.supervisor.proofs.BeforeModulesLaws.{before-eight}
 use Rattle.supervisor.proofs.FreshLaws.{fresh-eight, fresh-requested, fresh-off}
-use Rattle.supervisor.proofs.HistoryLaws.{Comes, stopped, ticking, other, comes, called-eight, after-eight, after-append}
-use Rattle.supervisor.proofs.ModuleLaws.{Eight, mission-low}
-use Rattle.supervisor.proofs.SwitchLaws.{act-power, on-requested}
-use Rattle.supervisor.proofs.TickLaws.{Ticks, waits, runs, ticks, ticked-flies}
-use Rattle.promises.specs.AsTold.{AsTold, said, lastWord}
+use Rattle.supervisor.proofs.HistoryLaws.{called-eight, after-append}
+use Rattle.supervisor.proofs.ModuleLaws.{Eight}
+use Rattle.supervisor.proofs.TickLaws.{waits}
+use Rattle.promises.specs.AsTold.{AsTold, Requested, OnAfter, crossing, said, lastWord}
+use Rattle.promises.specs.TwoCraft.{shorted}
+use Rattle.promises.specs.Deployment.{deployed}
+use Rattle.promises.specs.ForAReason.{wantedIn}
+use Rattle.promises.proofs.Deployment.{stays-over}
+use Rattle.promises.proofs.ForAReason.{deploy-power, for-a-reason}
 use Rattle.promises.proofs.Requests.{called-said}
 
 -- the requests of a history
 after-said :
-    (mission : Bool) (i : ℕ) → i < moduleCount → isMission i ≡ mission → (cs : List Call) (s : State) (word : Bool) → Eight s → moduleAt i s .requested ≡ word →
-    moduleAt i (after s cs) .requested ≡ lastWord mission i word s cs
-after-said mission i low e [] s word n h = h
-after-said mission i low e (c ∷ cs) s word n h =
-    after-said mission i low e cs (called s c .result .state) (said mission i s c word) (called-eight s c n) (called-said i low mission e s n c ∙ ap (said mission i s c) h)
+    (i : ℕ) → i < moduleCount → (cs : List Call) (s : State) (word : Bool) → Eight s → moduleAt i s .requested ≡ word →
+    moduleAt i (after s cs) .requested ≡ lastWord crossing i word s cs
+after-said i low [] s word n h = h
+after-said i low (c ∷ cs) s word n h =
+    after-said i low cs (called s c .result .state) (said crossing i s c word) (called-eight s c n) (called-said i low s n c ∙ ap (said crossing i s c) h)
 
-fresh-said :
-    (mission : Bool) (i : ℕ) → i < moduleCount → isMission i ≡ mission → (cs : List Call) →
-    moduleAt i (after freshState cs) .requested ≡ lastWord mission i (not mission) freshState cs
-fresh-said mission i low e cs = after-said mission i low e cs freshState (not mission) fresh-eight (fresh-requested i low ∙ ap not e)
+fresh-said : Requested crossing
+fresh-said i low cs = after-said i low cs freshState (not (isMission i)) fresh-eight (fresh-requested i low)
 
-module _ (i : ℕ) (low : i < moduleCount) where
+module _ (i : ℕ) where
   -- in DEPLOY_WAIT the module is off
-  abbrev Dark : State → Type 0
+  abbrev pub Dark : State → Type 0
   Dark s = inDeployWait s ≡ true → isOn (moduleAt i s .power) ≡ false
 
-  tick-dark : (shorts : ℕ) (s : State) → Dark s → Ticks shorts s → Dark (ticked shorts s .state)
-  tick-dark shorts s dark (waits phase e w) h = rw w (dark (rw e))
-  tick-dark shorts s dark (runs e w) h = absurd (true≢false (sym h ∙ ticked-flies shorts s e))
+  dark-by : (s : State) (c : Call) → Dark s → (waits : Bool) → inDeployWait s ≡ waits → Dark (called s c .result .state)
+  dark-by s c dark true e h = rw (deploy-power i s c e) (dark e)
+  dark-by s c dark false e h = absurd (true≢false (sym h ∙ stays-over s (c ∷ []) e))
 
-  called-dark : (s : State) (c : Call) → Eight s → Dark s → Comes s c → Dark (called s c .result .state)
-  called-dark s c n dark (stopped answer w) = rw (w .leaves) dark
-  called-dark s c n dark (ticking shorts w) = rw (w .leaves) (tick-dark shorts s dark (ticks shorts s))
-  called-dark s c n dark (other f e w) = rw (w .leaves, watch-still f (w .fits) e s, act-power s n i low f (w .fits) e) dark
+  pub after-dark : (cs : List Call) (s : State) → Dark s → Dark (after s cs)
+  after-dark [] s dark = dark
+  after-dark (c ∷ cs) s dark = after-dark cs (called s c .result .state) (dark-by s c dark (inDeployWait s) refl)
 
-  after-dark : (cs : List Call) (s : State) → Eight s → Dark s → Dark (after s cs)
-  after-dark [] s n dark = dark
-  after-dark (c ∷ cs) s n dark = after-dark cs (called s c .result .state) (called-eight s c n) (called-dark s c n dark (comes s c))
-
-  -- a module that is on after a tick is requested
-  tick-asked :
-      (shorts : ℕ) (s : State) → Eight s → Dark s → Ticks shorts s → T (isOn (moduleAt i (ticked shorts s .state) .power)) →
-      T (moduleAt i (ticked shorts s .state) .requested)
-  unfolding beaconStage
-  tick-asked shorts s n dark (waits phase e w) t = absurd (rw (dark (rw e)) at (rw w at t))
-  tick-asked shorts s n dark (runs e w) t = rw w (on-requested (beforeModules s) (before-eight s n) i low shorts (rw w at t))
-
-  called-asked :
-      (s : State) (c : Call) → Eight s → Dark s → Comes s c → T (doneTick s c) → T (isOn (moduleAt i (called s c .result .state) .power)) →
+  -- then a module that is on after a done tick is requested
+  asked-by :
+      (s : State) (c : Call) → Dark s → (waits : Bool) → inDeployWait s ≡ waits → T (doneTick s c) → T (isOn (moduleAt i (called s c .result .state) .power)) →
       T (moduleAt i (called s c .result .state) .requested)
-  called-asked s c n dark (stopped answer w) d t = absurd (rw (w .tick) at d)
-  called-asked s c n dark (ticking shorts w) d t = rw (w .leaves) (tick-asked shorts s n dark (ticks shorts s) (rw (w .leaves) at t))
-  called-asked s c n dark (other f e w) d t = absurd (rw (w .tick, e) at d)
+  asked-by s c dark true e d t = absurd (rw (deploy-power i s c e, dark e) at t)
+  asked-by s c dark false e d t =
+      let next : State = called s c .result .state in
+      let out : T (deployed s) = rw e tt in
+      and-left (moduleAt i next .requested) (bit i (allowedIn (next .watch .mode)))
+      (and-left (wantedIn next i) (not (shorted i (aboutOf c))) (for-a-reason .on i s c d out t))
 
-asked-for :
-    (i : ℕ) → isMission i ≡ true → (cs : List Call) (c : Call) → T (doneTick (after freshState cs) c) →
-    T (isOn (moduleAt i (called (after freshState cs) c .result .state) .power)) → T (lastWord true i false freshState (cs ++ c ∷ []))
-asked-for i m cs c d t =
-    let low : i < moduleCount = mission-low i m in
-    rw (← fresh-said true i low m (cs ++ c ∷ []), after-append cs c freshState)
-    (called-asked i low (after freshState cs) c (after-eight cs freshState fresh-eight) (after-dark i low cs freshState fresh-eight (λ h. fresh-off i low)) (comes (after freshState cs) c) d t)
+  pub called-asked :
+      (s : State) (c : Call) → Dark s → T (doneTick s c) → T (isOn (moduleAt i (called s c .result .state) .power)) → T (moduleAt i (called s c .result .state) .requested)
+  called-asked s c dark = asked-by s c dark (inDeployWait s) refl
+
+-- from the fresh start
+pub fresh-dark : (i : ℕ) → i < moduleCount → (cs : List Call) → Dark i (after freshState cs)
+fresh-dark i low cs = after-dark i cs freshState (λ h. fresh-off i low)
+
+asked-for : OnAfter doneTick
+asked-for i low cs c d t =
+    rw (← fresh-said i low (cs ++ c ∷ []), after-append cs c freshState) (called-asked i (after freshState cs) c (fresh-dark i low cs) d t)
 
 pub as-told : AsTold
-as-told = record { mission = λ i m. fresh-said true i (mission-low i m) m; core = λ i low m. fresh-said false i low m; askedFor = asked-for }
+as-told = record { requested = fresh-said; askedFor = asked-for }

@@ -22,12 +22,12 @@ use Rattle.supervisor.specs.declared.state.Phase.{Phase}
 use Rattle.supervisor.specs.declared.state.Phase.the-variants.{Waiting, Settling}
 use Rattle.supervisor.specs.declared.state.Mode.{Mode}
 use Rattle.supervisor.specs.declared.state.State.{State}
-use Rattle.supervisor.proofs.ActLaws.{watch-still}
-use Rattle.supervisor.proofs.HistoryLaws.{Works, Comes, stopped, ticking, other}
+use Rattle.supervisor.proofs.HistoryLaws.{Works}
 use Rattle.supervisor.proofs.TickLaws.{Ticks, waits, runs, ticks, staged-beacon}
 use Rattle.supervisor.proofs.DueLaws.{count-stands, none-at-sixty}
 use Rattle.supervisor.proofs.ReportLaws.{report-due}
 use Rattle.promises.specs.NeverSilent.{beaconDue}
+use Rattle.promises.proofs.OnlyTicks.{Turn, moves, still, only-ticks}
 
 -- the three stages, with none due
 module _ (shorts : ℕ) (s : State) where
@@ -77,14 +77,12 @@ module _ (s : State) (c : Call) (silent : beaconDue s c ≡ false) where
       let e : byte ≡ 0 = eqb-true byte 0 (not-false (eqb byte 0) (rw (w .tick) at silent)) in
       rw (w .leaves, report-due (frame.Tick shorts) (ticked shorts s) (c .room)) at e
 
-  pub call-count : inDeployWait s ≡ false → Comes s c → called s c .result .state .watch .beacon ≡ s .watch .beacon + (if doneTick s c then 1 else 0)
-  call-count out (stopped answer w) = rw (w .tick, w .leaves) (omega arith)
-  call-count out (ticking shorts w) = rw (w .tick, w .leaves) (tick-count shorts s (ticks shorts s) out (silent-tick shorts w))
-  call-count out (other f e w) = rw (w .tick, e, w .leaves, watch-still f (w .fits) e s) (omega arith)
+  pub call-count : inDeployWait s ≡ false → Turn s c → called s c .result .state .watch .beacon ≡ s .watch .beacon + (if doneTick s c then 1 else 0)
+  call-count out (moves shorts w) = rw (w .tick, w .leaves) (tick-count shorts s (ticks shorts s) out (silent-tick shorts w))
+  call-count out (still e) = rw (e, only-ticks .watch s c e) (omega arith)
 
   pub call-sixty :
-      (T (doneTick s c) → isSafe (called s c .result .state .watch .mode) ≡ true) → Comes s c →
+      (T (doneTick s c) → isSafe (called s c .result .state .watch .mode) ≡ true) → Turn s c →
       called s c .result .state .watch .beacon % completeTicks ≡ s .watch .beacon % completeTicks + (if doneTick s c then 1 else 0)
-  call-sixty safe (stopped answer w) = rw (w .tick, w .leaves) (omega arith)
-  call-sixty safe (ticking shorts w) = rw (w .tick, w .leaves) (tick-sixty shorts s (ticks shorts s) (rw (w .leaves) at (safe (rw (w .tick) tt))) (silent-tick shorts w))
-  call-sixty safe (other f e w) = rw (w .tick, e, w .leaves, watch-still f (w .fits) e s) (omega arith)
+  call-sixty safe (moves shorts w) = rw (w .tick, w .leaves) (tick-sixty shorts s (ticks shorts s) (rw (w .leaves) at (safe (rw (w .tick) tt))) (silent-tick shorts w))
+  call-sixty safe (still e) = rw (e, only-ticks .watch s c e) (omega arith)

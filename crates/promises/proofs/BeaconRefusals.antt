@@ -1,11 +1,11 @@
 -- A refusal of the beacon's text writes nothing.
 -- Assumes nothing.
-use Prim.Native.Nat.{ℕ}
+use Prim.Native.Nat.{ℕ, _≤_}
+use native.Mathlib.Omega.{arith}
 use mathlib.Core.Path.{refl}
 use mathlib.Core.List.{List}
-use lib.Dec.{T, ltb}
+use lib.Dec.{ltb}
 use lib.ListN.{length}
-use Rattle.basics.specs.Choice.{within}
 use Rattle.basics.specs.Outcome.{Outcome}
 use Rattle.basics.proofs.ChoiceLaws.{either}
 use Rattle.supervisor.specs.Range.{inRange}
@@ -18,11 +18,11 @@ use Rattle.promises.specs.Refusals.{Unwritten}
 
 module _ (room : List ℕ) where
   abbrev Keeps : Outcome Written → Type 0
-  Keeps after = T (within 1 14 (writtenReply (after .result) .number)) → Unwritten (writtenReply (after .result)) room (after .room)
+  Keeps after = 1 ≤ writtenReply (after .result) .number → Unwritten (writtenReply (after .result)) room (after .room)
 
   pub beacon-keeps : (form : Form) (s : State) → Keeps (beaconOf form s room)
   unfolding beaconOf
   beacon-keeps form s =
       either Keeps (inRange s)
-      (either Keeps (ltb (length room) (length (textOf form s))) (λ t. record { count = refl; room = refl }) (λ t. absurd t))
+      (either Keeps (ltb (length room) (length (textOf form s))) (λ t. record { count = refl; room = refl }) (λ t. absurd (omega arith)))
       (λ t. record { count = refl; room = refl })

@@ -1,142 +1,139 @@
--- Dawn, proved: an origin's last serial is the first frame's, moved on modulo 65,536 by the strides since.
+-- Dawn, proved: no call since the "off" requests the module again, and so no tick switches it on.
 -- Assumes nothing.
-use Prim.Native.Nat.{ℕ, _+_, _%_, _≤_, _<_}
+use Prim.Native.Nat.{ℕ, _+_, _≤_, _<_}
 use native.Mathlib.Omega.{arith}
 use mathlib.Core.Path.{_≡_, refl, sym, ap, _∙_}
-use mathlib.Core.Bool.{Bool, true, false}
-use mathlib.Core.List.{List, [], _∷_}
-use lib.Dec.{T, eqb}
-use borrow.Author.Tests.{eqb-true, ne-eqb}
-use Rattle.basics.specs.Choice.{if_then_else_, within}
-use Rattle.basics.proofs.ChoiceLaws.{is-true, within-low, within-high}
+use mathlib.Core.Bool.{Bool, true, false, _&&_, true≢false}
+use mathlib.Core.List.{List, [], _∷_, _++_, append-assoc}
+use lib.Dec.{T, eqb, leb, eqb→eq}
+use lib.ListN.{length}
+use borrow.Author.Tests.{leb-true}
+use Rattle.basics.specs.Choice.{if_then_else_}
+use Rattle.basics.proofs.ChoiceLaws.{holds, either}
+use Rattle.basics.specs.Outcome.{Outcome}
+use Rattle.modules.specs.Groups.{isMission, moduleCount}
+use Rattle.modules.specs.Power.{isOn}
 use Rattle.frames.specs.Answer.{answerNumber}
-use Rattle.frames.specs.Serial.{serialCount, staleFrom, distance, classOf, lastOf}
-use Rattle.frames.specs.About.{serialFrom, about}
-use Rattle.frames.specs.Reading.{readFrame}
+use Rattle.frames.specs.Kind.{reportBytes}
+use Rattle.frames.specs.About.{About, aTick, aCommand, neither}
+use Rattle.frames.specs.declared.command.Command.the-variants.{Order, Thresholds}
 use Rattle.frames.specs.declared.sender.Origin.{Origin}
-use Rattle.frames.specs.declared.serial.Class.{Class}
-use Rattle.frames.specs.declared.serial.Class.the-variants.{Repeat, Fresh, Stale}
-use Rattle.frames.specs.declared.frame.Frame.{Frame}
-use Rattle.frames.specs.declared.reading.Reading.the-variants.{Accepted}
-use Rattle.frames.specs.declared.frame.Frame.the-variants as frame
-use Rattle.frames.proofs.SerialLaws.{fresh-ahead, moved-on}
+use Rattle.supervisor.specs.State.{isRecovery, isSafe, moduleAt}
+use Rattle.supervisor.specs.Fresh.{freshState}
 use Rattle.supervisor.specs.Range.{inRange}
-use Rattle.supervisor.specs.Act.{actOf}
-use Rattle.supervisor.specs.Tick.{ticked}
-use Rattle.supervisor.specs.History.{Call, called, answered, isTaken, after, aboutOf}
-use Rattle.supervisor.specs.State.{moduleAt}
-use Rattle.supervisor.specs.declared.acted.Acted.{Acted}
+use Rattle.supervisor.specs.Step.{stepOf}
+use Rattle.supervisor.specs.History.{Call, called, answered, isDone, after, aboutOf, HasRoom, doneTick, doneTicks}
+use Rattle.supervisor.specs.declared.state.Mode.{Mode}
 use Rattle.supervisor.specs.declared.state.State.{State}
-use Rattle.supervisor.proofs.CommandLaws.{Judged, act-answers}
-use Rattle.supervisor.proofs.HistoryLaws.{Works, Comes, stopped, ticking, other, comes, called-read, called-in-range, after-in-range}
-use Rattle.supervisor.proofs.SerialLaws.{View, foreign, own, view, judged-last, from}
-use Rattle.promises.specs.Serials.{verdict}
-use Rattle.promises.specs.Dawn.{Dawn, Late, NotTaken, stride, movedOn, memory}
-use Rattle.promises.proofs.Serials.{read-verdict}
-use Rattle.promises.proofs.Refusals.{refusals}
+use Rattle.supervisor.specs.declared.step.Stepped.{Stepped}
+use Rattle.supervisor.proofs.FreshLaws.{fresh-eight}
+use Rattle.supervisor.proofs.HistoryLaws.{called-eight, after-eight, after-append}
+use Rattle.supervisor.proofs.ModuleLaws.{Eight, mission-low}
+use Rattle.promises.specs.AsTold.{orders, ordered, crossing}
+use Rattle.promises.specs.Dawn.{Dawn, OrderedOff, StillOff, memory}
+use Rattle.promises.proofs.OnlyTicks.{only-ticks}
+use Rattle.promises.proofs.Requests.{called-said}
+use Rattle.promises.proofs.AsTold.{Dark, after-dark, called-asked, fresh-dark}
+use Rattle.promises.proofs.Late.{old}
 
--- what lies at most 32,768 behind is not fresh
-not-fresh :
-    (serial last old k d : ℕ) → last % serialCount ≡ (serial + d) % serialCount → (old + k) % serialCount ≡ serial % serialCount → k + d ≤ memory →
-    (0 < distance old last) × (distance old last < staleFrom) → ⊥
-not-fresh serial last old k d e f h r = omega arith
+-- what is done had room
+room-by : (s : State) (c : Call) (room : Bool) → leb reportBytes (length (c .room)) ≡ room → answered s c ≡ 0 → HasRoom c
+unfolding stepOf
+room-by s c true e z = leb-true reportBytes (length (c .room)) e
+room-by s c false e z =
+    absurd
+    (either (λ (o : Outcome Stepped). answerNumber (o .result .answer) ≡ 0 → ⊥) (inRange s) (λ (n : _≡_ {A = ℕ} 2 0). omega arith)
+    (λ (n : _≡_ {A = ℕ} 1 0). omega arith) (rw e at z))
 
--- One call
+done-room : (s : State) (c : Call) → answered s c ≡ 0 → HasRoom c
+done-room s c = room-by s c (leb reportBytes (length (c .room))) refl
 
-no-stride : (serials : List ℕ) (last : ℕ) → stride false serials last ≡ 0
-no-stride [] last = refl
-no-stride (serial ∷ serials) last = refl
+-- an "off" says so whatever was said before
+off-says : (i : ℕ) (a : About) (word : Bool) → orders i a true ≡ false → orders i a word ≡ false
+off-says i (aTick shorts) word e = absurd (true≢false e)
+off-says i (aCommand sender (Order which on)) word e = by (eqb i which) e
+  where
+    by : (here : Bool) → (if here then on else true) ≡ false → (if here then on else word) ≡ false
+    by true e = e
+    by false e = absurd (true≢false e)
+off-says i (aCommand sender (Thresholds ascend descend)) word e = absurd (true≢false e)
+off-says i neither word e = absurd (true≢false e)
 
-not-taken : (n : ℕ) → T (within 1 7 n) → isTaken n ≡ false
-not-taken n h =
-    let low : 1 ≤ n = within-low 1 7 n h in
-    let high : n ≤ 7 = within-high 1 7 n h in
-    rw (ne-eqb n 0 (omega arith), ne-eqb n 10 (omega arith))
+is-false : (b : Bool) → (T b → ⊥) → b ≡ false
+is-false true h = absurd (h tt)
+is-false false h = refl
 
-module _ (origin : Origin) where
-  -- a tick is no command of any origin
-  tick-view : (shorts : ℕ) (s : State) → View origin (frame.Tick shorts) s (ticked shorts s)
-  unfolding actOf
-  tick-view shorts s = view origin (frame.Tick shorts) s (ticked shorts s) (act-answers (frame.Tick shorts) s)
+module _ (which : ℕ) (mission : isMission which ≡ true) where
+  low : which < moduleCount
+  low = mission-low which mission
 
-  -- where an origin's last serial stands after a call, modulo 65,536
-  abbrev Strides : State → Call → Type 0
-  Strides s c =
-      lastOf origin (called s c .result .state .serials) % serialCount
-      ≡ (lastOf origin (s .serials) + stride (isTaken (answered s c)) (serialFrom origin (aboutOf c)) (lastOf origin (s .serials))) % serialCount
+  abbrev Quiet : State → Type 0
+  Quiet s = moduleAt which s .requested ≡ false
 
-  own-strides : (class : Class) (serial : ℕ) (s : State) (a : Acted) → classOf serial (lastOf origin (s .serials)) ≡ class → Judged class (from origin serial) s a →
-      lastOf origin (a .state .serials) % serialCount ≡ (lastOf origin (s .serials) + stride (isTaken (answerNumber (a .answer))) (serial ∷ []) (lastOf origin (s .serials))) % serialCount
-  own-strides Repeat serial s a e d = rw (d .0) (omega (arith, judged-last origin Repeat serial s a d))
-  own-strides Stale serial s a e d = rw (d .0) (omega (arith, judged-last origin Stale serial s a d))
-  own-strides Fresh serial s a e d =
-      rw (is-true (isTaken (answerNumber (a .answer))) (d .taken))
-      (omega (arith, judged-last origin Fresh serial s a d, moved-on serial (lastOf origin (s .serials)) (fresh-ahead serial (lastOf origin (s .serials)) e .0)))
+  -- one call leaves the module unrequested if all that it says, once done, is "off"
+  no-crossing : (before after : Mode) → crossing true before after false ≡ false
+  no-crossing before after = either (λ (w : Bool). w ≡ false) (isSafe before && isRecovery after) refl refl
 
-  view-strides : (f : Frame) (s : State) (c : Call) (a : Acted) → Works s c f a → View origin f s a → Strides s c
-  view-strides f s c a w (foreign b e) = rw (w .read, b, w .leaves, e) (omega arith)
-  view-strides f s c a w (own serial b d) = rw (w .read, b, w .leaves) (own-strides (classOf serial (lastOf origin (s .serials))) serial s a refl d)
+  called-quiet : (s : State) (c : Call) → Eight s → ordered which s c (moduleAt which s .requested) ≡ false → Quiet (called s c .result .state)
+  called-quiet s c n e = called-said which low s n c ∙ rw (mission, e) (no-crossing (s .watch .mode) (called s c .result .state .watch .mode))
 
-  strides : (s : State) (c : Call) → Comes s c → Strides s c
-  strides s c (stopped answer w) = rw (w .leaves, not-taken (answerNumber answer) (w .number), no-stride (serialFrom origin (aboutOf c)) (lastOf origin (s .serials))) (omega arith)
-  strides s c (ticking shorts w) = view-strides (frame.Tick shorts) s c (ticked shorts s) w (tick-view shorts s)
-  strides s c (other f e w) = view-strides f s c (actOf f s) w (view origin f s (actOf f s) (act-answers f s))
+  -- an "on" that is not done leaves it so
+  said-quiet : (done on : Bool) → (T done → on ≡ true → ⊥) → (if done then on else false) ≡ false
+  said-quiet true true h = absurd (h tt refl)
+  said-quiet true false h = refl
+  said-quiet false on h = refl
 
-  -- after many calls
-  after-strides : (cs : List Call) (s : State) → lastOf origin (after s cs .serials) % serialCount ≡ (lastOf origin (s .serials) + movedOn origin s cs) % serialCount
-  after-strides [] s = omega arith
-  after-strides (c ∷ cs) s = omega (arith, after-strides cs (called s c .result .state), strides s c (comes s c))
+  no-on : (s : State) (c : Call) → Eight s → Quiet s → (answered s c ≡ 0 → orders which (aboutOf c) false ≡ true → ⊥) → Quiet (called s c .result .state)
+  no-on s c n q h =
+      called-quiet s c n
+      (rw q (said-quiet (isDone (answered s c)) (orders which (aboutOf c) false) (λ d. h (eqb→eq (answered s c) 0 d))))
 
-  -- a frame that was taken left its serial
-  last-by :
-      (class : Class) (serial : ℕ) (s : State) (a : Acted) → T (isTaken (answerNumber (a .answer))) → Judged class (from origin serial) s a →
-      lastOf origin (a .state .serials) ≡ serial
-  last-by Repeat serial s a t d = absurd (rw (d .0) at t)
-  last-by Stale serial s a t d = absurd (rw (d .0) at t)
-  last-by Fresh serial s a t d = judged-last origin Fresh serial s a d
+  -- it is off after a done tick, and stays off
+  abbrev Off : State → Type 0
+  Off s = isOn (moduleAt which s .power) ≡ false
 
-  view-last :
-      (f : Frame) (s : State) (c : Call) (a : Acted) (serial : ℕ) → serialFrom origin (aboutOf c) ≡ serial ∷ [] → T (isTaken (answered s c)) →
-      Works s c f a → View origin f s a → lastOf origin (called s c .result .state .serials) ≡ serial
-  view-last f s c a serial b t w (foreign z e) = let read : serialFrom origin (about (Accepted f)) ≡ serial ∷ [] = rw (w .read) at b in cc
-  view-last f s c a serial b t w (own n z d) =
-      let read : serialFrom origin (about (Accepted f)) ≡ serial ∷ [] = rw (w .read) at b in
-      let e : n ≡ serial = cc in
-      rw (w .leaves) (last-by (classOf n (lastOf origin (s .serials))) n s a (rw (w .leaves) at t) d ∙ e)
+  off-by :
+      (s : State) (c : Call) → Dark which s → Quiet (called s c .result .state) → (tick : Bool) → doneTick s c ≡ tick → (d : ℕ) → (1 ≤ d → Off s) →
+      1 ≤ d + (if tick then 1 else 0) → Off (called s c .result .state)
+  off-by s c dark q true e d p h = is-false (isOn (moduleAt which (called s c .result .state) .power)) (λ t. rw q at (called-asked which s c dark (holds (doneTick s c) e) t))
+  off-by s c dark q false e d p h = rw (only-ticks .power which s c e) (p (omega arith))
 
-  taken-last :
-      (s : State) (c : Call) (serial : ℕ) → serialFrom origin (aboutOf c) ≡ serial ∷ [] → T (isTaken (answered s c)) → Comes s c →
-      T (inRange s) × (lastOf origin (called s c .result .state .serials) ≡ serial)
-  taken-last s c serial b t (stopped answer w) = absurd (rw (not-taken (answerNumber answer) (w .number)) at (rw (w .leaves) at t))
-  taken-last s c serial b t (ticking shorts w) = (w .valid, view-last (frame.Tick shorts) s c (ticked shorts s) serial b t w (tick-view shorts s))
-  taken-last s c serial b t (other f e w) = (w .valid, view-last f s c (actOf f s) serial b t w (view origin f s (actOf f s) (act-answers f s)))
+  module _ (origin : Origin) (cs : List Call) (off : Call) (since : List Call) (o : OrderedOff memory origin which cs off since) where
+    first : State
+    first = called (after freshState cs) off .result .state
 
--- the verdict is not "neither": 8 or 9
-eight-or-nine : (n : ℕ) (r q : Bool) → eqb n 8 ≡ r → eqb n 9 ≡ q → ((if r then Repeat else if q then Stale else Fresh) ≡ Fresh → ⊥) → T (within 8 9 n)
-eight-or-nine n true q e f h = rw (eqb-true n 8 e) tt
-eight-or-nine n false true e f h = rw (eqb-true n 9 f) tt
-eight-or-nine n false false e f h = absurd (h refl)
+    -- an "on" since then is not done
+    late-on : (before later : List Call) (c : Call) → since ≡ before ++ c ∷ later → answered (after first before) c ≡ 0 → orders which (aboutOf c) false ≡ true → ⊥
+    unfolding first
+    late-on before later c e z says = rw z at (old origin (after freshState cs) off before c (o .lateOns before later c e says (done-room (after first before) c z)) .answer)
 
-late-not-taken :
-    (origin : Origin) (s : State) (first : Call) (since : List Call) (late : Call) → Late origin s first since late →
-    NotTaken (after (called s first .result .state) since) late
-late-not-taken origin s first since late l =
-    let (valid, last) = taken-last origin s first (l .serial) (l .firstSerial) (l .taken) (comes s first) in
-    let t : State = after (called s first .result .state) since in
-    let v : T (inRange t) = after-in-range since (called s first .result .state) (called-in-range s first valid) in
-    let e : verdict (answered t late) ≡ classOf (l .old) (lastOf origin (t .serials)) =
-    rw (called-read t late v (l .room)) (read-verdict origin (l .old) (readFrame (late .input)) t (late .room) (l .lateSerial)) in
-    let m : lastOf origin (t .serials) % serialCount ≡ (l .serial + movedOn origin (called s first .result .state) since) % serialCount =
-    rw last at (after-strides origin since (called s first .result .state)) in
-    let old : T (within 8 9 (answered t late)) =
-    eight-or-nine (answered t late) (eqb (answered t late) 8) (eqb (answered t late) 9) refl refl
-    (λ f. not-fresh (l .serial) (lastOf origin (t .serials)) (l .old) (l .k) (movedOn origin (called s first .result .state) since) m (l .behind) (l .soon)
-    (fresh-ahead (l .old) (lastOf origin (t .serials)) (sym e ∙ f))) in
-    record { answer = old; state = refusals .eightAndNine t late old .state }
+    still :
+        (before rest : List Call) (s : State) → s ≡ after first before → since ≡ before ++ rest → Eight s → Dark which s → Quiet s → (d : ℕ) → (1 ≤ d → Off s) →
+        Quiet (after s rest) × (1 ≤ d + doneTicks s rest → Off (after s rest))
+    still before [] s e f n dark q d p = (q, λ h. p (omega arith))
+    still before (c ∷ rest) s e f n dark q d p =
+        let next : State = called s c .result .state in
+        let quiet : Quiet next = no-on s c n q (rw e (late-on before rest c f)) in
+        let (requested, power) =
+        still (before ++ (c ∷ [])) rest next (ap (λ (t : State). called t c .result .state) e ∙ sym (after-append before c first))
+        (f ∙ sym (append-assoc before (c ∷ []) rest)) (called-eight s c n) (after-dark which (c ∷ []) s dark) quiet (d + (if doneTick s c then 1 else 0))
+        (off-by s c dark quiet (doneTick s c) refl d p) in
+        (requested, λ h. power (omega arith))
+
+    first-quiet : Quiet first
+    unfolding first
+    first-quiet =
+        let s : State = after freshState cs in
+        called-quiet s off (after-eight cs freshState fresh-eight) (rw (o .done) (off-says which (aboutOf off) (moduleAt which s .requested) (o .order)))
+
+    stays-off : StillOff 1 which first since
+    unfolding first
+    stays-off =
+        let (requested, power) =
+        still [] since first refl refl (called-eight (after freshState cs) off (after-eight cs freshState fresh-eight))
+        (after-dark which (off ∷ []) (after freshState cs) (fresh-dark which low cs)) first-quiet 0 (λ h. absurd (omega arith)) in
+        record { requested = requested; power = λ h. power (omega arith) }
 
 pub dawn : Dawn
-dawn =
-    record {
-      old = late-not-taken;
-      off = λ origin which s first since late l off on. ap (moduleAt which) (late-not-taken origin s first since late l .state);
-    }
+unfolding first
+dawn = record { old = old; dark = λ origin which cs off since mission o. stays-off which mission origin cs off since o }

@@ -3,13 +3,12 @@
 use Prim.Native.Nat.{ℕ, _+_, _-_, _≤_}
 use native.Mathlib.Omega.{arith}
 use mathlib.Core.Path.{_≡_, refl}
-use mathlib.Core.Bool.{Bool, false, _||_, true≢false}
+use mathlib.Core.Bool.{Bool, true, false, _||_, true≢false}
 use mathlib.Core.List.{List, [], _∷_}
 use lib.Dec.{T, eqb, ltb→lt}
 use Rattle.basics.specs.Choice.{if_then_else_}
-use Rattle.basics.proofs.ChoiceLaws.{and-left, either, within-low}
+use Rattle.basics.proofs.ChoiceLaws.{holds, and-left, either, within-low, within-high}
 use Rattle.supervisor.specs.Range.{inRange, watchInRange, phaseInRange, waitSeconds, settleSeconds}
-use Rattle.supervisor.specs.Fresh.{freshState}
 use Rattle.supervisor.specs.Tick.{ticked}
 use Rattle.supervisor.specs.Deploy.{phaseTicked}
 use Rattle.supervisor.specs.History.{Call, called, after, doneTick, doneTicks}
@@ -20,11 +19,12 @@ use Rattle.supervisor.specs.declared.state.Mode.{Mode}
 use Rattle.supervisor.specs.declared.state.Mode.the-variants.{DeployWait, Recovery, Safe}
 use Rattle.supervisor.specs.declared.state.State.{State}
 use Rattle.supervisor.proofs.ActLaws.{watch-still}
-use Rattle.supervisor.proofs.FreshLaws.{fresh-in-range}
-use Rattle.supervisor.proofs.HistoryLaws.{Comes, stopped, ticking, other, comes, after-in-range, after-keeps}
+use Rattle.supervisor.proofs.HistoryLaws.{after-in-range, after-keeps}
 use Rattle.supervisor.proofs.RangeLaws.{parts, phase-in-range}
 use Rattle.supervisor.proofs.TickLaws.{Ticks, waits, runs, ticks, ticked-flies}
-use Rattle.promises.specs.Deployment.{Deployment}
+use Rattle.promises.specs.Deployment.{Deployment, longestDeployment}
+use Rattle.promises.proofs.OnlyTicks.{Turn, moves, still, turn, only-ticks}
+use Rattle.promises.proofs.OutOfRange.{no-ticks}
 
 -- the seconds that are left of DEPLOY_WAIT
 secondsLeft : Mode → ℕ
@@ -62,25 +62,33 @@ ticked-left shorts s h (waits phase e w) =
 ticked-left shorts s h (runs e w) = omega (arith, none-left (ticked shorts s .state .watch .mode) (ticked-flies shorts s e))
 
 -- a call takes off as many seconds as it is done ticks
-left-after : (s : State) (c : Call) → Comes s c → secondsLeft (called s c .result .state .watch .mode) ≤ secondsLeft (s .watch .mode) - (if doneTick s c then 1 else 0)
-left-after s c (stopped answer w) = rw (w .tick, w .leaves) (omega arith)
-left-after s c (ticking shorts w) = rw (w .tick, w .leaves) (ticked-left shorts s (w .valid) (ticks shorts s))
-left-after s c (other f e w) = rw (w .tick, e, w .leaves, watch-still f (w .fits) e s) (omega arith)
+left-after : (s : State) (c : Call) → Turn s c → secondsLeft (called s c .result .state .watch .mode) ≤ secondsLeft (s .watch .mode) - (if doneTick s c then 1 else 0)
+left-after s c (moves shorts w) = rw (w .tick, w .leaves) (ticked-left shorts s (w .valid) (ticks shorts s))
+left-after s c (still e) = rw (e, only-ticks .watch s c e) (omega arith)
 
 left-in-all : (cs : List Call) (s : State) → secondsLeft (after s cs .watch .mode) ≤ secondsLeft (s .watch .mode) - doneTicks s cs
 left-in-all [] s = omega arith
-left-in-all (c ∷ cs) s = omega (arith, left-in-all cs (called s c .result .state), left-after s c (comes s c))
+left-in-all (c ∷ cs) s = omega (arith, left-in-all cs (called s c .result .state), left-after s c (turn s c))
 
 -- outside DEPLOY_WAIT every history stays outside
 pub stays-over : (s : State) (cs : List Call) → inDeployWait s ≡ false → inDeployWait (after s cs) ≡ false
 stays-over s cs h =
     after-keeps (λ t. inDeployWait t ≡ false) (λ shorts t v e. ticked-flies shorts t e) (λ f fits i t v e. rw (watch-still f fits i t) e) cs s h
 
+-- from a state in range there are 87,300 seconds left at most
+most-left : (m : Mode) (c b : ℕ) → T (watchInRange m c b) → secondsLeft m ≤ longestDeployment
+unfolding secondsLeft
+most-left (DeployWait (Waiting waited)) c b h = omega arith
+most-left (DeployWait (Settling left)) c b h = omega (arith, within-high 1 settleSeconds left (search (and-left)))
+most-left Recovery c b h = omega arith
+most-left Safe c b h = omega arith
+
+ends : (cs : List Call) (s : State) (valid : Bool) → inRange s ≡ valid → longestDeployment ≤ doneTicks s cs → inDeployWait (after s cs) ≡ false
+ends cs s false e h = absurd (omega (arith, no-ticks cs s e))
+ends cs s true e h =
+    let valid : T (inRange s) = holds (inRange s) e in
+    left-none (after s cs .watch .mode) (after s cs .watch .control) (after s cs .watch .beacon) (parts (after s cs) (after-in-range cs s valid) .watch)
+    (omega (arith, left-in-all cs s, most-left (s .watch .mode) (s .watch .control) (s .watch .beacon) (parts s valid .watch)))
+
 pub deployment : Deployment
-unfolding secondsLeft freshState
-deployment =
-    record {
-      ends = λ cs h. left-none (after freshState cs .watch .mode) (after freshState cs .watch .control) (after freshState cs .watch .beacon)
-          (parts (after freshState cs) (after-in-range cs freshState fresh-in-range) .watch) (omega (arith, left-in-all cs freshState));
-      over = stays-over;
-    }
+deployment = record { ends = λ s cs. ends cs s (inRange s) refl; over = stays-over }

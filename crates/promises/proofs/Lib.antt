@@ -1,7 +1,12 @@
+pub mod Rules
 pub mod InRange
 pub mod KeyerRefusals
 pub mod BeaconRefusals
 pub mod Refusals
+pub mod EachModule
+pub mod OnlyTicks
+pub mod ForAReason
+pub mod OutOfRange
 pub mod Deployment
 pub mod TwoModes
 pub mod TwoControl
@@ -10,9 +15,13 @@ pub mod TwoFrames
 pub mod TwoPower
 pub mod TwoCraft
 pub mod Serials
-pub mod Dawn
 pub mod Requests
 pub mod AsTold
+pub mod Late
+pub mod Dawn
 pub mod BeaconLaws
 pub mod NeverSilent
+pub mod OnTheGround
 pub mod Numbers
+pub mod Edge
+pub mod Tied

@@ -2,18 +2,22 @@
 -- Assumes nothing.
 use Prim.Native.Nat.{_+_, _%_, _<_}
 use native.Mathlib.Omega.{arith}
-use mathlib.Core.Path.{_≡_, refl, sym, _∙_}
+use mathlib.Core.Path.{_≡_, refl}
 use mathlib.Core.Bool.{Bool, true, false, _||_, true≢false}
 use mathlib.Core.List.{List, [], _∷_}
 use lib.Dec.{T}
+use borrow.Author.Tests.{not-true}
 use Rattle.basics.proofs.ChoiceLaws.{is-true, holds}
 use Rattle.supervisor.specs.Range.{inRange, completeTicks}
-use Rattle.supervisor.specs.History.{Call, called, after, doneTick, doneTicks}
+use Rattle.supervisor.specs.History.{Call, called, after, doneTicks}
 use Rattle.supervisor.specs.State.{inDeployWait}
 use Rattle.supervisor.specs.declared.state.State.{State}
-use Rattle.supervisor.proofs.HistoryLaws.{Comes, stopped, ticking, other, comes, after-in-range}
+use Rattle.supervisor.proofs.HistoryLaws.{after-in-range}
 use Rattle.supervisor.proofs.RangeLaws.{counts-of}
+use Rattle.promises.specs.Deployment.{deployed}
 use Rattle.promises.specs.NeverSilent.{NeverSilent, beaconDue, someDue, SafeTicks, fiveMinutes}
+use Rattle.promises.proofs.OnlyTicks.{turn}
+use Rattle.promises.proofs.OutOfRange.{no-ticks}
 use Rattle.promises.proofs.Deployment.{stays-over}
 use Rattle.promises.proofs.BeaconLaws.{call-count, call-sixty}
 
@@ -26,25 +30,13 @@ silent-count : (cs : List Call) (s : State) → inDeployWait s ≡ false → som
 silent-count [] s out h = omega arith
 silent-count (c ∷ cs) s out h =
     let (here, later) = neither (beaconDue s c) (someDue (called s c .result .state) cs) h in
-    omega (arith, silent-count cs (called s c .result .state) (stays-over s (c ∷ []) out) later, call-count s c here out (comes s c))
+    omega (arith, silent-count cs (called s c .result .state) (stays-over s (c ∷ []) out) later, call-count s c here out (turn s c))
 
 silent-sixty : (cs : List Call) (s : State) → SafeTicks s cs → someDue s cs ≡ false → after s cs .watch .beacon % completeTicks ≡ s .watch .beacon % completeTicks + doneTicks s cs
 silent-sixty [] s safe h = omega arith
 silent-sixty (c ∷ cs) s safe h =
     let (here, later) = neither (beaconDue s c) (someDue (called s c .result .state) cs) h in
-    omega (arith, silent-sixty cs (called s c .result .state) (safe .1) later, call-sixty s c here (safe .0) (comes s c))
-
--- a state out of range sees no done tick
-stuck : (s : State) (c : Call) → inRange s ≡ false → Comes s c → (doneTick s c ≡ false) × (called s c .result .state ≡ s)
-stuck s c e (stopped answer w) = (w .tick, rw (w .leaves))
-stuck s c e (ticking shorts w) = absurd (true≢false (sym (is-true (inRange s) (w .valid)) ∙ e))
-stuck s c e (other f t w) = absurd (true≢false (sym (is-true (inRange s) (w .valid)) ∙ e))
-
-no-ticks : (cs : List Call) (s : State) → inRange s ≡ false → doneTicks s cs ≡ 0
-no-ticks [] s e = refl
-no-ticks (c ∷ cs) s e =
-    let (none, same) = stuck s c e (comes s c) in
-    rw none (rw same (omega (arith, no-ticks cs s e)))
+    omega (arith, silent-sixty cs (called s c .result .state) (safe .1) later, call-sixty s c here (safe .0) (turn s c))
 
 below-five-minutes : (cs : List Call) (s : State) (valid : Bool) → inRange s ≡ valid → inDeployWait s ≡ false → someDue s cs ≡ false → doneTicks s cs < fiveMinutes
 below-five-minutes cs s false e out h = omega (arith, no-ticks cs s e)
@@ -61,6 +53,6 @@ not-silent false h = absurd (h refl)
 pub never-silent : NeverSilent
 never-silent =
     record {
-      always = λ s cs out many. not-silent (someDue s cs) (λ h. omega (arith, below-five-minutes cs s (inRange s) refl out h));
+      always = λ s cs out many. not-silent (someDue s cs) (λ h. omega (arith, below-five-minutes cs s (inRange s) refl (not-true (inDeployWait s) (is-true (deployed s) out)) h));
       safe = λ s cs safe many. not-silent (someDue s cs) (λ h. omega (arith, silent-sixty cs s safe h));
     }

@@ -2,88 +2,143 @@
 -- Assumes nothing.
 use Prim.Native.Nat.{ℕ}
 use native.Mathlib.Omega.{arith}
-use mathlib.Core.Path.{_≡_}
-use mathlib.Core.List.{[], _∷_}
-use mathlib.Core.Logic.{⊎-elim}
+use mathlib.Core.Path.{_≡_, refl}
+use mathlib.Core.Bool.{Bool, true, false, not, _&&_, true≢false, false≢true}
 use lib.Dec.{T}
+use borrow.Author.Tests.{eq-eqb}
 use Rattle.basics.specs.Choice.{within}
-use Rattle.basics.proofs.ChoiceLaws.{within-low, within-high}
+use Rattle.basics.proofs.ChoiceLaws.{decided, within-low, within-high, within-of}
+use Rattle.modules.specs.Groups.{isMission}
 use Rattle.frames.specs.Answer.{answerNumber}
-use Rattle.frames.specs.Serial.{movedTo}
-use Rattle.frames.specs.About.{serialFrom, about}
-use Rattle.frames.specs.declared.sender.Origin.{Origin}
-use Rattle.frames.specs.declared.serial.Class.{Class}
-use Rattle.frames.specs.declared.serial.Class.the-variants.{Repeat, Fresh, Stale}
+use Rattle.frames.specs.About.{about, isTick}
+use Rattle.frames.specs.declared.answer.Answer.the-variants.{NotNow}
+use Rattle.frames.specs.declared.command.Command.{Command}
+use Rattle.frames.specs.declared.command.Command.the-variants.{Order, Thresholds}
 use Rattle.frames.specs.declared.frame.Frame.{Frame}
 use Rattle.frames.specs.declared.reading.Reading.the-variants.{Accepted}
 use Rattle.frames.specs.declared.sender.Sender.{Sender}
-use Rattle.supervisor.specs.State.{withSerials}
+use Rattle.frames.specs.declared.frame.Frame.the-variants as frame
+use Rattle.supervisor.specs.State.{isSafe}
+use Rattle.supervisor.specs.Acted.{silent, done}
 use Rattle.supervisor.specs.Act.{actOf}
+use Rattle.supervisor.specs.Command.{isIllTimed, requestSet, taken, serialUsed, bySerial}
 use Rattle.supervisor.specs.History.{Call, answered}
-use Rattle.supervisor.specs.Command.{serialUsed, classIn}
+use Rattle.supervisor.specs.Report.{reportOf}
 use Rattle.supervisor.specs.declared.acted.Acted.{Acted}
+use Rattle.supervisor.specs.declared.acted.Due.the-variants.{Nothing}
 use Rattle.supervisor.specs.declared.state.State.{State}
-use Rattle.supervisor.proofs.CommandLaws.{Judged, Answers, news, judged, act-answers, unrefused, zero-or-ten, own-serial}
-use Rattle.supervisor.proofs.HistoryLaws.{Comes, stopped, ticking, other, comes}
+use Rattle.supervisor.proofs.CommandLaws.{by-serial, act-answers, unrefused}
+use Rattle.supervisor.proofs.HistoryLaws.{Works, Comes, stopped, ticking, other, comes}
 use Rattle.supervisor.proofs.TickLaws.{ticked-done}
-use Rattle.supervisor.proofs.ReportLaws.{report-rest}
-use Rattle.promises.specs.Refusals.{Refusals, Untouched, Reported, SerialUsed}
+use Rattle.promises.specs.AsTold.{commands}
+use Rattle.promises.specs.Refusals.{Refusals, Untouched, TurnedDown, IllTimed, nothing, outsideSafe}
 use Rattle.promises.proofs.BeaconRefusals.{beacon-keeps}
 use Rattle.promises.proofs.KeyerRefusals.{keying-keeps, reading-keeps}
 
--- 8 and 9 leave the state
-judged-old : (class : Class) (sender : Sender) (s : State) (a : Acted) → Judged class sender s a → T (within 8 9 (answerNumber (a .answer))) → a .state ≡ s
-judged-old Repeat sender s a d h = d .1
-judged-old Stale sender s a d h = d .1
-judged-old Fresh sender s a d h =
-    ⊎-elim (λ (e : answerNumber (a .answer) ≡ 0). absurd (rw e at h)) (λ (e : answerNumber (a .answer) ≡ 10). absurd (rw e at h))
-    (zero-or-ten (answerNumber (a .answer)) (d .taken))
+-- an "on" for one of the mission four, outside SAFE
+abbrev Ill : Command → State → Type 0
+Ill command s = record { which : ℕ; mission : isMission which ≡ true; on : commands which command false ≡ true; mode : outsideSafe (s .watch .mode) ≡ true }
 
-old : (f : Frame) (s : State) (a : Acted) → Answers f s a → T (within 8 9 (answerNumber (a .answer))) → a .state ≡ s
-old f s a (news b e k) h = absurd (rw e at h)
-old f s a (judged sender b d) h = judged-old (classIn s sender) sender s a d h
+-- what a command comes to, by its answer: 8 and 9 move nothing, 10 the serial alone
+abbrev Turns : Sender → Command → State → Acted → Type 0
+Turns sender command s a =
+    record {
+      silent : a .due ≡ Nothing;
+      old : T (within 8 9 (answerNumber (a .answer))) → a .state ≡ s;
+      ten : answerNumber (a .answer) ≡ 10 → a .state ≡ serialUsed sender s;
+      ill : answerNumber (a .answer) ≡ 10 → Ill command s;
+    }
 
--- 10 moves the serial alone
-abbrev Used : Frame → State → Acted → Type 0
-Used f s a = (origin : Origin) × (serial : ℕ) × (serialFrom origin (about (Accepted f)) ≡ serial ∷ []) × (a .state ≡ withSerials (movedTo origin serial (s .serials)) s)
+not-ten : {P : Type 0} (n : ℕ) → T (within 0 9 n) → n ≡ 10 → P
+not-ten n h e = absurd (rw e at h)
 
-judged-ill :
-    (class : Class) (sender : Sender) (s : State) (a : Acted) → Judged class sender s a → answerNumber (a .answer) ≡ 10 →
-    a .state ≡ serialUsed sender s
-judged-ill Repeat sender s a d h = absurd (omega (arith, d .0))
-judged-ill Stale sender s a d h = absurd (omega (arith, d .0))
-judged-ill Fresh sender s a d h = d .ill h
+ill-order :
+    (which : ℕ) (on : Bool) (s : State) (on′ m safe : Bool) → on ≡ on′ → isMission which ≡ m → isSafe (s .watch .mode) ≡ safe →
+    on′ && m && not safe ≡ true → Ill (Order which on) s
+ill-order which on s true true false e f g t = record { which = which; mission = f; on = rw (eq-eqb which which refl) e; mode = rw g }
+ill-order which on s true true true e f g t = absurd (false≢true t)
+ill-order which on s true false safe e f g t = absurd (false≢true t)
+ill-order which on s false m safe e f g t = absurd (false≢true t)
 
-ill : (f : Frame) (s : State) (a : Acted) → Answers f s a → answerNumber (a .answer) ≡ 10 → Used f s a
-ill f s a (news b e k) h = let z : _≡_ {A = ℕ} 0 10 = rw e at h in absurd (omega arith)
-ill f s a (judged sender b d) h =
-    (sender .origin, sender .serial, rw (own-serial (sender .origin) (sender .serial)) at (b (sender .origin)), judged-ill (classIn s sender) sender s a d h)
+taken-turns : (sender : Sender) (command : Command) (s : State) → Turns sender command s (taken command (serialUsed sender s))
+unfolding isIllTimed
+taken-turns sender (Order which on) s =
+    decided (Turns sender (Order which on) s) (isIllTimed which on (s .watch .mode))
+    {x = silent NotNow (serialUsed sender s)} {y = done (requestSet which on (serialUsed sender s))}
+    (λ e. record { silent = refl; old = λ t. absurd t; ten = λ z. refl; ill = λ z. ill-order which on s on (isMission which) (isSafe (s .watch .mode)) refl refl refl e })
+    (λ e. record { silent = refl; old = λ t. absurd t; ten = not-ten 0 tt; ill = not-ten 0 tt })
+taken-turns sender (Thresholds ascend descend) s = record { silent = refl; old = λ t. absurd t; ten = not-ten 0 tt; ill = not-ten 0 tt }
+
+command-turns : (sender : Sender) (command : Command) (s : State) → Turns sender command s (bySerial sender command s)
+command-turns sender command s =
+    by-serial sender command s (λ class. Turns sender command s)
+    (record { silent = refl; old = λ t. refl; ten = not-ten 8 tt; ill = not-ten 8 tt })
+    (record { silent = refl; old = λ t. refl; ten = not-ten 9 tt; ill = not-ten 9 tt }) (taken-turns sender command s)
+
+-- what is answered 8, 9 or 10 is a command
+abbrev Commanded : State → Call → Type 0
+Commanded s c = record { sender : Sender; command : Command; works : Works s c (frame.Command sender command) (bySerial sender command s) }
 
 module _ (s : State) (c : Call) where
+  by-frame : (f : Frame) → isTick (about (Accepted f)) ≡ false → Works s c f (actOf f s) → T (within 8 10 (answered s c)) → Commanded s c
+  unfolding actOf
+  by-frame (frame.Tick shorts) e w h = absurd (true≢false e)
+  by-frame (frame.Battery tension) e w h = absurd (rw (w .leaves) at h)
+  by-frame (frame.Antennas deployed) e w h = absurd (rw (w .leaves) at h)
+  by-frame (frame.Command sender command) e w h = record { sender = sender; command = command; works = w }
+
+  commanded : Comes s c → T (within 8 10 (answered s c)) → Commanded s c
+  commanded (stopped answer w) h = absurd (omega (arith, within-high 1 7 (answerNumber answer) (w .number), within-low 8 10 (answerNumber answer) (rw (w .leaves) at h)))
+  commanded (ticking shorts w) h = absurd (rw (w .leaves, ticked-done shorts s) at h)
+  commanded (other f e w) h = by-frame f e w h
+
   untouched : Comes s c → T (within 1 7 (answered s c)) → Untouched s c
   untouched (stopped answer w) h = record { state = rw (w .leaves); room = rw (w .leaves) }
   untouched (ticking shorts w) h = absurd (rw (w .leaves, ticked-done shorts s) at h)
   untouched (other f e w) h = absurd (rw (unrefused f s (actOf f s) (act-answers f s)) at (rw (w .leaves) at h))
 
-  reported : Comes s c → T (within 8 9 (answered s c)) → Reported s c
-  reported (stopped answer w) h = absurd (omega (arith, within-high 1 7 (answerNumber answer) (w .number), within-low 8 9 (answerNumber answer) (rw (w .leaves) at h)))
-  reported (ticking shorts w) h = absurd (rw (w .leaves, ticked-done shorts s) at h)
-  reported (other f e w) h =
-      record { state = rw (w .leaves) (old f s (actOf f s) (act-answers f s) (rw (w .leaves) at h)); rest = rw (w .leaves) (report-rest f (actOf f s) (c .room)) }
+  module _ (k : Commanded s c) where
+    old : T (within 8 9 (answered s c)) → TurnedDown nothing s c
+    unfolding reportOf
+    old h =
+        let t = command-turns (k .sender) (k .command) s in
+        let same : bySerial (k .sender) (k .command) s .state ≡ s = t .old (rw (k .works .leaves) at h) in
+        record {
+          sender = k .sender;
+          command = k .command;
+          frame = rw (k .works .read);
+          state = rw (k .works .leaves) same;
+          room = rw (k .works .leaves, same, t .silent);
+        }
 
-  used : Comes s c → answered s c ≡ 10 → SerialUsed s c
-  used (stopped answer w) h = absurd (omega (arith, within-high 1 7 (answerNumber answer) (w .number), rw (w .leaves) at h))
-  used (ticking shorts w) h = let z : _≡_ {A = ℕ} 0 10 = rw (w .leaves, ticked-done shorts s) at h in absurd (omega arith)
-  used (other f e w) h =
-      let (origin, serial, b, moved) = ill f s (actOf f s) (act-answers f s) (rw (w .leaves) at h) in
-      record { origin = origin; serial = serial; frame = rw (w .read) b; state = rw (w .leaves) moved; rest = rw (w .leaves) (report-rest f (actOf f s) (c .room)) }
+    ten : answered s c ≡ 10 → TurnedDown serialUsed s c
+    unfolding reportOf
+    ten h =
+        let t = command-turns (k .sender) (k .command) s in
+        let moved : bySerial (k .sender) (k .command) s .state ≡ serialUsed (k .sender) s = t .ten (rw (k .works .leaves) at h) in
+        record {
+          sender = k .sender;
+          command = k .command;
+          frame = rw (k .works .read);
+          state = rw (k .works .leaves) moved;
+          room = rw (k .works .leaves, moved, t .silent);
+        }
+
+    ill-timed : answered s c ≡ 10 → IllTimed outsideSafe s c
+    ill-timed h =
+        let i = command-turns (k .sender) (k .command) s .ill (rw (k .works .leaves) at h) in
+        record { which = i .which; mission = i .mission; on = rw (k .works .read) (i .on); mode = i .mode }
+
+  old-answer : T (within 8 9 (answered s c)) → T (within 8 10 (answered s c))
+  old-answer h = within-of 8 10 (answered s c) (within-low 8 9 (answered s c) h) (omega (arith, within-high 8 9 (answered s c) h))
 
 pub refusals : Refusals
 refusals =
     record {
       oneToSeven = λ s c. untouched s c (comes s c);
-      eightAndNine = λ s c. reported s c (comes s c);
-      ten = λ s c. used s c (comes s c);
+      eightAndNine = λ s c h. old s c (commanded s c (comes s c) (old-answer s c h)) h;
+      ten = λ s c e. ten s c (commanded s c (comes s c) (rw e tt)) e;
+      tenOnly = λ s c e. ill-timed s c (commanded s c (comes s c) (rw e tt)) e;
       keying = λ text room. keying-keeps room text;
       reading = reading-keeps;
       beacon = λ form s room. beacon-keeps room form s;

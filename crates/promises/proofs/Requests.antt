@@ -33,13 +33,13 @@ use Rattle.supervisor.specs.declared.state.Mode.{Mode}
 use Rattle.supervisor.specs.declared.state.Mode.the-variants.{DeployWait, Recovery, Safe}
 use Rattle.supervisor.specs.declared.state.State.{State}
 use Rattle.supervisor.proofs.ActLaws.{watch-still}
-use Rattle.supervisor.proofs.BeforeModulesLaws.{before-eight}
 use Rattle.supervisor.proofs.ControlLaws.{Controls, level, upward, downward, controls}
 use Rattle.supervisor.proofs.HistoryLaws.{Comes, stopped, ticking, other, comes}
-use Rattle.supervisor.proofs.ModuleLaws.{Eight, at-stage, at-crossed, at-asked, core-or-mission}
+use Rattle.supervisor.proofs.ModuleLaws.{Eight, at-crossed, at-asked, core-or-mission}
 use Rattle.supervisor.proofs.TickLaws.{Ticks, waits, runs, ticks, ticked-done}
 use Rattle.supervisor.proofs.CommandLaws.{by-serial}
 use Rattle.promises.specs.AsTold.{orders, crossing, said}
+use Rattle.promises.proofs.EachModule.{at-stage}
 
 module _ (i : ℕ) (low : i < moduleCount) where
   abbrev requestAt : State → Bool
@@ -96,13 +96,16 @@ module _ (i : ℕ) (low : i < moduleCount) where
   from-deploy true phase m word = refl
   from-deploy false phase m word = refl
 
-  module _ (mission : Bool) (e : isMission i ≡ mission) (s : State) (eight : Eight s) where
+  module _ (s : State) (eight : Eight s) where
+    abbrev mission : Bool
+    mission = isMission i
+
     tick-said : (shorts : ℕ) → Ticks shorts s → requestAt (ticked shorts s .state) ≡ crossing mission (s .watch .mode) (ticked shorts s .state .watch .mode) (requestAt s)
     unfolding beaconStage moduleStage
     tick-said shorts (waits phase m w) = rw (w, m) (sym (from-deploy mission phase (phaseTicked (s .antennas) phase) (requestAt s)))
-    tick-said shorts (runs m w) = rw w (ap (λ r. r .requested) (at-stage (beforeModules s) (before-eight s eight) i low shorts) ∙ before-said mission e s eight)
+    tick-said shorts (runs m w) = rw w (ap (λ r. r .requested) (at-stage (beforeModules s) i shorts) ∙ before-said mission refl s eight)
 
-    by-comes : (c : Call) → Comes s c → requestAt (called s c .result .state) ≡ said mission i s c (requestAt s)
+    by-comes : (c : Call) → Comes s c → requestAt (called s c .result .state) ≡ said crossing i s c (requestAt s)
     by-comes c (stopped answer w) =
         let nonzero : answerNumber answer ≡ 0 → ⊥ = omega (arith, within-low 1 7 (answerNumber answer) (w .number)) in
         rw (w .leaves, ne-eqb (answerNumber answer) 0 nonzero) (sym (no-crossing mission (s .watch .mode) (requestAt s)))
@@ -113,5 +116,5 @@ module _ (i : ℕ) (low : i < moduleCount) where
         ∙ sym (no-crossing mission (s .watch .mode)
         (if isDone (answerNumber (actOf f s .answer)) then orders i (about (Accepted f)) (requestAt s) else requestAt s)))
 
-    pub called-said : (c : Call) → requestAt (called s c .result .state) ≡ said mission i s c (requestAt s)
+    pub called-said : (c : Call) → requestAt (called s c .result .state) ≡ said crossing i s c (requestAt s)
     called-said c = by-comes c (comes s c)

@@ -1,6 +1,7 @@
 -- Serials by themselves, proved: the last serial of an origin is what its own frames' serials make of 0.
 -- Assumes nothing.
 use Prim.Native.Nat.{ℕ}
+use native.Mathlib.Omega.{arith}
 use mathlib.Core.Path.{_≡_, refl, sym, ap, _∙_}
 use mathlib.Core.List.{List, [], _∷_, _++_}
 use mathlib.Core.Logic.{⊎-elim}
@@ -26,7 +27,7 @@ use Rattle.supervisor.proofs.CommandLaws.{Judged, act-answers, zero-or-ten}
 use Rattle.supervisor.proofs.FreshLaws.{fresh-in-range}
 use Rattle.supervisor.proofs.HistoryLaws.{called-read, called-in-range, after-in-range}
 use Rattle.supervisor.proofs.SerialLaws.{View, foreign, own, view, moved, judged-last, from}
-use Rattle.promises.specs.Serials.{Serials, serialsOf, verdict}
+use Rattle.promises.specs.Serials.{Serials, serialsOf, verdict, isJudged}
 
 -- the last serial after several
 abbrev lastAfter : (last : ℕ) → List ℕ → ℕ
@@ -37,6 +38,10 @@ lastAfter-append : (last : ℕ) (ms ns : List ℕ) → lastAfter last (ms ++ ns)
 lastAfter-append last [] ns = refl
 lastAfter-append last (m ∷ ms) ns = lastAfter-append (moved (classOf m last) m last) ms ns
 
+-- an answer to a frame whose serial was judged, and what it says
+abbrev Tells : (answer : ℕ) → Class → Type 0
+Tells answer class = record { judged : T (isJudged answer); says : verdict answer ≡ class }
+
 module _ (origin : Origin) where
   -- one frame
   view-last :
@@ -45,29 +50,38 @@ module _ (origin : Origin) where
   view-last f s a (foreign b e) = rw b e
   view-last f s a (own serial b d) = rw b (judged-last origin (classOf serial (lastOf origin (s .serials))) serial s a d)
 
-  judged-verdict : (class : Class) (serial : ℕ) (s : State) (a : Acted) → Judged class (from origin serial) s a → verdict (answerNumber (a .answer)) ≡ class
-  judged-verdict Repeat serial s a d = rw (d .0)
-  judged-verdict Stale serial s a d = rw (d .0)
-  judged-verdict Fresh serial s a d = ⊎-elim (λ (e : answerNumber (a .answer) ≡ 0). rw e) (λ (e : answerNumber (a .answer) ≡ 10). rw e) (zero-or-ten (answerNumber (a .answer)) (d .taken))
+  judged-tells : (class : Class) (serial : ℕ) (s : State) (a : Acted) → Judged class (from origin serial) s a → Tells (answerNumber (a .answer)) class
+  judged-tells Repeat serial s a d = rw (d .0) (record { judged = tt; says = refl })
+  judged-tells Stale serial s a d = rw (d .0) (record { judged = tt; says = refl })
+  judged-tells Fresh serial s a d =
+      ⊎-elim (λ (e : answerNumber (a .answer) ≡ 0). rw e (record { judged = tt; says = refl }))
+      (λ (e : answerNumber (a .answer) ≡ 10). rw e (record { judged = tt; says = refl })) (zero-or-ten (answerNumber (a .answer)) (d .taken))
 
-  view-verdict :
+  view-tells :
       (serial : ℕ) (f : Frame) (s : State) (a : Acted) → View origin f s a → serialFrom origin (about (Accepted f)) ≡ serial ∷ [] →
-      verdict (answerNumber (a .answer)) ≡ classOf serial (lastOf origin (s .serials))
-  view-verdict serial f s a (foreign b e) h = cc
-  view-verdict serial f s a (own n b d) h =
+      Tells (answerNumber (a .answer)) (classOf serial (lastOf origin (s .serials)))
+  view-tells serial f s a (foreign b e) h = let z : _≡_ {A = ℕ} 0 1 = cc in absurd (omega arith)
+  view-tells serial f s a (own n b d) h =
       let e : n ≡ serial = cc in
-      rw (← e) (judged-verdict (classOf n (lastOf origin (s .serials))) n s a d)
+      rw (← e) (judged-tells (classOf n (lastOf origin (s .serials))) n s a d)
 
   -- one call, with room
-  read-last : (r : Reading) (s : State) (room : List ℕ) → lastOf origin (stepRead r s room .result .state .serials) ≡ lastAfter (lastOf origin (s .serials)) (serialFrom origin (about r))
+  read-last :
+      (r : Reading) (s : State) (room : List ℕ) →
+      lastOf origin (stepRead r s room .result .state .serials) ≡ lastAfter (lastOf origin (s .serials)) (serialFrom origin (about r))
   read-last (Refused answer) s room = refl
   read-last (Accepted f) s room = view-last f s (actOf f s) (view origin f s (actOf f s) (act-answers f s))
 
-  pub read-verdict :
+  read-tells :
       (serial : ℕ) (r : Reading) (s : State) (room : List ℕ) → serialFrom origin (about r) ≡ serial ∷ [] →
-      verdict (answerNumber (stepRead r s room .result .answer)) ≡ classOf serial (lastOf origin (s .serials))
-  read-verdict serial (Refused answer) s room h = cc
-  read-verdict serial (Accepted f) s room h = view-verdict serial f s (actOf f s) (view origin f s (actOf f s) (act-answers f s)) h
+      Tells (answerNumber (stepRead r s room .result .answer)) (classOf serial (lastOf origin (s .serials)))
+  read-tells serial (Refused answer) s room h = let z : _≡_ {A = ℕ} 0 1 = cc in absurd (omega arith)
+  read-tells serial (Accepted f) s room h = view-tells serial f s (actOf f s) (view origin f s (actOf f s) (act-answers f s)) h
+
+  pub call-tells :
+      (serial : ℕ) (c : Call) → HasRoom c → serialFrom origin (aboutOf c) ≡ serial ∷ [] → (s : State) → T (inRange s) →
+      Tells (answered s c) (classOf serial (lastOf origin (s .serials)))
+  call-tells serial c room b s v = rw (called-read s c v room) (read-tells serial (readFrame (c .input)) s (c .room) b)
 
   -- many calls
   after-last :
@@ -79,17 +93,15 @@ module _ (origin : Origin) where
       ∙ ap (λ (n : ℕ). lastAfter n (serialsOf origin cs)) (rw (called-read s c v (r .0)) (read-last (readFrame (c .input)) s (c .room)))
       ∙ sym (lastAfter-append (lastOf origin (s .serials)) (serialFrom origin (aboutOf c)) (serialsOf origin cs))
 
-  -- the verdict, by the frame's serial and those of the origin's earlier frames
+  -- the answer, by the frame's serial and those of the origin's earlier frames
   by-own-serials :
       (cs : List Call) → Roomy cs → (serial : ℕ) (c : Call) → HasRoom c → serialFrom origin (aboutOf c) ≡ serial ∷ [] →
-      verdict (answered (after freshState cs) c) ≡ classOf serial (lastAfter (lastOf origin (freshState .serials)) (serialsOf origin cs))
+      Tells (answered (after freshState cs) c) (classOf serial (lastAfter (lastOf origin (freshState .serials)) (serialsOf origin cs)))
   by-own-serials cs r serial c room b =
-      let v : T (inRange (after freshState cs)) = after-in-range cs freshState fresh-in-range in
-      rw (called-read (after freshState cs) c v room) (read-verdict serial (readFrame (c .input)) (after freshState cs) (c .room) b)
-      ∙ ap (classOf serial) (after-last cs r freshState fresh-in-range)
+      rw (← after-last cs r freshState fresh-in-range) (call-tells serial c room b (after freshState cs) (after-in-range cs freshState fresh-in-range))
 
 pub serials : Serials
 serials origin cs ds r r′ e serial c d room room′ b b′ =
-    by-own-serials origin cs r serial c room b
-    ∙ ap (λ (ns : List ℕ). classOf serial (lastAfter (lastOf origin (freshState .serials)) ns)) e
-    ∙ sym (by-own-serials origin ds r′ serial d room′ b′)
+    let one = by-own-serials origin cs r serial c room b in
+    let two = by-own-serials origin ds r′ serial d room′ b′ in
+    record { judged = one .judged; judged′ = two .judged; same = one .says ∙ sym (rw (← e) at (two .says)) }

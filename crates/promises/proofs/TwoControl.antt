@@ -73,7 +73,8 @@ module _ (i : ℕ) (mission : isMission i ≡ true) where
     crossed-beside :
         (m n : Mode) (x y : Crossing) → a .watch .mode ≡ m → b .watch .mode ≡ n → Cross m n x y → Shared a b → Flown i a b →
         Beside i (crossed x (withControl 0 a)) (crossed y (withControl 0 b))
-    crossed-beside m n x y e f (both-level o) s h = record { shared = s; flown = record { modes = h .modes; counts = refl; eight = h .eight; eight′ = h .eight′; asked = h .asked } }
+    crossed-beside m n x y e f (both-level o) s h =
+        record { shared = s; flown = record { modes = h .modes; counts = refl; eight = h .eight; eight′ = h .eight′; asked = h .asked } }
     crossed-beside m n x y e f both-up s h =
         record {
           shared = s;

@@ -1,6 +1,6 @@
 -- The better battery, proved: over the calls of both craft from the fresh start.
 -- Assumes nothing.
-use Prim.Native.Nat.{ℕ, zero, suc}
+use Prim.Native.Nat.{ℕ, zero, suc, _+_, _≤_}
 use native.Mathlib.Omega.{arith}
 use mathlib.Core.Path.{_≡_, refl}
 use mathlib.Core.Bool.{true, false}
@@ -9,7 +9,9 @@ use lib.ListN.{take}
 use lib.Dec.{T}
 use Rattle.basics.specs.Choice.{word}
 use Rattle.basics.specs.Each.{each, eachFrom}
-use Rattle.modules.specs.Groups.{isMission}
+use Rattle.basics.proofs.TablesLaws.{upto}
+use Rattle.modules.specs.Groups.{isMission, moduleCount}
+use Rattle.modules.specs.Power.{isOn}
 use Rattle.modules.specs.Stage.{requestedBy}
 use Rattle.frames.specs.Reading.{readFrame}
 use Rattle.frames.specs.About.{about}
@@ -23,33 +25,31 @@ use Rattle.supervisor.specs.Step.{stepRead}
 use Rattle.supervisor.specs.History.{Call, called, after, HasRoom, Roomy, aboutOf}
 use Rattle.supervisor.specs.State.{moduleAt}
 use Rattle.supervisor.specs.declared.state.State.{State}
-use Rattle.supervisor.proofs.FreshLaws.{fresh-in-range, fresh-requested, fresh-sound}
+use Rattle.supervisor.proofs.FreshLaws.{fresh-in-range, fresh-requested}
 use Rattle.supervisor.proofs.HistoryLaws.{called-read, called-in-range}
 use Rattle.supervisor.proofs.ModuleLaws.{mission-low}
-use Rattle.promises.specs.TwoCraft.{TwoCraft, AsGood, same, higher, Paired, start, next, shorted, NeverShorted}
+use Rattle.promises.specs.TwoCraft.{TwoCraft, AsGood, same, higher, Paired, start, next, shorted, shortsOf, inReach, shortsBorne}
 use Rattle.promises.proofs.TwoModes.{even, number-at-most}
 use Rattle.promises.proofs.TwoControl.{Beside}
 use Rattle.promises.proofs.TwoFrames.{tension-beside, act-beside}
-use Rattle.promises.proofs.TwoPower.{Lit, act-lit}
+use Rattle.promises.proofs.TwoPower.{isSturdy, Bright, oneMore, lit-later, act-lit}
 
 module _ (i : ℕ) (mission : isMission i ≡ true) where
-  abbrev Bright : State → State → Type 0
-  Bright a b = Lit (moduleAt i a .power) (moduleAt i b .power)
-
   -- one reading, the same on both
   reading-beside : (r : Reading) → Sound r → (room room′ : List ℕ) (a b : State) → Beside i a b → Beside i (stepRead r a room .result .state) (stepRead r b room′ .result .state)
   reading-beside (Refused answer) sound room room′ a b h = h
   reading-beside (Accepted f) sound room room′ a b h = act-beside i mission f sound a b h
 
-  reading-lit :
-      (r : Reading) → Sound r → shorted i (about r) ≡ false → (room room′ : List ℕ) (a b : State) → Beside i a b → Bright a b →
-      Bright (stepRead r a room .result .state) (stepRead r b room′ .result .state)
-  reading-lit (Refused answer) sound none room room′ a b h l = l
-  reading-lit (Accepted f) sound none room room′ a b h l = act-lit i mission f sound none a b h l
+  module _ (n : ℕ) where
+    reading-lit :
+        (r : Reading) → Sound r → n + oneMore (shorted i (about r)) ≤ shortsBorne → (room room′ : List ℕ) (a b : State) → Beside i a b → Bright i mission n a b →
+        Bright i mission (n + oneMore (shorted i (about r))) (stepRead r a room .result .state) (stepRead r b room′ .result .state)
+    reading-lit (Refused answer) sound few room room′ a b h l = lit-later n (n + 0) (omega arith) (moduleAt i a .power) (moduleAt i b .power) l
+    reading-lit (Accepted f) sound few room room′ a b h l = act-lit i mission n f sound few a b h l
 
   -- two inputs, as good on the second
   good-beside :
-      {x y : List ℕ} → AsGood x y → (room room′ : List ℕ) (a b : State) → Beside i a b →
+      {x y : List ℕ} → AsGood inReach x y → (room room′ : List ℕ) (a b : State) → Beside i a b →
       Beside i (stepRead (readFrame x) a room .result .state) (stepRead (readFrame y) b room′ .result .state)
   unfolding actOf
   good-beside (same {bytes = x}) room room′ a b h = reading-beside (readFrame x) (read-sound x) room room′ a b h
@@ -57,33 +57,42 @@ module _ (i : ℕ) (mission : isMission i ≡ true) where
       rw (battery-read high low r, battery-read high′ low′ r′) (tension-beside i mission (word high low) (word high′ low′) more a b h)
 
   good-lit :
-      {x y : List ℕ} → AsGood x y → shorted i (about (readFrame x)) ≡ false → (room room′ : List ℕ) (a b : State) → Beside i a b → Bright a b →
-      Bright (stepRead (readFrame x) a room .result .state) (stepRead (readFrame y) b room′ .result .state)
+      (n : ℕ) {x y : List ℕ} → AsGood inReach x y → n + oneMore (shorted i (about (readFrame x))) ≤ shortsBorne → (room room′ : List ℕ) (a b : State) → Beside i a b →
+      Bright i mission n a b →
+      Bright i mission (n + oneMore (shorted i (about (readFrame x)))) (stepRead (readFrame x) a room .result .state) (stepRead (readFrame y) b room′ .result .state)
   unfolding actOf
-  good-lit (same {bytes = x}) none room room′ a b h l = reading-lit (readFrame x) (read-sound x) none room room′ a b h l
-  good-lit (higher high low high′ low′ r r′ more) none room room′ a b h l = rw (battery-read high low r, battery-read high′ low′ r′) l
+  good-lit n (same {bytes = x}) few room room′ a b h l = reading-lit n (readFrame x) (read-sound x) few room room′ a b h l
+  good-lit n (higher high low high′ low′ r r′ more) few room room′ a b h l =
+      rw (battery-read high low r, battery-read high′ low′ r′) (lit-later n (n + 0) (omega arith) (moduleAt i a .power) (moduleAt i b .power) l)
 
   -- one call on each, both with room
-  module _ (c d : Call) (room : HasRoom c) (room′ : HasRoom d) (good : AsGood (c .input) (d .input)) (a b : State) (valid : T (inRange a)) (valid′ : T (inRange b)) (h : Beside i a b) where
+  module _
+      (c d : Call) (room : HasRoom c) (room′ : HasRoom d) (good : AsGood inReach (c .input) (d .input)) (a b : State) (valid : T (inRange a)) (valid′ : T (inRange b))
+      (h : Beside i a b) where
     called-beside : Beside i (called a c .result .state) (called b d .result .state)
     called-beside = rw (called-read a c valid room, called-read b d valid′ room′) (good-beside good (c .room) (d .room) a b h)
 
-    called-lit : shorted i (aboutOf c) ≡ false → Bright a b → Bright (called a c .result .state) (called b d .result .state)
-    called-lit none l = rw (called-read a c valid room, called-read b d valid′ room′) (good-lit good none (c .room) (d .room) a b h l)
+    called-lit :
+        (n : ℕ) → n + oneMore (shorted i (aboutOf c)) ≤ shortsBorne → Bright i mission n a b →
+        Bright i mission (n + oneMore (shorted i (aboutOf c))) (called a c .result .state) (called b d .result .state)
+    called-lit n few l = rw (called-read a c valid room, called-read b d valid′ room′) (good-lit n good few (c .room) (d .room) a b h l)
 
   -- all calls
-  after-beside : {cs ds : List Call} → Paired cs ds → Roomy cs → Roomy ds → (a b : State) → T (inRange a) → T (inRange b) → Beside i a b → Beside i (after a cs) (after b ds)
+  after-beside :
+      {cs ds : List Call} → Paired inReach cs ds → Roomy cs → Roomy ds → (a b : State) → T (inRange a) → T (inRange b) → Beside i a b →
+      Beside i (after a cs) (after b ds)
   after-beside start r r′ a b v v′ h = h
   after-beside (next {c = c} {d = d} good p) r r′ a b v v′ h =
-      after-beside p (r .1) (r′ .1) (called a c .result .state) (called b d .result .state) (called-in-range a c v) (called-in-range b d v′) (called-beside c d (r .0) (r′ .0) good a b v v′ h)
+      after-beside p (r .1) (r′ .1) (called a c .result .state) (called b d .result .state) (called-in-range a c v) (called-in-range b d v′)
+      (called-beside c d (r .0) (r′ .0) good a b v v′ h)
 
   after-lit :
-      {cs ds : List Call} → Paired cs ds → Roomy cs → Roomy ds → NeverShorted i cs → (a b : State) → T (inRange a) → T (inRange b) → Beside i a b →
-      Bright a b → Bright (after a cs) (after b ds)
-  after-lit start r r′ never a b v v′ h l = l
-  after-lit (next {c = c} {d = d} good p) r r′ never a b v v′ h l =
-      after-lit p (r .1) (r′ .1) (never .1) (called a c .result .state) (called b d .result .state) (called-in-range a c v) (called-in-range b d v′)
-      (called-beside c d (r .0) (r′ .0) good a b v v′ h) (called-lit c d (r .0) (r′ .0) good a b v v′ h (never .0) l)
+      (n : ℕ) {cs ds : List Call} → Paired inReach cs ds → Roomy cs → Roomy ds → n + shortsOf i cs ≤ shortsBorne → (a b : State) → T (inRange a) → T (inRange b) → Beside i a b →
+      Bright i mission n a b → T (isOn (moduleAt i (after a cs) .power)) → T (isOn (moduleAt i (after b ds) .power))
+  after-lit n start r r′ few a b v v′ h l = l .lit
+  after-lit n (next {c = c} {d = d} good p) r r′ few a b v v′ h l =
+      after-lit (n + oneMore (shorted i (aboutOf c))) p (r .1) (r′ .1) (omega arith) (called a c .result .state) (called b d .result .state)
+      (called-in-range a c v) (called-in-range b d v′) (called-beside c d (r .0) (r′ .0) good a b v v′ h) (called-lit c d (r .0) (r′ .0) good a b v v′ h n (omega arith) l)
 
   -- the fresh start
   fresh-beside : Beside i freshState freshState
@@ -95,11 +104,14 @@ module _ (i : ℕ) (mission : isMission i ≡ true) where
         flown = record { modes = even; counts = refl; eight = refl; eight′ = refl; asked = record { quiet = λ t. absurd (rw none at t); grows = λ t. t } };
       }
 
-  fresh-lit : Bright freshState freshState
-  fresh-lit = record { sound = fresh-sound i (mission-low i mission); sound′ = fresh-sound i (mission-low i mission); lit = λ t. t }
+  fresh-lit : Bright i mission 0 freshState freshState
+  unfolding freshState requestedBy each eachFrom
+  fresh-lit =
+      let full : T (isSturdy 0 (moduleAt i freshState .power)) = upto (λ k. isSturdy 0 (moduleAt k freshState .power)) moduleCount tt i (mission-low i mission) in
+      record { sturdy = full; sturdy′ = full; lit = λ t. t }
 
 -- the first n calls
-take-paired : {cs ds : List Call} → Paired cs ds → (n : ℕ) → Paired (take n cs) (take n ds)
+take-paired : {cs ds : List Call} → Paired inReach cs ds → (n : ℕ) → Paired inReach (take n cs) (take n ds)
 take-paired p zero = start
 take-paired start (suc n) = start
 take-paired (next good p) (suc n) = next good (take-paired p n)
@@ -111,11 +123,11 @@ take-roomy (suc n) (c ∷ cs) r = (r .0, take-roomy n cs (r .1))
 
 pub two-craft : TwoCraft
 two-craft cs ds r r′ p n =
-    let q : Paired (take n cs) (take n ds) = take-paired p n in
+    let q : Paired inReach (take n cs) (take n ds) = take-paired p n in
     let s : Roomy (take n cs) = take-roomy n cs r in
     let s′ : Roomy (take n ds) = take-roomy n ds r′ in
     record {
       mode = number-at-most (after-beside 3 refl q s s′ freshState freshState fresh-in-range fresh-in-range (fresh-beside 3 refl) .flown .modes);
       requested = λ i m. after-beside i m q s s′ freshState freshState fresh-in-range fresh-in-range (fresh-beside i m) .flown .asked .grows;
-      on = λ i m never. after-lit i m q s s′ never freshState freshState fresh-in-range fresh-in-range (fresh-beside i m) (fresh-lit i m) .lit;
+      on = λ i m few. after-lit i m 0 q s s′ (omega arith) freshState freshState fresh-in-range fresh-in-range (fresh-beside i m) (fresh-lit i m);
     }

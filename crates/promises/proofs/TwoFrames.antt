@@ -73,7 +73,9 @@ module _ (i : ℕ) (mission : isMission i ≡ true) where
           asked =
               rw (at-asked a (h .flown .eight) i (mission-low i mission) which on, at-asked b (h .flown .eight′) i (mission-low i mission) which on)
               (record {
-                quiet = quiet-order (eqb i which) on (isMission which) (isSafe (a .watch .mode)) _ (λ here. ap isMission (sym (eqb-true i which here)) ∙ mission) e (h .flown .asked .quiet);
+                quiet =
+                    quiet-order (eqb i which) on (isMission which) (isSafe (a .watch .mode)) _ (λ here. ap isMission (sym (eqb-true i which here)) ∙ mission) e
+                    (h .flown .asked .quiet);
                 grows = grows-order (eqb i which) on _ _ (h .flown .asked .grows);
               });
         };

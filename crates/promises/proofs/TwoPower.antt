@@ -1,15 +1,19 @@
--- A mission module that was never reported shorted is on in the second craft if it is on in the first.
+-- A mission module that was reported shorted four times at most is on in the second craft if it is on in the first.
 -- Assumes nothing.
-use Prim.Native.Nat.{ℕ, _<_}
+use Prim.Native.Nat.{ℕ, _+_, _-_, _≤_, _<_}
+use native.Mathlib.Omega.{arith}
 use mathlib.Core.Path.{_≡_, refl}
 use mathlib.Core.Bool.{Bool, true, false, _&&_}
-use lib.Dec.{T}
-use Rattle.basics.specs.Choice.{bit}
-use Rattle.modules.specs.Power.{switched, isOn, isFailed}
+use lib.Dec.{T, eqb, leb, leb→le, le→leb}
+use borrow.Author.Tests.{eqb-true}
+use Rattle.basics.specs.Choice.{if_then_else_, bit}
+use Rattle.basics.proofs.ChoiceLaws.{decided}
+use Rattle.modules.specs.Power.{switched, isOn, isFailed, fullTries}
 use Rattle.modules.specs.Groups.{isMission, moduleCount}
 use Rattle.modules.specs.declared.power.Power.{Power}
+use Rattle.modules.specs.declared.power.Power.the-variants.{On, Off, Failed}
 use Rattle.modules.specs.declared.power.Module.{Module}
-use Rattle.modules.proofs.PowerLaws.{on-switched, sound-switched}
+use Rattle.modules.proofs.PowerLaws.{on-switched}
 use Rattle.frames.specs.About.{isTick, about}
 use Rattle.frames.specs.declared.frame.Frame.{Frame}
 use Rattle.frames.specs.declared.reading.Reading.the-variants.{Accepted}
@@ -22,23 +26,74 @@ use Rattle.supervisor.specs.State.{isSafe, moduleAt}
 use Rattle.supervisor.specs.declared.state.Mode.{Mode}
 use Rattle.supervisor.specs.declared.state.Mode.the-variants.{DeployWait, Recovery, Safe}
 use Rattle.supervisor.specs.declared.state.State.{State}
-use Rattle.supervisor.proofs.BeforeModulesLaws.{before-power}
-use Rattle.supervisor.proofs.ModuleLaws.{at-stage, mission-low, mission-allowed}
+use Rattle.supervisor.proofs.ModuleLaws.{mission-low, mission-allowed}
 use Rattle.supervisor.proofs.SwitchLaws.{act-power}
-use Rattle.promises.specs.TwoCraft.{shorted}
+use Rattle.promises.specs.TwoCraft.{shorted, shortsBorne}
+use Rattle.promises.proofs.EachModule.{at-stage, before-power}
 use Rattle.promises.proofs.TwoModes.{AtMost, even, behind, safe-at-most}
 use Rattle.promises.proofs.TwoControl.{Beside, before-beside}
 
--- neither is failed, and the first is on only if the second is
-abbrev pub Lit : Power → Power → Type 0
-Lit p q = record { sound : isFailed p ≡ false; sound′ : isFailed q ≡ false; lit : T (isOn p) → T (isOn q) }
+-- after n shorts a module has lost n tries at most, and is not failed
+abbrev pub isSturdy : (n : ℕ) → Power → Bool
+isSturdy n On = true
+isSturdy n (Off tries) = leb fullTries (tries + n)
+isSturdy n (Failed left) = false
 
-lit-switched : (w w′ : Bool) (p q : Power) → (T w → T w′) → Lit p q → Lit (switched w false p) (switched w′ false q)
-lit-switched w w′ p q more l =
+abbrev Sturdy : (n : ℕ) → Power → Type 0
+Sturdy n p = T (isSturdy n p)
+
+sturdy-sound : (n : ℕ) (p : Power) → Sturdy n p → isFailed p ≡ false
+sturdy-sound n On h = refl
+sturdy-sound n (Off tries) h = refl
+sturdy-sound n (Failed left) h = absurd h
+
+-- one short more
+abbrev pub oneMore : Bool → ℕ
+oneMore short = if short then 1 else 0
+
+sturdy-later : (n m : ℕ) → n ≤ m → (p : Power) → Sturdy n p → Sturdy m p
+sturdy-later n m more On h = tt
+sturdy-later n m more (Off tries) h = omega (arith, leb→le, le→leb)
+sturdy-later n m more (Failed left) h = h
+
+sturdy-switched : (n : ℕ) (w short : Bool) (p : Power) → n + oneMore short ≤ shortsBorne → Sturdy n p → Sturdy (n + oneMore short) (switched w short p)
+unfolding switched
+sturdy-switched n w true On few h = omega (arith, le→leb)
+sturdy-switched n true false On few h = tt
+sturdy-switched n false false On few h = omega (arith, le→leb)
+sturdy-switched n false short (Off tries) few h = sturdy-later n (n + oneMore short) (omega arith) (Off tries) h
+sturdy-switched n true false (Off tries) few h = tt
+sturdy-switched n true true (Off tries) few h =
+    decided (Sturdy (n + 1)) (eqb (tries - 1) 0) (λ e. absurd (omega (arith, leb→le, eqb-true (tries - 1) 0 e))) (λ e. omega (arith, leb→le, le→leb))
+sturdy-switched n w short (Failed left) few h = absurd h
+
+-- a short leaves it off
+shorted-off : (n : ℕ) (w : Bool) (p : Power) → Sturdy n p → isOn (switched w true p) ≡ false
+unfolding switched
+shorted-off n w On h = refl
+shorted-off n false (Off tries) h = refl
+shorted-off n true (Off tries) h = decided (λ (q : Power). isOn q ≡ false) (eqb (tries - 1) 0) (λ e. refl) (λ e. refl)
+shorted-off n w (Failed left) h = absurd h
+
+-- both are sturdy after n shorts, and the first is on only if the second is
+abbrev pub Lit : (n : ℕ) → Power → Power → Type 0
+Lit n p q = record { sturdy : Sturdy n p; sturdy′ : Sturdy n q; lit : T (isOn p) → T (isOn q) }
+
+pub lit-later : (n m : ℕ) → n ≤ m → (p q : Power) → Lit n p q → Lit m p q
+lit-later n m more p q l = record { sturdy = sturdy-later n m more p (l .sturdy); sturdy′ = sturdy-later n m more q (l .sturdy′); lit = l .lit }
+
+on-grows : (n : ℕ) (short w w′ : Bool) (p q : Power) → (T w → T w′) → Lit n p q → T (isOn (switched w short p)) → T (isOn (switched w′ short q))
+on-grows n true w w′ p q more l t = absurd (rw (shorted-off n w p (l .sturdy)) at t)
+on-grows n false w w′ p q more l t = rw (on-switched w′ q (sturdy-sound n q (l .sturdy′))) (more (rw (on-switched w p (sturdy-sound n p (l .sturdy))) at t))
+
+lit-switched :
+    (n : ℕ) (short w w′ : Bool) (p q : Power) → n + oneMore short ≤ shortsBorne → (T w → T w′) → Lit n p q →
+    Lit (n + oneMore short) (switched w short p) (switched w′ short q)
+lit-switched n short w w′ p q few more l =
     record {
-      sound = sound-switched w p (l .sound);
-      sound′ = sound-switched w′ q (l .sound′);
-      lit = λ t. rw (on-switched w′ q (l .sound′)) (more (rw (on-switched w p (l .sound)) at t));
+      sturdy = sturdy-switched n w short p few (l .sturdy);
+      sturdy′ = sturdy-switched n w′ short q few (l .sturdy′);
+      lit = on-grows n short w w′ p q more l;
     }
 
 -- wanted on the first, wanted on the second
@@ -48,44 +103,48 @@ wanted true false safe safe′ grows more t = absurd (grows tt)
 wanted false r′ safe safe′ grows more t = absurd t
 
 module _ (i : ℕ) (mission : isMission i ≡ true) where
-  abbrev Bright : State → State → Type 0
-  Bright a b = Lit (moduleAt i a .power) (moduleAt i b .power)
+  abbrev pub Bright : (n : ℕ) → State → State → Type 0
+  Bright n a b = Lit n (moduleAt i a .power) (moduleAt i b .power)
 
-  staged-lit : (shorts : ℕ) → bit i shorts ≡ false → (a b : State) → Beside i a b → Bright a b → Bright (moduleStage shorts a) (moduleStage shorts b)
-  staged-lit shorts none a b h l =
-      let low : i < moduleCount = mission-low i mission in
-      let m : Module = moduleAt i a in
-      let n : Module = moduleAt i b in
-      rw (at-stage a (h .flown .eight) i low shorts, at-stage b (h .flown .eight′) i low shorts, none)
-      (rw (mission-allowed i low mission (a .watch .mode), mission-allowed i low mission (b .watch .mode))
-      (lit-switched (m .requested && isSafe (a .watch .mode)) (n .requested && isSafe (b .watch .mode)) (m .power) (n .power)
-      (wanted (m .requested) (n .requested) (isSafe (a .watch .mode)) (isSafe (b .watch .mode)) (h .flown .asked .grows) (safe-at-most (h .flown .modes))) l))
+  module _ (n shorts : ℕ) (few : n + oneMore (bit i shorts) ≤ shortsBorne) where
+    staged-lit : (a b : State) → Beside i a b → Bright n a b → Bright (n + oneMore (bit i shorts)) (moduleStage shorts a) (moduleStage shorts b)
+    staged-lit a b h l =
+        let low : i < moduleCount = mission-low i mission in
+        let m : Module = moduleAt i a in
+        let m′ : Module = moduleAt i b in
+        rw (at-stage a i shorts, at-stage b i shorts)
+        (rw (mission-allowed i low mission (a .watch .mode), mission-allowed i low mission (b .watch .mode))
+        (lit-switched n (bit i shorts) (m .requested && isSafe (a .watch .mode)) (m′ .requested && isSafe (b .watch .mode)) (m .power) (m′ .power) few
+        (wanted (m .requested) (m′ .requested) (isSafe (a .watch .mode)) (isSafe (b .watch .mode)) (h .flown .asked .grows) (safe-at-most (h .flown .modes))) l))
 
-  stages-lit :
-      (shorts : ℕ) → bit i shorts ≡ false → (a b : State) → Beside i a b → Bright a b →
-      Bright (stages shorts a .state) (stages shorts b .state)
-  unfolding beaconStage
-  stages-lit shorts none a b h l =
-      staged-lit shorts none (beforeModules a) (beforeModules b) (before-beside i mission a b h)
-      (rw (before-power a (h .flown .eight) i (mission-low i mission), before-power b (h .flown .eight′) i (mission-low i mission)) l)
+    stages-lit : (a b : State) → Beside i a b → Bright n a b → Bright (n + oneMore (bit i shorts)) (stages shorts a .state) (stages shorts b .state)
+    unfolding beaconStage
+    stages-lit a b h l =
+        staged-lit (beforeModules a) (beforeModules b) (before-beside i mission a b h)
+        (rw (before-power a i, before-power b i) l)
 
-  in-modes :
-      (m n : Mode) → AtMost m n → (shorts : ℕ) → bit i shorts ≡ false → (a b : State) → Beside i a b → Bright a b →
-      Bright (tickedIn m shorts a .state) (tickedIn n shorts b .state)
-  in-modes m n (even {m = DeployWait phase}) shorts none a b h l = l
-  in-modes m n (even {m = Recovery}) shorts none a b h l = stages-lit shorts none a b h l
-  in-modes m n (even {m = Safe}) shorts none a b h l = stages-lit shorts none a b h l
-  in-modes m n behind shorts none a b h l = stages-lit shorts none a b h l
+    -- in DEPLOY_WAIT nothing is switched
+    in-modes :
+        (m m′ : Mode) → AtMost m m′ → (a b : State) → Beside i a b → Bright n a b →
+        Bright (n + oneMore (bit i shorts)) (tickedIn m shorts a .state) (tickedIn m′ shorts b .state)
+    in-modes m m′ (even {m = DeployWait phase}) a b h l = lit-later n (n + oneMore (bit i shorts)) (omega arith) (moduleAt i a .power) (moduleAt i b .power) l
+    in-modes m m′ (even {m = Recovery}) a b h l = stages-lit a b h l
+    in-modes m m′ (even {m = Safe}) a b h l = stages-lit a b h l
+    in-modes m m′ behind a b h l = stages-lit a b h l
 
-  -- a frame other than a tick switches nothing
-  still-lit : (f : Frame) → Fits f → isTick (about (Accepted f)) ≡ false → (a b : State) → Beside i a b → Bright a b → Bright (actOf f a .state) (actOf f b .state)
-  still-lit f fits e a b h l =
-      let low : i < moduleCount = mission-low i mission in
-      rw (act-power a (h .flown .eight) i low f fits e, act-power b (h .flown .eight′) i low f fits e) l
+  module _ (n : ℕ) where
+    -- a frame other than a tick switches nothing
+    still-lit : (f : Frame) → Fits f → isTick (about (Accepted f)) ≡ false → (a b : State) → Beside i a b → Bright n a b → Bright (n + 0) (actOf f a .state) (actOf f b .state)
+    still-lit f fits e a b h l =
+        let low : i < moduleCount = mission-low i mission in
+        rw (act-power a (h .flown .eight) i low f fits e, act-power b (h .flown .eight′) i low f fits e)
+        (lit-later n (n + 0) (omega arith) (moduleAt i a .power) (moduleAt i b .power) l)
 
-  pub act-lit : (f : Frame) → Fits f → shorted i (about (Accepted f)) ≡ false → (a b : State) → Beside i a b → Bright a b → Bright (actOf f a .state) (actOf f b .state)
-  unfolding actOf ticked
-  act-lit (frame.Tick shorts) fits none a b h l = in-modes (a .watch .mode) (b .watch .mode) (h .flown .modes) shorts none a b h l
-  act-lit (frame.Battery tension) fits none a b h l = l
-  act-lit (frame.Antennas deployed) fits none a b h l = l
-  act-lit (frame.Command sender command) fits none a b h l = still-lit (frame.Command sender command) fits refl a b h l
+    pub act-lit :
+        (f : Frame) → Fits f → n + oneMore (shorted i (about (Accepted f))) ≤ shortsBorne → (a b : State) → Beside i a b → Bright n a b →
+        Bright (n + oneMore (shorted i (about (Accepted f)))) (actOf f a .state) (actOf f b .state)
+    unfolding actOf ticked
+    act-lit (frame.Tick shorts) fits few a b h l = in-modes n shorts few (a .watch .mode) (b .watch .mode) (h .flown .modes) a b h l
+    act-lit (frame.Battery tension) fits few a b h l = still-lit (frame.Battery tension) fits refl a b h l
+    act-lit (frame.Antennas deployed) fits few a b h l = still-lit (frame.Antennas deployed) fits refl a b h l
+    act-lit (frame.Command sender command) fits few a b h l = still-lit (frame.Command sender command) fits refl a b h l

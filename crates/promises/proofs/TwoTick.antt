@@ -13,7 +13,8 @@ use Rattle.supervisor.specs.declared.state.Phase.{Phase}
 use Rattle.supervisor.specs.declared.state.Mode.{Mode}
 use Rattle.supervisor.specs.declared.state.Mode.the-variants.{DeployWait, Recovery, Safe}
 use Rattle.supervisor.specs.declared.state.State.{State}
-use Rattle.supervisor.proofs.ModuleLaws.{stage-eight, at-stage, mission-low}
+use Rattle.supervisor.proofs.ModuleLaws.{stage-eight}
+use Rattle.promises.proofs.EachModule.{at-stage}
 use Rattle.promises.proofs.TwoModes.{AtMost, even, behind}
 use Rattle.promises.proofs.TwoControl.{Beside, before-beside}
 
@@ -30,7 +31,7 @@ module _ (i : ℕ) (mission : isMission i ≡ true) where
             counts = h .flown .counts;
             eight = stage-eight a (h .flown .eight) shorts;
             eight′ = stage-eight b (h .flown .eight′) shorts;
-            asked = rw (at-stage a (h .flown .eight) i (mission-low i mission) shorts, at-stage b (h .flown .eight′) i (mission-low i mission) shorts) (h .flown .asked);
+            asked = rw (at-stage a i shorts, at-stage b i shorts) (h .flown .asked);
           };
         }
 

@@ -1,9 +1,8 @@
--- As told: a module is requested on or off as the last word on it was, and no mission module runs that nobody
--- asked for.
+-- As told: a module is requested on or off as the last word on it was, and none runs that nobody asked for.
 -- Assumes nothing.
 use Prim.Native.Nat.{ℕ, _<_}
 use mathlib.Core.Path.{_≡_}
-use mathlib.Core.Bool.{Bool, true, false, _&&_}
+use mathlib.Core.Bool.{Bool, true, false, not, _&&_}
 use mathlib.Core.List.{List, [], _∷_, _++_}
 use lib.Dec.{T, eqb}
 use Rattle.basics.specs.Choice.{if_then_else_}
@@ -29,38 +28,56 @@ orders i (aTick shorts) word = word
 orders i (aCommand sender command) word = commands i command word
 orders i neither word = word
 
--- if it is done
+-- an order "on" for module i: it turns the word "off"
+abbrev pub SaysOn : ℕ → About → Type 0
+SaysOn i frame = orders i frame false ≡ true
+
+-- an order "off" for it
+abbrev pub SaysOff : ℕ → About → Type 0
+SaysOff i frame = orders i frame true ≡ false
+
+-- what a call orders, if it is done
 abbrev pub ordered : ℕ → State → Call → (word : Bool) → Bool
 ordered i s c word = if isDone (answered s c) then orders i (aboutOf c) word else word
 
+-- what a change of the mode says to a mission module, and to a core module, given the word before
+abbrev pub Saying : Type 0
+Saying = (mission : Bool) → (before after : Mode) → (word : Bool) → Bool
+
 -- a crossing down, SAFE before and RECOVERY after, says "off" to a mission module; a crossing up says "on" to a
 -- core module
-abbrev pub crossing : (mission : Bool) → (before after : Mode) → (word : Bool) → Bool
+abbrev pub crossing : Saying
 crossing true before after word = if isSafe before && isRecovery after then false else word
 crossing false before after word = if isRecovery before && isSafe after then true else word
 
--- what a call says
-abbrev pub said : (mission : Bool) → ℕ → State → Call → (word : Bool) → Bool
-said mission i s c word =
-    crossing mission (s .watch .mode) (called s c .result .state .watch .mode) (ordered i s c word)
+-- what a call says to module i
+abbrev pub said : Saying → ℕ → State → Call → (word : Bool) → Bool
+said crosses i s c word =
+    crosses (isMission i) (s .watch .mode) (called s c .result .state .watch .mode) (ordered i s c word)
 
--- the last word on module i after a history, given the word before it
-abbrev pub lastWord : (mission : Bool) → ℕ → (word : Bool) → State → List Call → Bool
-lastWord mission i word s [] = word
-lastWord mission i word s (c ∷ cs) = lastWord mission i (said mission i s c word) (called s c .result .state) cs
+-- the last word on it after a history, given the word before
+abbrev pub lastWord : Saying → ℕ → (word : Bool) → State → List Call → Bool
+lastWord crosses i word s [] = word
+lastWord crosses i word s (c ∷ cs) = lastWord crosses i (said crosses i s c word) (called s c .result .state) cs
+
+-- the last word on it in a flight; at the fresh start it is "on" for the core four alone
+abbrev pub lastSaid : Saying → ℕ → List Call → Bool
+lastSaid crosses i cs = lastWord crosses i (not (isMission i)) freshState cs
+
+-- each of the eight modules is requested on exactly when the last word on it was "on"
+abbrev pub Requested : Saying → Type 0
+Requested crosses =
+    (i : ℕ) → i < moduleCount → (cs : List Call) → moduleAt i (after freshState cs) .requested ≡ lastSaid crosses i cs
+
+-- each that is on after a call that passes a test has "on" as its last word
+abbrev pub OnAfter : (State → Call → Bool) → Type 0
+OnAfter passes =
+    (i : ℕ) → i < moduleCount → (cs : List Call) (c : Call) → T (passes (after freshState cs) c) →
+    T (isOn (moduleAt i (called (after freshState cs) c .result .state) .power)) →
+    T (lastSaid crossing i (cs ++ c ∷ []))
 
 -- the last word, and what came of it
 pub record AsTold : Type 0 where
-  -- a mission module is requested on exactly when the last word on it was "on"
-  pub mission :
-      (i : ℕ) → isMission i ≡ true → (cs : List Call) →
-      moduleAt i (after freshState cs) .requested ≡ lastWord true i false freshState cs
-  -- a core module is requested on unless the last word on it was "off"
-  pub core :
-      (i : ℕ) → i < moduleCount → isMission i ≡ false → (cs : List Call) →
-      moduleAt i (after freshState cs) .requested ≡ lastWord false i true freshState cs
-  -- a mission module that is on after a tick was ordered on since the last crossing down
-  pub askedFor :
-      (i : ℕ) → isMission i ≡ true → (cs : List Call) (c : Call) → T (doneTick (after freshState cs) c) →
-      T (isOn (moduleAt i (called (after freshState cs) c .result .state) .power)) →
-      T (lastWord true i false freshState (cs ++ c ∷ []))
+  pub requested : Requested crossing
+  -- no module runs after a done tick that nobody asked for
+  pub askedFor : OnAfter doneTick

@@ -6,10 +6,11 @@ use mathlib.Core.Bool.{Bool, true, false, not, _&&_, _||_}
 use mathlib.Core.List.{List, [], _∷_}
 use lib.Dec.{T, eqb}
 use lib.ListN.{getD}
-use Rattle.supervisor.specs.State.{isSafe, inDeployWait}
+use Rattle.supervisor.specs.State.{isSafe}
 use Rattle.supervisor.specs.History.{Call, called, doneTick, doneTicks}
 use Rattle.supervisor.specs.Report.{beaconByte}
 use Rattle.supervisor.specs.declared.state.State.{State}
+use Rattle.promises.specs.Deployment.{deployed}
 
 -- a beacon falls due in a call: a done tick whose report says so
 abbrev pub beaconDue : State → Call → Bool
@@ -27,16 +28,23 @@ SafeTicks s (c ∷ cs) =
     (T (doneTick s c) → isSafe (called s c .result .state .watch .mode) ≡ true)
     × SafeTicks (called s c .result .state) cs
 
--- done ticks without a beacon are fewer than these: a promise in seconds, whatever the rules call them
+-- from a state that passes a test, a beacon falls due in so many done ticks, whatever is sent between them
+abbrev pub DueIn : (from : State → Bool) → (ticks : ℕ) → Type 0
+DueIn from ticks = (s : State) (cs : List Call) → T (from s) → ticks ≤ doneTicks s cs → T (someDue s cs)
+
+-- the same of done ticks after each of which the mode is SAFE
+abbrev pub DueInSafe : (ticks : ℕ) → Type 0
+DueInSafe ticks = (s : State) (cs : List Call) → SafeTicks s cs → ticks ≤ doneTicks s cs → T (someDue s cs)
+
+-- five minutes, in seconds, whatever the rules call them
 abbrev pub fiveMinutes : ℕ
 fiveMinutes = 300
 
--- and in SAFE than these
+-- a minute
 abbrev pub oneMinute : ℕ
 oneMinute = 60
 
--- whatever is sent between the ticks
+-- how long it may be silent at most
 pub record NeverSilent : Type 0 where
-  pub always :
-      (s : State) (cs : List Call) → inDeployWait s ≡ false → fiveMinutes ≤ doneTicks s cs → T (someDue s cs)
-  pub safe : (s : State) (cs : List Call) → SafeTicks s cs → oneMinute ≤ doneTicks s cs → T (someDue s cs)
+  pub always : DueIn deployed fiveMinutes
+  pub safe : DueInSafe oneMinute

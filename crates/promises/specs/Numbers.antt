@@ -1,7 +1,7 @@
 -- Numbers on either side: the fourteen that the page marks to be proved, each through the definition that a public
 -- call's contract cites.
 -- Assumes nothing.
-use Prim.Native.Nat.{ℕ, _-_, _/_, _%_}
+use Prim.Native.Nat.{ℕ, _/_, _%_}
 use mathlib.Core.Path.{_≡_}
 use mathlib.Core.Bool.{Bool, true, false}
 use mathlib.Core.List.{List, [], _∷_}
@@ -21,13 +21,12 @@ use Rattle.supervisor.specs.declared.state.Mode.{Mode}
 use Rattle.supervisor.specs.declared.state.Mode.the-variants.{Recovery, Safe}
 use Rattle.supervisor.specs.declared.state.State.{State}
 use Rattle.morse.specs.Keying.{keyOf, keyReply}
-use Rattle.promises.specs.Serials.{verdict}
 
 -- a row: what is given, and what comes of it
 pub data Row : Type 0 where
-  -- ground's last serial, a frame's serial; what the frame's answer says of it
+  -- ground's last serial, the serial of an order; what the order's answer says of it
   serial : (last serial : ℕ) → Class → Row
-  -- a mode and a tension, with ascend 7,400, descend 7,000 and the control count at 29; the mode after a tick
+  -- a mode and a tension, with ascend 7,400, descend 7,000 and the control count at 29; the mode after a done tick
   tick : Mode → (tension : ℕ) → Mode → Row
   -- a module in a second in which it is wanted or not, and short or not; the module after it
   power : (wanted short : Bool) → Power → Power → Row
@@ -58,10 +57,21 @@ orderWith n = orderKind ∷ groundOrigin ∷ n / 256 ∷ n % 256 ∷ 0 ∷ 0 ∷
 abbrev quietTick : List ℕ
 quietTick = tickKind ∷ 0 ∷ []
 
+-- the answer to an "off", by what its serial is
+abbrev answerTo : Class → ℕ
+answerTo Repeat = 8
+answerTo Stale = 9
+answerTo Fresh = 0
+
+-- a tick is done, and after it the mode was judged: this mode, the control count back at 0, the beacon count 1
+pub record Judged (s : State) (next : Mode) : Type 0 where
+  pub done : answered s (send quietTick) ≡ 0
+  pub watch : called s (send quietTick) .result .state .watch ≡ record { mode = next; control = 0; beacon = 1 }
+
 -- what a row says
 abbrev pub Holds : Row → Type 0
-Holds (serial last n class) = verdict (answered (lastAt last) (send (orderWith n))) ≡ class
-Holds (tick mode tension next) = called (judgedNext mode tension) (send quietTick) .result .state .watch .mode ≡ next
+Holds (serial last n class) = answered (lastAt last) (send (orderWith n)) ≡ answerTo class
+Holds (tick mode tension next) = Judged (judgedNext mode tension) next
 Holds (power wanted short before next) = switched wanted short before ≡ next
 Holds (units text count) = keyReply (keyOf text room .result) ≡ reply 0 count
 

@@ -1,0 +1,12 @@
+pub mod Flights
+pub mod TwoCraft
+pub mod Serials
+pub mod InRange
+pub mod Deployment
+pub mod OnlyTicks
+pub mod ForAReason
+pub mod AsTold
+pub mod Dawn
+pub mod Refusals
+pub mod NeverSilent
+pub mod OnTheGround

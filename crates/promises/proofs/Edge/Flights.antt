@@ -1,0 +1,76 @@
+-- Frames, flights made of them, and the calls that send a flight.
+-- Assumes nothing.
+use Prim.Native.Nat.{ℕ, _/_, _%_}
+use lib.Dec.{lit≤}
+use mathlib.Core.List.{List, [], _∷_, _++_, map}
+use lib.ListN.{replicate}
+use Rattle.supervisor.specs.History.{Call, Roomy}
+
+-- a second without shorts
+abbrev pub quiet : List ℕ
+quiet = 1 ∷ 0 ∷ []
+
+-- a second with a mask of shorts
+abbrev pub short : (mask : ℕ) → List ℕ
+short mask = 1 ∷ mask ∷ []
+
+-- a battery reading in millivolts
+abbrev pub battery : (millivolts : ℕ) → List ℕ
+battery millivolts = 2 ∷ millivolts / 256 ∷ millivolts % 256 ∷ []
+
+-- the antennas are out
+abbrev pub antennasOut : List ℕ
+antennasOut = 3 ∷ 1 ∷ []
+
+-- ground's order for a module, 0 off or 1 on
+abbrev pub order : (serial which wanted : ℕ) → List ℕ
+order serial which wanted = 4 ∷ 1 ∷ serial / 256 ∷ serial % 256 ∷ which ∷ wanted ∷ []
+
+-- COMM2 and PAYLOAD by their numbers
+abbrev pub comm2 : ℕ
+comm2 = 2
+
+abbrev pub camera : ℕ
+camera = 4
+
+-- ground's orders for them
+abbrev pub comm2Off : (serial : ℕ) → List ℕ
+comm2Off serial = order serial comm2 0
+
+abbrev pub cameraOff : (serial : ℕ) → List ℕ
+cameraOff serial = order serial camera 0
+
+abbrev pub cameraOn : (serial : ℕ) → List ℕ
+cameraOn serial = order serial camera 1
+
+-- so many seconds without shorts
+abbrev pub seconds : ℕ → List (List ℕ)
+seconds n = replicate n quiet
+
+-- antennas reported at once, and 901 ticks: RECOVERY
+abbrev pub toRecovery : List (List ℕ)
+toRecovery = antennasOut ∷ seconds 901
+
+-- then 8,000 mV, which is judged after 30 ticks: SAFE
+abbrev pub toSafe : List (List ℕ)
+toSafe = toRecovery ++ (battery 8000 ∷ seconds 30)
+
+-- then the camera is ordered on, and is on after a tick
+abbrev pub cameraRuns : List (List ℕ)
+cameraRuns = toSafe ++ (cameraOn 1 ∷ seconds 1)
+
+-- RECOVERY with COMM2 ordered off, 8,000 mV, and 29 ticks: the next one crosses upward
+abbrev pub aboutToCross : List (List ℕ)
+aboutToCross = toRecovery ++ (comm2Off 1 ∷ battery 8000 ∷ seconds 29)
+
+-- a call with room for its report
+abbrev pub send : List ℕ → Call
+send bytes = record { input = bytes; room = replicate 11 255 }
+
+-- a flight
+abbrev pub sent : List (List ℕ) → List Call
+sent frames = map send frames
+
+pub sent-roomy : (frames : List (List ℕ)) → Roomy (sent frames)
+sent-roomy [] = tt
+sent-roomy (f ∷ frames) = (lit≤ tt, sent-roomy frames)

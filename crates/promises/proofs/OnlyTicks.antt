@@ -1,0 +1,91 @@
+-- Only ticks, proved.
+-- Assumes nothing.
+use Prim.Native.Nat.{ℕ}
+use mathlib.Core.Path.{_≡_, refl, sym, _∙_}
+use mathlib.Core.Bool.{false, true≢false}
+use lib.Dec.{T}
+use Rattle.frames.specs.About.{about, isTick}
+use Rattle.frames.specs.declared.frame.Frame.{Frame}
+use Rattle.frames.specs.declared.reading.Reading.the-variants.{Accepted}
+use Rattle.frames.specs.declared.frame.Frame.the-variants as frame
+use Rattle.frames.proofs.ReadingLaws.{Fits}
+use Rattle.supervisor.specs.State.{moduleAt}
+use Rattle.supervisor.specs.Act.{actOf}
+use Rattle.supervisor.specs.Control.{controlled}
+use Rattle.supervisor.specs.Due.{beaconStage}
+use Rattle.supervisor.specs.Tick.{ticked, beforeModules, moduleStage}
+use Rattle.supervisor.specs.History.{Call, called, doneTick}
+use Rattle.supervisor.specs.declared.state.State.{State}
+use Rattle.supervisor.proofs.ActLaws.{act-still, watch-still}
+use Rattle.supervisor.proofs.BeforeModulesLaws.{before-battery}
+use Rattle.supervisor.proofs.ControlLaws.{Controls, level, upward, downward, controls}
+use Rattle.supervisor.proofs.HistoryLaws.{Works, Comes, stopped, ticking, other, comes}
+use Rattle.supervisor.proofs.TickLaws.{Ticks, waits, runs, ticks, ticked-serials}
+use Rattle.promises.specs.OnlyTicks.{OnlyTicks, OthersLeave, TicksLeave}
+use Rattle.promises.proofs.EachModule.{asked-power}
+
+-- a call is a done tick, or it is none
+pub data Turn (s : State) (c : Call) : Type 0 where
+  moves : (shorts : ℕ) → Works s c (frame.Tick shorts) (ticked shorts s) → Turn s c
+  still : doneTick s c ≡ false → Turn s c
+
+turn-by : (s : State) (c : Call) → Comes s c → Turn s c
+turn-by s c (stopped answer w) = still (w .tick)
+turn-by s c (ticking shorts w) = moves shorts w
+turn-by s c (other f e w) = still (w .tick ∙ e)
+
+pub turn : (s : State) (c : Call) → Turn s c
+turn s c = turn-by s c (comes s c)
+
+module _ {Part : Type 0} (part : State → Part) where
+  -- what every frame other than a tick leaves
+  module _ (frame-leaves : (f : Frame) → Fits f → isTick (about (Accepted f)) ≡ false → (s : State) → part (actOf f s .state) ≡ part s) where
+    by-others : (s : State) (c : Call) → doneTick s c ≡ false → Comes s c → part (called s c .result .state) ≡ part s
+    by-others s c e (stopped answer w) = rw (w .leaves)
+    by-others s c e (ticking shorts w) = absurd (true≢false (sym (w .tick) ∙ e))
+    by-others s c e (other f t w) = rw (w .leaves) (frame-leaves f (w .fits) t s)
+
+    others-leave : OthersLeave Part part
+    others-leave s c e = by-others s c e (comes s c)
+
+  -- what every tick leaves
+  module _ (tick-leaves : (shorts : ℕ) (s : State) → part (ticked shorts s .state) ≡ part s) where
+    by-ticks : (s : State) (c : Call) → T (doneTick s c) → Turn s c → part (called s c .result .state) ≡ part s
+    by-ticks s c d (moves shorts w) = rw (w .leaves) (tick-leaves shorts s)
+    by-ticks s c d (still e) = absurd (rw e at d)
+
+    ticks-leave : TicksLeave Part part
+    ticks-leave s c d = by-ticks s c d (turn s c)
+
+-- a frame other than a tick switches nothing
+power-still : (i : ℕ) (f : Frame) → Fits f → isTick (about (Accepted f)) ≡ false → (s : State) → moduleAt i (actOf f s .state) .power ≡ moduleAt i s .power
+power-still i f fits e s =
+    act-still (λ t. moduleAt i t .power ≡ moduleAt i s .power)
+    (record { tension = λ n r t h. h; antennas = λ d t h. h; serial = λ o t h. h; request = λ which on t e h. asked-power t i which on ∙ h; thresholds = λ a d r t h. h })
+    f fits e s refl
+
+-- a tick, in DEPLOY_WAIT or by its stages
+battery-by : (shorts : ℕ) (s : State) → Ticks shorts s → ticked shorts s .state .battery ≡ s .battery
+unfolding beaconStage moduleStage
+battery-by shorts s (waits phase e w) = rw w
+battery-by shorts s (runs e w) = rw w (before-battery s)
+
+controlled-antennas : (s : State) → Controls s → controlled s .antennas ≡ s .antennas
+controlled-antennas s (level count low none w) = rw w
+controlled-antennas s (upward j e t w) = rw w
+controlled-antennas s (downward j e t w) = rw w
+
+antennas-by : (shorts : ℕ) (s : State) → Ticks shorts s → ticked shorts s .state .antennas ≡ s .antennas
+unfolding beaconStage moduleStage beforeModules
+antennas-by shorts s (waits phase e w) = rw w
+antennas-by shorts s (runs e w) = rw w (controlled-antennas s (controls s))
+
+pub only-ticks : OnlyTicks
+only-ticks =
+    record {
+      watch = others-leave (λ s. s .watch) watch-still;
+      power = λ i. others-leave (λ s. moduleAt i s .power) (power-still i);
+      serials = ticks-leave (λ s. s .serials) ticked-serials;
+      battery = ticks-leave (λ s. s .battery) (λ shorts s. battery-by shorts s (ticks shorts s));
+      antennas = ticks-leave (λ s. s .antennas) (λ shorts s. antennas-by shorts s (ticks shorts s));
+    }

@@ -1,0 +1,12 @@
+-- Tied to the code, proved: the two are the same.
+-- Assumes nothing.
+use Rattle.promises.specs.Tied.{Tied}
+
+pub tied : Tied
+tied =
+    record {
+      step = λ κs a x. (λ learnt. learnt, λ says. says);
+      key = λ κs a x. (λ learnt. learnt, λ says. says);
+      read = λ κs a x. (λ learnt. learnt, λ says. says);
+      write = λ κs a x. (λ learnt. learnt, λ says. says);
+    }

@@ -1,0 +1,49 @@
+-- Tied to the code: what the promises speak of is what the functions' own contracts say, as the toolchain reads them
+-- from the source. `ended` is a function's signature, `Learnt` what its caller learns from its `ensures`.
+-- Assumes nothing.
+use mathlib.Core.Path.{_≡_}
+use mathlib.Core.Logic.{_↔_}
+use contract.Lifetimes.{Lfts}
+use denote.Triple.Entry.{Args, Res}
+use denote.Triple.Clauses.{Ended, AtExit, atExit}
+use Rattle.basics.specs.Outcome.{outcome}
+use Rattle.basics.specs.OneOutcome.{Leaves}
+use Rattle.supervisor.specs.History.{called}
+use Rattle.morse.specs.Keying.{keyOf}
+use Rattle.morse.specs.Reading.{Read}
+use Rattle.beacon.specs.Writing.{beaconOf}
+use Rattle.supervisor.proofs.step.step as step
+use Rattle.supervisor.proofs.step.step.Reads as step-reads
+use Rattle.morse.proofs.keying.key as key
+use Rattle.morse.proofs.keying.key.Reads as key-reads
+use Rattle.morse.proofs.reading.read as read
+use Rattle.morse.proofs.reading.read.Reads as read-reads
+use Rattle.beacon.proofs.writing.write as write
+use Rattle.beacon.proofs.writing.write.Reads as write-reads
+
+-- a function's contract says of what a call leaves, its result and the last value of what it was lent, just what a
+-- definition says
+abbrev pub Says :
+    (ended : Ended) →
+    ((κs : Lfts (ended .signature .lifetimes)) → Args (ended .signature) κs → Res (ended .signature) κs →
+    AtExit ended κs → Type 0) →
+    ((κs : Lfts (ended .signature .lifetimes)) (a : Args (ended .signature) κs) → Leaves ended κs a → Type 0) → Type 0
+Says ended Learnt Definition =
+    (κs : Lfts (ended .signature .lifetimes)) (a : Args (ended .signature) κs) (x : Leaves ended κs a) →
+    Learnt κs a (x .0) (atExit ended κs a (x .1)) ↔ Definition κs a x
+
+-- each call that the promises speak of, its arguments in the order of the source
+pub record Tied : Type 0 where
+  -- step(state, input, room)
+  pub step :
+      Says step.ended step-reads.Learnt
+      (λ κs a x.
+      outcome (x .0) (x .1 .1 .1 .0) ≡ called (a .0) (record { input = a .1 .0 .now; room = a .1 .1 .0 .now }))
+  -- key(text, units)
+  pub key : Says key.ended key-reads.Learnt (λ κs a x. outcome (x .0) (x .1 .1 .0) ≡ keyOf (a .0 .now) (a .1 .0 .now))
+  -- read(units, text)
+  pub read : Says read.ended read-reads.Learnt (λ κs a x. Read (a .0 .now) (a .1 .0 .now) (outcome (x .0) (x .1 .1 .0)))
+  -- write(state, form, text), the beacon's
+  pub write :
+      Says write.ended write-reads.Learnt
+      (λ κs a x. outcome (x .0) (x .1 .1 .1 .0) ≡ beaconOf (a .1 .0) (a .0) (a .1 .1 .0 .now))
