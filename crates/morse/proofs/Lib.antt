@@ -3,8 +3,4 @@ pub mod SignsLaws
 pub mod TextsLaws
 pub mod UnitsLaws
 pub mod KeyingLaws
-pub mod GuessingLaws
-pub mod GuessIsRight
-pub mod ReadingLaws
-pub mod ReadBack
-pub mod Unique
+pub mod Outcomes

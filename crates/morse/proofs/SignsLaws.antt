@@ -15,7 +15,7 @@ use Rattle.morse.specs.Signs.{Mark, dot, dash, isFigure, isLetter, signs
 use Rattle.morse.specs.SignTable.{marksOf, entries, entryByte, sameMarks, noSign, isSign}
 use Rattle.morse.proofs.Everywhere.{everywhere}
 
-same-marks-eq : (s t : List Mark) → T (sameMarks s t) → s ≡ t
+pub same-marks-eq : (s t : List Mark) → T (sameMarks s t) → s ≡ t
 same-marks-eq [] [] h = refl
 same-marks-eq (dot ∷ s) (dot ∷ t) h = ap (λ ms. dot ∷ ms) (same-marks-eq s t h)
 same-marks-eq (dash ∷ s) (dash ∷ t) h = ap (λ ms. dash ∷ ms) (same-marks-eq s t h)

@@ -4,5 +4,3 @@ pub mod SignTable
 pub mod Texts
 pub mod Units
 pub mod Keying
-pub mod Guessing
-pub mod Reading

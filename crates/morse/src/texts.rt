@@ -12,7 +12,7 @@ use crate::signs::sign_of;
 pub const LONGEST: usize = 64;
 
 // What stands between two words.
-pub(crate) const SPACE: u8 = b' ';
+pub const SPACE: u8 = b' ';
 
 // Why a text may not be keyed: the first of the three refusals that applies, if any.
 pub enum Fault {

@@ -1,5 +1,5 @@
 // A text's units, stored one byte each as far as a room goes.
-// Nothing here asks whether the text may be keyed or the room is long enough: `keying` and `reading` do.
+// Nothing here asks whether the text may be keyed or the room is long enough: `keying` does.
 ghost use mathlib.Core.Path.{_≡_};
 ghost use Prim.Native.Nat.{_+_, _^_, _≤_, _<_};
 ghost use lib.ListN.{length, set, replicate};
@@ -13,13 +13,13 @@ use crate::texts::LONGEST;
 use crate::texts::SPACE;
 
 // The gap between two marks of a sign, in units up.
-const INSIDE_SIGN: usize = 1;
+pub const INSIDE_SIGN: usize = 1;
 
 // The gap between two signs.
-pub(crate) const BETWEEN_SIGNS: usize = 3;
+pub const BETWEEN_SIGNS: usize = 3;
 
 // The gap between two words.
-pub(crate) const BETWEEN_WORDS: usize = 7;
+pub const BETWEEN_WORDS: usize = 7;
 
 // The most units of a byte: the 19 of the longest sign, that of 0, and the gap of 3 after it.
 const BYTE_UNITS: usize = 22;
@@ -28,7 +28,7 @@ const BYTE_UNITS: usize = 22;
 pub const MOST_UNITS: usize = BYTE_UNITS * LONGEST - BETWEEN_SIGNS;
 
 // Stores v at a place of the room, and nothing where the room has no such place.
-pub(crate) fn put(room: &mut [u8], at: usize, v: u8)
+pub fn put(room: &mut [u8], at: usize, v: u8)
     ensures { λ _. ⌜ now (room .exit) ≡ set (now (room .entry)) at v ⌝ }
 {
     if room.len() <= at {

@@ -1,6 +1,6 @@
 // Each letter and figure with its sign, as the library keys it, and the byte that reading that keying gives.
+use hearing::Heard;
 use libc::STDOUT_FILENO;
-use morse::Heard;
 use morse::Keyed;
 use morse::texts::LONGEST;
 
@@ -41,7 +41,7 @@ fn say_marks(units: &[u8]) {
 // What reading units gives.
 fn say_heard(units: &[u8]) {
     let mut text = [0u8; LONGEST];
-    match morse::read(units, &mut text) {
+    match hearing::read(units, &mut text) {
         Heard::Done(n) => {
             if n <= LONGEST {
                 say(&text[0..n]);

@@ -1,0 +1,9 @@
+pub mod DecodingLaws
+pub mod Spacing
+pub mod NumbersLaws
+pub mod Complete
+pub mod Telling
+pub mod Sound
+pub mod ReadingLaws
+pub mod ReadBack
+pub mod Outcomes

@@ -1,0 +1,94 @@
+-- What a sign's number stands for: the marks that lead to it, one more mark, and the byte of a sign with those marks.
+-- Assumes nothing.
+use Prim.Native.Nat.{ℕ, zero, suc, _/_, _%_, _<_}
+use mathlib.Core.Path.{_≡_, refl}
+use mathlib.Core.Bool.{Bool, true, false, not, _&&_, _||_, true≢false}
+use mathlib.Core.List.{List, [], _∷_, _++_}
+use lib.Dec.{T, eqb, leb, ltb}
+use borrow.Author.Tests.{eqb-true, ltb-true, leb-false, le-ltb, not-true}
+use Rattle.basics.specs.Choice.{if_then_else_}
+use Rattle.basics.proofs.ChoiceLaws.{is-true, and-left, and-right}
+use Rattle.basics.proofs.TablesLaws.{upto}
+use Rattle.morse.specs.Signs.{Mark, dot, dash, signs, signOf, signed}
+use Rattle.morse.specs.SignTable.{markOf, sameMarks}
+use Rattle.morse.specs.Texts.{isSpace}
+use Rattle.morse.specs.Units.{span}
+use Rattle.morse.proofs.SignsLaws.{same-marks-eq}
+use Rattle.hearing.specs.Numbers.{grown, numbers, shorter, noByte, byteOf, afterMark}
+
+-- the marks that lead to a number, the last of so many
+abbrev marksTo : (most number : ℕ) → List Mark
+marksTo zero number = []
+marksTo (suc most) number =
+    if ltb number 2 then [] else marksTo most (number / 2) ++ (markOf (number % 2) ∷ [])
+
+-- the marks that lead to a number, which are five at most
+pub path : ℕ → List Mark
+path number = marksTo 5 number
+
+-- one more mark: a test over the numbers of the shorter signs
+grows : ℕ → Bool
+grows k =
+    ltb k 1 || sameMarks (path (grown k dot)) (path k ++ (dot ∷ [])) && sameMarks (path (grown k dash)) (path k ++ (dash ∷ []))
+
+pub path-grown : (n : ℕ) (m : Mark) → 0 < n → n < shorter → path (grown n m) ≡ path n ++ (m ∷ [])
+unfolding path grows
+path-grown n m p h = by-mark m (rw (le-ltb n 1 p) at (upto grows shorter tt n h))
+  where
+    by-mark : (m : Mark)
+        → T (sameMarks (path (grown n dot)) (path n ++ (dot ∷ [])) && sameMarks (path (grown n dash)) (path n ++ (dash ∷ [])))
+        → path (grown n m) ≡ path n ++ (m ∷ [])
+    by-mark dot t = same-marks-eq _ _ (and-left (sameMarks (path (grown n dot)) (path n ++ (dot ∷ []))) _ t)
+    by-mark dash t = same-marks-eq _ _ (and-right (sameMarks (path (grown n dot)) (path n ++ (dot ∷ []))) _ t)
+
+-- the root has no marks
+pub path-root : path 1 ≡ []
+unfolding path
+path-root = refl
+
+-- a number that a mark leads to
+pub record Marked (number down : ℕ) : Type 0 where
+  pub mark : Mark
+  pub spans : down ≡ span mark
+  pub short : number < shorter
+  pub next : afterMark number down ≡ grown number mark
+
+pub marked : (n d : ℕ) → (afterMark n d ≡ 0 → ⊥) → Marked n d
+unfolding afterMark
+marked n d some-number = by-tests (leb shorter n) refl (eqb d 1) refl (eqb d 3) refl
+  where
+    by-tests : (a : Bool) → leb shorter n ≡ a → (b : Bool) → eqb d 1 ≡ b → (c : Bool) → eqb d 3 ≡ c → Marked n d
+    by-tests true p b q c r = absurd (some-number (rw p))
+    by-tests false p true q c r =
+        record { mark = dot; spans = eqb-true d 1 q; short = leb-false shorter n p; next = rw (p, q) }
+    by-tests false p false q true r =
+        record { mark = dash; spans = eqb-true d 3 r; short = leb-false shorter n p; next = rw (p, q, r) }
+    by-tests false p false q false r = absurd (some-number (rw (p, q, r)))
+
+-- a byte that has the marks of a number
+pub record Spoken (number : ℕ) : Type 0 where
+  pub sign : signOf (byteOf number) ≡ path number
+  pub known : T (signed (signOf (byteOf number)))
+  pub inner : isSpace (byteOf number) ≡ false
+
+-- each byte that is heard is such: a test over the numbers
+ownMarks : ℕ → Bool
+ownMarks k =
+    eqb (byteOf k) noByte
+    || (sameMarks (signOf (byteOf k)) (path k) && signed (signOf (byteOf k))) && not (isSpace (byteOf k))
+
+pub spoken : (n : ℕ) → eqb (byteOf n) noByte ≡ false → Spoken n
+unfolding path byteOf signs signOf ownMarks
+spoken n e = by-place (ltb n numbers) refl
+  where
+    by-place : (b : Bool) → ltb n numbers ≡ b → Spoken n
+    by-place true p =
+        let same = sameMarks (signOf (byteOf n)) (path n) in
+        let t = rw e at (upto ownMarks numbers tt n (ltb-true n numbers p)) in
+        let both = and-left (same && signed (signOf (byteOf n))) (not (isSpace (byteOf n))) t in
+        record {
+          sign = same-marks-eq _ _ (and-left same (signed (signOf (byteOf n))) both);
+          known = and-right same (signed (signOf (byteOf n))) both;
+          inner = not-true _ (is-true _ (and-right (same && signed (signOf (byteOf n))) (not (isSpace (byteOf n))) t));
+        }
+    by-place false p = absurd (true≢false (rw p at e))
