@@ -8,8 +8,8 @@ use lib.Dec.{T}
 use Rattle.basics.specs.Choice.{within}
 use Rattle.basics.specs.Outcome.{Outcome, outcome, Reply, reply}
 use Rattle.basics.proofs.ChoiceLaws.{is-true, holds}
-use Rattle.morse.specs.Reading.{Read, readReply}
-use Rattle.morse.specs.declared.reading.Heard.{Heard}
+use Rattle.hearing.specs.Reading.{Read, readReply}
+use Rattle.hearing.specs.declared.reading.Heard.{Heard}
 use Rattle.frames.specs.Answer.{answerNumber, isReported}
 use Rattle.frames.specs.declared.answer.Answer.{Answer}
 use Rattle.frames.specs.declared.answer.Answer.the-variants as answer

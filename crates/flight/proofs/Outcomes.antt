@@ -3,8 +3,8 @@
 use mathlib.Core.Path.{_≡_, sym, ap, _∙_}
 use Rattle.basics.specs.OneOutcome.{OneOutcome}
 use Rattle.basics.specs.Outcome.{outcome, reply}
-use Rattle.morse.specs.Reading.{readReply}
-use Rattle.morse.proofs.Unique.{read-unique}
+use Rattle.hearing.specs.Reading.{readReply}
+use Rattle.hearing.proofs.ReadingLaws.{one-reading}
 use Rattle.flight.specs.Calls.{replied}
 use Rattle.flight.proofs.calls.ems_fresh as ems-fresh
 use Rattle.flight.proofs.calls.ems_fresh.Reads as ems-fresh-reads
@@ -56,7 +56,7 @@ ems-read-one =
     record {
       taken = λ κs a. tt;
       one = λ κs a x y p q.
-          let heard = read-unique _ _ (p .heard) (q .heard) (p .read) (q .read) in
+          let heard = one-reading _ _ (p .heard) (q .heard) (p .read) (q .read) in
           let e : outcome (reply (x .0) (x .1 .1 .1 .0)) (x .1 .1 .0) ≡ outcome (reply (y .0) (y .1 .1 .1 .0)) (y .1 .1 .0) =
           p .same ∙ ap (replied readReply) heard ∙ sym (q .same) in
           λ i. (e i .result .number, (tt, (e i .room, (e i .result .count, tt))));

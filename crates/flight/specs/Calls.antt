@@ -8,8 +8,8 @@ use lib.Dec.{eqb}
 use lib.ListN.{length}
 use Rattle.basics.specs.Choice.{if_then_else_}
 use Rattle.basics.specs.Outcome.{Outcome, outcome, Reply}
-use Rattle.morse.specs.Reading.{Read, readReply}
-use Rattle.morse.specs.declared.reading.Heard.{Heard}
+use Rattle.hearing.specs.Reading.{Read, readReply}
+use Rattle.hearing.specs.declared.reading.Heard.{Heard}
 use Rattle.frames.specs.Answer.{answerNumber}
 use Rattle.frames.specs.declared.answer.Answer.the-variants as answer
 use Rattle.supervisor.specs.Fresh.{freshState}

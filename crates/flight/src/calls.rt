@@ -95,7 +95,7 @@ pub extern "C" fn ems_read(units: &[u8], text: &mut [u8], count: &mut usize) -> 
     ensures { λ r. ⌜ ReadReplied (now (units .entry)) (now (text .entry))
         (outcome (reply r (now (count .exit))) (now (text .exit))) ⌝ }
 {
-    let heard = morse::read(units, text);
+    let heard = hearing::read(units, text);
     *count = heard.count();
     heard.number()
 }

@@ -20,7 +20,7 @@ below-bound : (n mask : ℕ) (set : Bool) → mask < 2 ^ n → below set mask < 
 below-bound n mask true h = rw (pow-suc 2 n) (omega arith)
 below-bound n mask false h = rw (pow-suc 2 n) (omega arith)
 
-maskOf-bound : (test : Module → Bool) (ms : List Module) → maskOf test ms < 2 ^ length ms
+pub maskOf-bound : (test : Module → Bool) (ms : List Module) → maskOf test ms < 2 ^ length ms
 unfolding maskOf
 maskOf-bound test [] = lit< tt
 maskOf-bound test (m ∷ ms) = below-bound (length ms) (maskOf test ms) (test m) (maskOf-bound test ms)

@@ -12,11 +12,11 @@ use Rattle.basics.proofs.ChoiceLaws.{either}
 use Rattle.morse.specs.Texts.{faultOf}
 use Rattle.morse.specs.Units.{unitsOf}
 use Rattle.morse.specs.Keying.{keyOf, keyBy, keyUnits, keyReply}
-use Rattle.morse.specs.Reading.{Keys, Read, readText, readReply}
+use Rattle.hearing.specs.Reading.{Keys, Read, readText, readReply}
 use Rattle.morse.specs.declared.texts.Fault.{Fault}
 use Rattle.morse.specs.declared.keying.Keyed.{Keyed}
-use Rattle.morse.specs.declared.reading.Heard.{Heard}
-use Rattle.morse.specs.declared.reading.Heard.the-variants.{Done, NotAKeying, NoRoom}
+use Rattle.hearing.specs.declared.reading.Heard.{Heard}
+use Rattle.hearing.specs.declared.reading.Heard.the-variants.{Done, NotAKeying, NoRoom}
 use Rattle.morse.specs.declared.texts.Fault.the-variants as fault
 use Rattle.promises.specs.Refusals.{Unwritten}
 

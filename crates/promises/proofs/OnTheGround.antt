@@ -22,9 +22,9 @@ use Rattle.supervisor.specs.declared.state.Mode.the-variants.{DeployWait, Recov
 use Rattle.supervisor.specs.declared.state.State.{State}
 use Rattle.morse.specs.Texts.{faultOf}
 use Rattle.morse.specs.Keying.{keyOf, keyUnits}
-use Rattle.morse.specs.Reading.{readText}
+use Rattle.hearing.specs.Reading.{readText}
 use Rattle.morse.specs.declared.texts.Fault.the-variants.{Nothing}
-use Rattle.morse.proofs.ReadBack.{same-keying}
+use Rattle.hearing.proofs.ReadBack.{same-keying}
 use Rattle.beacon.specs.Text.{basicText, completeText, textOf, modeLetter, figure}
 use Rattle.beacon.specs.Writing.{beaconOf}
 use Rattle.beacon.specs.declared.text.Form.{Form}

@@ -13,10 +13,10 @@ use Rattle.supervisor.specs.State.{modeNumber}
 use Rattle.supervisor.specs.declared.state.State.{State}
 use Rattle.morse.specs.Units.{unitsOf}
 use Rattle.morse.specs.Keying.{keyOf}
-use Rattle.morse.specs.Reading.{Read}
+use Rattle.hearing.specs.Reading.{Read}
 use Rattle.morse.specs.declared.keying.Keyed.the-variants as keyed
-use Rattle.morse.specs.declared.reading.Heard.{Heard}
-use Rattle.morse.specs.declared.reading.Heard.the-variants as heard
+use Rattle.hearing.specs.declared.reading.Heard.{Heard}
+use Rattle.hearing.specs.declared.reading.Heard.the-variants as heard
 use Rattle.beacon.specs.Text.{textOf}
 use Rattle.beacon.specs.Writing.{beaconOf}
 use Rattle.beacon.specs.declared.text.Form.{Form}

@@ -22,8 +22,8 @@ use Rattle.supervisor.specs.History.{Call, called, answered, aboutOf}
 use Rattle.supervisor.specs.declared.state.Mode.{Mode}
 use Rattle.supervisor.specs.declared.state.State.{State}
 use Rattle.morse.specs.Keying.{keyOf, keyReply}
-use Rattle.morse.specs.Reading.{Read, readReply}
-use Rattle.morse.specs.declared.reading.Heard.{Heard}
+use Rattle.hearing.specs.Reading.{Read, readReply}
+use Rattle.hearing.specs.declared.reading.Heard.{Heard}
 use Rattle.beacon.specs.Writing.{beaconOf, writtenReply}
 use Rattle.beacon.specs.declared.text.Form.{Form}
 use Rattle.promises.specs.AsTold.{SaysOn}

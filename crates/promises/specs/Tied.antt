@@ -10,14 +10,14 @@ use Rattle.basics.specs.Outcome.{outcome}
 use Rattle.basics.specs.OneOutcome.{Leaves}
 use Rattle.supervisor.specs.History.{called}
 use Rattle.morse.specs.Keying.{keyOf}
-use Rattle.morse.specs.Reading.{Read}
+use Rattle.hearing.specs.Reading.{Read}
 use Rattle.beacon.specs.Writing.{beaconOf}
 use Rattle.supervisor.proofs.step.step as step
 use Rattle.supervisor.proofs.step.step.Reads as step-reads
 use Rattle.morse.proofs.keying.key as key
 use Rattle.morse.proofs.keying.key.Reads as key-reads
-use Rattle.morse.proofs.reading.read as read
-use Rattle.morse.proofs.reading.read.Reads as read-reads
+use Rattle.hearing.proofs.reading.read as read
+use Rattle.hearing.proofs.reading.read.Reads as read-reads
 use Rattle.beacon.proofs.writing.write as write
 use Rattle.beacon.proofs.writing.write.Reads as write-reads
 

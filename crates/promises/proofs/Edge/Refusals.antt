@@ -15,8 +15,8 @@ use Rattle.morse.specs.Signs.{signs, signOf}
 use Rattle.morse.specs.Texts.{faultOf}
 use Rattle.morse.specs.Units.{unitsOf}
 use Rattle.morse.specs.Keying.{keyUnits, keyOf}
-use Rattle.morse.specs.Reading.{Keys, Read, readText}
-use Rattle.morse.proofs.ReadBack.{same-keying}
+use Rattle.hearing.specs.Reading.{Keys, Read, readText}
+use Rattle.hearing.proofs.ReadBack.{same-keying}
 use Rattle.beacon.specs.Text.{basicText}
 use Rattle.beacon.specs.Writing.{beaconOf}
 use Rattle.beacon.specs.declared.text.Form.the-variants.{Basic}
