@@ -7,7 +7,7 @@ use mathlib.Core.List.{List}
 use lib.Dec.{T}
 use Rattle.basics.specs.Choice.{within}
 use Rattle.basics.specs.Outcome.{Outcome, outcome, Reply, reply}
-use Rattle.basics.proofs.ChoiceLaws.{is-true, holds}
+use Rattle.basics.proofs.ChoiceLaws.{is-true}
 use Rattle.hearing.specs.Reading.{Read, readReply}
 use Rattle.hearing.specs.declared.reading.Heard.{Heard}
 use Rattle.frames.specs.Answer.{answerNumber, isReported}
@@ -48,15 +48,12 @@ reported-number answer.NotNow = refl
 
 -- a call that is answered with a report found its state in range; any other leaves it
 module _ (s : State) (c : Call) where
-  refused-by : (a : Answer) → T (within 1 7 (answerNumber a)) → isReported a ≡ false
-  refused-by a h = reported-number a ∙ ap not (is-true (within 1 7 (answerNumber a)) h)
-
   valid-by : Comes s c → isReported (called s c .result .answer) ≡ true → T (inRange s)
-  valid-by (stopped a w) e = absurd (true≢false (sym e ∙ rw (w .leaves) (refused-by a (w .number))))
+  valid-by (stopped a w) e = absurd (true≢false (sym e ∙ rw (w .leaves) (reported-number a ∙ ap not (is-true (within 1 7 (answerNumber a)) (w .number)))))
   valid-by (ticking shorts w) e = w .valid
   valid-by (other f t w) e = w .valid
 
-  pub reported-valid : isReported (called s c .result .answer) ≡ true → T (inRange s)
+  reported-valid : isReported (called s c .result .answer) ≡ true → T (inRange s)
   reported-valid = valid-by (comes s c)
 
   left-by : Comes s c → isReported (called s c .result .answer) ≡ false → called s c .result .state ≡ s
@@ -65,7 +62,7 @@ module _ (s : State) (c : Call) where
   left-by (other f t w) e =
       absurd (false≢true (sym e ∙ rw (w .leaves) (reported-number (actOf f s .answer) ∙ ap not (unrefused f s (actOf f s) (act-answers f s)))))
 
-  pub refused-left : isReported (called s c .result .answer) ≡ false → called s c .result .state ≡ s
+  refused-left : isReported (called s c .result .answer) ≡ false → called s c .result .state ≡ s
   refused-left = left-by (comes s c)
 
 -- a state out of range is refused with 1

@@ -11,7 +11,7 @@ use borrow.Author.Tests.{eqb-true, eqb-false}
 use Rattle.frames.specs.Reading.{byteAt}
 use Rattle.flight.specs.Fields.{flag, pairAt, tripleAt}
 
--- every element is a byte
+-- every element is a byte, as in a slice of bytes; a list of a contract may hold any numbers
 abbrev pub AllBytes : List ℕ → Type 0
 AllBytes bytes = (i : ℕ) → getD bytes i 0 < 256
 

@@ -22,8 +22,8 @@ use Rattle.supervisor.specs.Range.{inRange}
 use Rattle.supervisor.specs.declared.state.State.{State}
 use Rattle.supervisor.proofs.RangeLaws.{parts}
 use Rattle.supervisor.proofs.ModuleLaws.{Eight}
-use Rattle.flight.specs.Fields.{flag, pairBytes, pairAt, tripleAt}
-use Rattle.flight.specs.Codes.{modeFrom, moduleCode, moduleFrom}
+use Rattle.flight.specs.Fields.{pairBytes, pairAt}
+use Rattle.flight.specs.Codes.{moduleCode, moduleFrom}
 use Rattle.flight.specs.Saving.{imageBytes, layoutVersion, modulesPlace, modulesBytes, headBytes, saved}
 use Rattle.flight.specs.Loading.{hasLayout, blank, modulesIn, decoded}
 use Rattle.flight.proofs.FieldsLaws.{AllBytes, flag-back, pair-back, triple-back, flag-stored}

@@ -28,7 +28,7 @@ pub(crate) fn has_layout(image: &[u8]) -> bool
     (image[0] == VERSION) & (image[7] <= 1)
 }
 
-// The eight modules of an image. The loop goes by the image's length, which the compiler does not know: it stays a loop.
+// The eight modules of an image. The loop goes by the image's length, which the compiler does not know: it stays one.
 fn modules_in(image: &[u8]) -> [Module; MODULE_COUNT]
     requires { ⌜ length (now image) ≡ imageBytes ⌝ }
     ensures { λ r. ⌜ r ≡ modulesIn (now (image .entry)) ⌝ }

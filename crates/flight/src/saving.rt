@@ -67,7 +67,7 @@ fn put_pair(bytes: &mut [u8], at: usize, n: u16)
     bytes[at + 1] = (n / 256) as u8;
 }
 
-// Stores the eight modules. The loop goes by the image's length, which the compiler does not know: it stays a loop.
+// Stores the eight modules. The loop goes by the image's length, which the compiler does not know: it stays one.
 fn put_modules(modules: [Module; MODULE_COUNT], image: &mut [u8])
     requires { ⌜ (length (now image) ≡ imageBytes) × (modulesInRange modules ≡ true) ⌝ }
     ensures { λ _. ⌜ now (image .exit) ≡ sets (now (image .entry)) modulesPlace (modulesBytes modules) ⌝ }

@@ -1,14 +1,11 @@
 -- `flight::calls::ems_step` meets its contract: bytes of another layout are refused; else the state that they say is worked, and its image
 -- becomes the next state's if a report was written.
-use mathlib.Core.Path.{_≡_, sym, ap, _∙_}
+use mathlib.Core.Path.{_≡_, sym, _∙_}
 use mathlib.Core.Bool.{true}
 use mathlib.Core.Logic.{⊎-elim}
 use borrow.Author.Tests.{not-true, not-false}
 use borrow.Author.Needs.{needs}
-use Rattle.basics.specs.Outcome.{outcome}
-use Rattle.frames.specs.Answer.{isReported}
-use Rattle.supervisor.specs.Step.{stepOf}
-use Rattle.flight.specs.Loading.{hasLayout, decoded}
+use Rattle.flight.specs.Loading.{hasLayout}
 use Rattle.flight.proofs.LoadingLaws.{layout}
 use Rattle.flight.proofs.CallsLaws.{step-foreign, step-reported, step-refused, both-in-range}
 use Rattle.flight.proofs.calls.ems_step.Statement.{statement}

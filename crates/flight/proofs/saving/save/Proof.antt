@@ -1,5 +1,5 @@
 -- `flight::saving::save` meets its contract: the head, then the modules, fill the image.
-use mathlib.Core.Path.{_≡_, ap, _∙_}
+use mathlib.Core.Path.{ap, _∙_}
 use lib.Seq.{sets}
 use Rattle.basics.proofs.EachLaws.{length-mapped}
 use Rattle.supervisor.proofs.ModuleLaws.{Eight}
