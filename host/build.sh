@@ -12,7 +12,9 @@ tool_needs=(
     "cc gcc"
     "$registry/clap-4.* librust-clap-dev"
     "$registry/clap_derive-4.* librust-clap-derive-dev"
+    "$registry/ctor-0.1.* librust-ctor-dev"
     "$registry/indicatif-0.17.* librust-indicatif-dev"
+    "$registry/unicode-width-0.1.* librust-unicode-width-dev"
 )
 
 say() {

@@ -3,13 +3,13 @@
 
 mod common;
 
-use common::{fed, place, root, run, scratch};
-use ems::{answer, Craft, REPORT_BYTES};
+use common::{ems, fed, place, root, run, scratch};
+use ::ems::{answer, Craft, REPORT_BYTES};
 use model::image;
 use std::os::unix::fs::symlink;
 use std::path::Path;
 use std::process::Command;
-use std::{env, fs};
+use std::fs;
 
 /// The blocks of a document that are marked with a word.
 fn blocks(document: &str, mark: &str) -> Vec<String> {
@@ -36,7 +36,7 @@ fn folder(name: &str) -> String {
     let _ = fs::remove_dir_all(&folder);
     fs::create_dir_all(&folder).expect("a folder");
     let link = |to: &Path, name: &str| symlink(to, Path::new(&folder).join(name));
-    link(Path::new(env!("CARGO_BIN_EXE_ems")), "ems").expect("a link");
+    link(&ems(), "ems").expect("a link");
     let examples = root().canonicalize().expect("a path").join("examples");
     link(&examples, "examples").expect("a link");
     folder
