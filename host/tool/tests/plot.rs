@@ -204,6 +204,16 @@ fn a_narrow_recovery_is_seen() {
     assert!(own > Some(last), "nothing covers it");
 }
 
+/// Of twenty days, both the first quarter of an hour and the half minute after it.
+#[test]
+fn narrow_modes_at_one_place_are_all_seen() {
+    let picture = drawn(&format!("{SAFE}tick 1728000\n"));
+    let wait = picture.one("DEPLOY_WAIT, 00:00:00 to 00:15:01");
+    let recovery = picture.one("RECOVERY, 00:15:01 to 00:15:31");
+    assert!(wait.width() >= 4.0 && recovery.width() >= 4.0);
+    assert!(wait.bottom <= recovery.top + 0.1 || wait.right <= recovery.left + 0.1);
+}
+
 #[test]
 fn the_longest_stretch_of_each_mode_is_named() {
     for script in ["dawn", "orbit", "shorted"] {

@@ -236,17 +236,11 @@ fn a_file_is_not_written_over_what_is_read() {
             run(&[command, &file, "-o", onto])
                 .status(1)
                 .says(": is the input, which would be lost: name another file after -o");
-            let line = format!("$ems {command} - --as script -o {onto} < {file}");
-            bash(&line.replace(
-                " --as script",
-                if command == "frames" {
-                    ""
-                } else {
-                    " --as script"
-                },
-            ))
-            .status(1)
-            .says(": is the input");
+        }
+        for command in ["frames -", "plot --as script -"] {
+            bash(&format!("$ems {command} -o {onto} < {file}"))
+                .status(1)
+                .says(": is the input");
         }
     }
     assert_eq!(std::fs::read_to_string(&file).expect("it is there"), script);

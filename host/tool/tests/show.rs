@@ -72,23 +72,20 @@ fn a_report_that_no_board_sends_is_marked() {
     );
 }
 
-/// Every report of every vector is one that a board sends.
+/// Every report on every vector is one that a board sends.
 #[test]
 fn no_board_s_report_is_marked() {
     for (stream, _) in vectors() {
-        let mut craft = ems::Craft::fresh();
-        let script = run(&["log", "--hex", &stream]);
-        let reports = script
+        let log = run(&["log", "--hex", &stream]);
+        let reports = log
             .text()
             .lines()
-            .filter_map(|line| line.strip_prefix("< 81 "));
-        let hex = reports.flat_map(|line| format!("81 {line} ").into_bytes());
-        let hex = String::from_utf8(hex.collect()).expect("text");
-        let bytes: Vec<u8> = hex
-            .split_whitespace()
+            .filter_map(|line| line.strip_prefix("< "));
+        let reports = reports.filter(|report| report.starts_with("81 "));
+        let bytes: Vec<u8> = reports
+            .flat_map(str::split_whitespace)
             .map(|byte| u8::from_str_radix(byte, 16).expect("a byte"))
             .collect();
-        craft.step(&[], &mut []);
         let ran = fed(&["show", "-"], &bytes).status(0);
         assert!(!ran.text().contains("no board"), "{stream}");
     }

@@ -107,3 +107,32 @@ pub fn draw(svg: &mut Svg, view: &View, top: f64, bottom: f64) -> f64 {
     svg.text(middle, bottom + 35.0, SIZE, Align::Middle, &unit);
     bottom + 38.0
 }
+
+#[cfg(test)]
+mod tests {
+    use super::*;
+    use crate::board::Board;
+    use crate::plot::Record;
+
+    /// Every length from a second to a thousand years, begun anywhere.
+    #[test]
+    fn labels_are_few_and_do_not_touch() {
+        let mut record = Record::new(&Board::fresh().image());
+        record.seconds = 1_000 * 365 * DAY;
+        let mut length = 1;
+        while length < record.seconds {
+            for from in [0, 59, 86_399, 360_000, record.seconds - length] {
+                let to = Some(from + length);
+                let Ok(view) = View::of(&record, Some(from), to) else {
+                    continue;
+                };
+                let labels = Labels::of(&view);
+                assert!(labels.fit(&view), "{length} from {from}");
+                let count = view.to / labels.step - view.from / labels.step;
+                assert!(count <= LABELS, "{length} from {from}");
+                assert!(count > 0 || length < 10, "{length} from {from}");
+            }
+            length += 1 + length / 7;
+        }
+    }
+}

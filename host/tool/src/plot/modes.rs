@@ -6,7 +6,7 @@ use super::svg::{width, Align, Svg};
 use super::view::{span, View};
 use super::{LEFT, RIGHT};
 use crate::tables;
-use crate::words::{count, list};
+use crate::words::count;
 use ems::Mode;
 use std::collections::BTreeMap;
 
@@ -110,27 +110,28 @@ fn places<'a>(view: &View, narrow: &[&'a Stretch<u8>]) -> Vec<(f64, Vec<&'a Stre
         .collect()
 }
 
-/// Stretches that are too narrow to be drawn as they are: the worst mode of them,
-/// so wide that it can be seen.
+/// Stretches that are too narrow to be drawn as they are: so wide that they can
+/// be seen, and over each other where modes share the place.
 fn sliver(svg: &mut Svg, x: f64, stretches: &[&Stretch<u8>], y: f64) {
-    let worst = stretches.iter().map(|stretch| stretch.value).min();
-    let class = format!("{} edged", fill(worst.unwrap_or_default()).0);
-    let about = match stretches {
-        [one] => about(one),
-        [first, .., last] => {
-            let each = Mode::ALL.map(|mode| {
-                let times = stretches.iter().filter(|one| one.value == mode.number());
-                (times.count() as u64, mode)
-            });
-            let each = each.iter().filter(|(times, _)| *times > 0);
-            let said: Vec<String> = each
-                .map(|(times, mode)| format!("{mode} {}", count(*times, "time")))
-                .collect();
-            format!("{}, {}", list(&said), span(first.from, last.to))
-        }
-        [] => return,
+    let of = |mode: Mode| -> Vec<&Stretch<u8>> {
+        let own = stretches.iter().filter(|one| one.value == mode.number());
+        own.copied().collect()
     };
-    svg.rect(x, y, NARROW, HEIGHT, &class, &about);
+    let modes = Mode::ALL.map(of);
+    let modes: Vec<&Vec<&Stretch<u8>>> = modes.iter().filter(|own| !own.is_empty()).collect();
+    let height = HEIGHT / modes.len() as f64;
+    for (at, own) in modes.iter().enumerate() {
+        let (first, last) = (own[0], own[own.len() - 1]);
+        let about = match own.len() {
+            1 => about(first),
+            times => {
+                let (mode, times) = (tables::mode(first.value), count(times as u64, "time"));
+                format!("{mode} {times}, {}", span(first.from, last.to))
+            }
+        };
+        let class = format!("{} edged", fill(first.value).0);
+        svg.rect(x, y + height * at as f64, NARROW, height, &class, &about);
+    }
 }
 
 /// The longest stretch of each mode whose name has no room in it.
