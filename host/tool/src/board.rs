@@ -9,6 +9,7 @@ use ems::{answer, Beacon, Craft, Report, BEACON_COMPLETE_BYTES};
 /// A board, and how far its flight has come.
 pub struct Board {
     craft: Craft,
+    image: Image,
     frames: u64,
     seconds: u64,
     /// The origins that a number was taken from.
@@ -31,8 +32,10 @@ pub struct Step {
 
 impl Board {
     pub fn fresh() -> Board {
+        let craft = Craft::fresh();
         Board {
-            craft: Craft::fresh(),
+            image: Image::of(craft.image()),
+            craft,
             frames: 0,
             seconds: 0,
             numbered: Vec::new(),
@@ -41,15 +44,16 @@ impl Board {
 
     /// Gives the board one frame.
     pub fn step(&mut self, frame: &[u8]) -> Step {
-        let before = self.image();
+        let before = self.image;
         let outcome = self.craft.report_on(frame);
+        self.image = Image::of(self.craft.image());
         self.frames += 1;
         self.seconds += u64::from(outcome.is_ok_and(|report| report.kind == TICK));
         Step {
             n: self.frames,
             seconds: self.seconds,
             before,
-            after: self.image(),
+            after: self.image,
             numbered: outcome.is_ok_and(|report| self.number(&report)),
             outcome,
         }
@@ -67,7 +71,7 @@ impl Board {
     }
 
     pub fn image(&self) -> Image {
-        Image::of(self.craft.image())
+        self.image
     }
 
     /// A beacon's text.

@@ -57,6 +57,7 @@ fn run(command: &Command) -> Result<(), Failure> {
         Command::Key(key) => commands::key::run(key),
         Command::Read(read) => commands::read::run(read),
         Command::Compare(compare) => commands::compare::run(compare),
+        Command::Image(image) => commands::image::run(image),
     }
 }
 

@@ -77,3 +77,12 @@ conclusion doesn't (never seen: it is proved); 2 a frame was refused on both.
 
 Example:
   ems compare examples/sister-craft-a.pass examples/sister-craft-b.pass";
+
+pub const IMAGE: &str = "\
+The layout is that of include/ems.h. For bytes that are no state's image, every field
+that is wrong is named, with status 1.
+
+Examples:
+  ems image --after examples/dawn.pass
+  ems image saved.bin
+  ems image --hex - < dump.txt";

@@ -41,6 +41,9 @@ pub enum Command {
     /// Two craft side by side: where they differ, and whether the stronger keeps up
     #[command(after_help = help::COMPARE)]
     Compare(Compare),
+    /// A board's image in words: what a caller keeps over a reset
+    #[command(after_help = help::IMAGE)]
+    Image(Image),
 }
 
 /// A flight: what is sent to a board from the fresh start on.
@@ -172,6 +175,24 @@ pub struct Compare {
     pub b: PathBuf,
     /// Takes both files for this, whatever their names
     #[arg(long = "as", value_name = "WHAT")]
+    pub kind: Option<As>,
+    #[command(flatten)]
+    pub going: KeepGoing,
+}
+
+#[derive(Args, Debug)]
+pub struct Image {
+    /// The image; `-` is standard input
+    #[arg(required_unless_present = "after")]
+    pub file: Option<PathBuf>,
+    /// The bytes are written in hex, with blanks and line ends between or not
+    #[arg(long, requires = "file")]
+    pub hex: bool,
+    /// The image of a board after this flight, instead of a file's
+    #[arg(long, value_name = "FLIGHT", conflicts_with = "file")]
+    pub after: Option<PathBuf>,
+    /// Takes the flight for this, whatever its name
+    #[arg(long = "as", value_name = "WHAT", requires = "after")]
     pub kind: Option<As>,
     #[command(flatten)]
     pub going: KeepGoing,

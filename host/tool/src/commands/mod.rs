@@ -5,6 +5,7 @@ pub mod compare;
 pub mod explain;
 pub mod frames;
 pub mod hex;
+pub mod image;
 pub mod key;
 pub mod log;
 pub mod plot;
