@@ -46,7 +46,8 @@ fn bytes(show: &Show) -> Result<Vec<u8>, Failure> {
     let name = source.name;
     if source.looks_like_text {
         return Err(Failure::usage(format!(
-            "{name} looks like text: `--as script` shows what it sends as a pass script, `--as bytes` takes it for frames"
+            "{name} looks like text: `--as script` shows what it sends as a pass script, \
+             `--as bytes` takes it for frames"
         )));
     }
     let bytes: io::Result<Vec<u8>> = source.bytes.map(|byte| Ok(byte?.0)).collect();

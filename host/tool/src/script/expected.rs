@@ -33,7 +33,11 @@ impl fmt::Display for Expected {
                 write!(f, "expected a frame: {names} or {RAW}")
             }
             Expected::Times => {
-                write!(f, "expected a number 1 to {}", thousands(u64::from(u32::MAX)))
+                write!(
+                    f,
+                    "expected a number 1 to {}",
+                    thousands(u64::from(u32::MAX))
+                )
             }
             Expected::Value(field) => value(f, field),
             Expected::Name { field, times } => {
@@ -43,7 +47,8 @@ impl fmt::Display for Expected {
             Expected::Byte => f.write_str("expected a byte: two hexadecimal digits"),
             Expected::End => f.write_str("expected the end of the line"),
             Expected::Text => f.write_str(
-                "expected text in UTF-8; if these are frames, `--as bytes` flies them and `ems show` makes a script of them",
+                "expected text in UTF-8; if these are frames, `--as bytes` flies them and \
+                 `ems show` makes a script of them",
             ),
         }
     }
