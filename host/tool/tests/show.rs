@@ -61,14 +61,23 @@ fn a_report_that_no_board_sends_is_marked() {
     marked(changed(5, 3), "there is no mode 3");
     marked(changed(8, 0x21), "MCS and I2C on and failed at once");
     marked(changed(9, 3), "there is no beacon 3");
+    marked(changed(9, 1), "no such beacon is due in SAFE");
     marked([4, 3, 0, 1, 0, 2, 0, 0, 0, 0], "there is no origin 3");
     marked(
-        [2, 0, 0, 0, 0, 2, 0, 0, 0, 1],
+        [4, 1, 0, 1, 10, 2, 0, 0, 0, 0],
+        "in SAFE it is never too early",
+    );
+    marked(
+        [5, 1, 0, 1, 10, 1, 0, 0, 0, 0],
+        "this kind has no such answer",
+    );
+    marked(
+        [2, 0, 0, 0, 0, 2, 0, 0, 0, 2],
         "only a tick makes a beacon due",
     );
     marked(
         [4, 0, 0, 1, 99, 9, 0, 0, 0, 0],
-        "there is no origin 0, answer 99 has no report and there is no mode 9",
+        "answer 99 has no report, there is no mode 9 and there is no origin 0",
     );
 }
 

@@ -1,7 +1,8 @@
 //! What stands under each command's help: what else to know, and examples.
 
 pub const MAIN: &str = "\
-Every answer is the proved library's: this tool knows names and layouts, and no rule.
+Every answer is the proved library's: of frames and flights, this tool knows names and
+layouts, and no rule.
 
 A flight is a pass script (*.pass, see docs/PASS-SCRIPTS.md) or a stream of frames
 as bytes (any other file, and `-` for standard input); `--as` says so of any file.

@@ -1,13 +1,13 @@
-//! Orders with their answers, and refused frames: marks with numbers, and a list
-//! of what they were.
+//! Orders with their answers, and refused frames: marks over the time, the first
+//! ones with numbers.
 
 use super::layout::{groups, spread, Wish};
+use super::marks::{inscribe, mark, said, shape, SHAPES};
 use super::record::Event;
-use super::svg::{cut, polygon, width, Align, Svg};
+use super::svg::{Align, Svg};
 use super::view::{span, View};
-use super::{LEFT, RIGHT, WIDTH};
-use crate::tables;
-use crate::words::{clock, count, thousands};
+use super::{LEFT, RIGHT};
+use crate::words::{clock, count};
 use ems::answer;
 
 /// So many are numbered and listed; the others are small.
@@ -21,26 +21,10 @@ const LEVELS: usize = 5;
 /// From one mark's middle to the next one's.
 const STEP: f64 = 2.0 * RADIUS + 2.0;
 
-/// A line of the list, and from how many on it has two columns.
-const LINE: f64 = 17.0;
-const COLUMN: usize = 8;
-
-/// Where the list begins and ends.
-const LIST: (f64, f64) = (LEFT - 60.0, WIDTH - 10.0);
-
-/// The answers that have a shape of their own; any refusal has the last one's.
-pub const ANSWERS: [u8; 5] = [
-    answer::DONE,
-    answer::REPEAT,
-    answer::STALE,
-    answer::NOT_NOW,
-    answer::BAD_FIELD,
-];
-
 /// What is seen of a flight's events.
 pub struct Events<'a> {
-    numbered: Vec<&'a Event>,
-    others: Vec<&'a Event>,
+    pub numbered: Vec<&'a Event>,
+    pub others: Vec<&'a Event>,
 }
 
 impl<'a> Events<'a> {
@@ -93,33 +77,15 @@ impl<'a> Events<'a> {
         bottom
     }
 
-    /// Marks without numbers, those with the same answer together where they
-    /// would cover each other; what was not done comes last, and covers what was.
+    /// Marks without numbers, those of one shape together where they would cover
+    /// each other; what was not done comes last, and covers what was.
     fn small(&self, svg: &mut Svg, view: &View, y: f64) {
-        let shape = |answer: u8| {
-            ANSWERS
-                .iter()
-                .position(|&one| one == answer)
-                .unwrap_or(ANSWERS.len() - 1)
-        };
-        for own in 0..ANSWERS.len() {
-            let events = self
-                .others
-                .iter()
-                .filter(|event| shape(event.answer) == own);
-            let events: Vec<&Event> = events.copied().collect();
-            for group in groups(&events, |event| view.x(event.second), 2.0 * SMALL) {
-                let (first, last) = (group[0], group[group.len() - 1]);
-                let answer = said(first.answer);
-                let about = match group {
-                    [one] => format!("{}: {}: {answer}", clock(one.second), one.sent),
-                    many => {
-                        let orders = count(many.len() as u64, "order");
-                        format!("{orders}, {answer}, {}", span(first.second, last.second))
-                    }
-                };
-                let x = view.x(first.second).clamp(LEFT + SMALL, RIGHT - SMALL);
-                mark(svg, x, y, SMALL, first.answer, &about);
+        for own in SHAPES {
+            let same = self.others.iter().filter(|one| shape(one.answer) == own);
+            let same: Vec<&Event> = same.copied().collect();
+            for group in groups(&same, |event| view.x(event.second), 2.0 * SMALL) {
+                let x = view.x(group[0].second).clamp(LEFT + SMALL, RIGHT - SMALL);
+                mark(svg, x, y, SMALL, own, &about(group));
             }
         }
     }
@@ -131,69 +97,18 @@ impl<'a> Events<'a> {
             svg.line(x, top, x, bottom, "stem");
         }
     }
-
-    /// What the marks were; gives where the list ends.
-    pub fn list(&self, svg: &mut Svg, y: f64) -> f64 {
-        let listed = self.numbered.len();
-        let columns = if listed > COLUMN { 2 } else { 1 };
-        let rows = listed.div_ceil(columns);
-        let room = (LIST.1 - LIST.0) / columns as f64;
-        let entry = Entry::of(&self.numbered, room);
-        for (at, event) in self.numbered.iter().enumerate() {
-            let x = LIST.0 + room * (at / rows) as f64;
-            let y = y + LINE * (at % rows) as f64;
-            entry.draw(svg, x, y, at + 1, event);
-        }
-        let end = y + LINE * rows as f64;
-        if self.others.is_empty() {
-            return end;
-        }
-        let more = thousands(self.others.len() as u64);
-        let more = format!("and {more} more, as small marks without a number");
-        svg.text(LEFT - 30.0, end, 12, Align::Start, &more);
-        end + LINE
-    }
 }
 
-/// Where the parts of a list's line begin: number, time, what was sent, answer.
-struct Entry {
-    time: f64,
-    sent: f64,
-    answer: f64,
-}
-
-impl Entry {
-    /// So that all lines have room for theirs.
-    fn of(events: &[&Event], room: f64) -> Entry {
-        let widest = |text: fn(&Event) -> String| {
-            let widths = events.iter().map(|event| width(&text(event), 12));
-            widths.fold(0.0, f64::max)
-        };
-        let time = 30.0;
-        let answer = room - widest(|event| said(event.answer));
-        Entry {
-            time,
-            sent: time + widest(|event| clock(event.second)) + 8.0,
-            answer: answer.min(345.0),
+/// What is said of events of one shape.
+fn about(events: &[&Event]) -> String {
+    let (first, last) = (events[0], events[events.len() - 1]);
+    let (many, span) = (events.len() as u64, span(first.second, last.second));
+    match events {
+        [one] => format!("{}: {}: {}", clock(one.second), one.sent, said(one.answer)),
+        _ if answer::has_report(first.answer) => {
+            format!("{}, {}, {span}", count(many, "order"), said(first.answer))
         }
-    }
-
-    fn draw(&self, svg: &mut Svg, x: f64, y: f64, number: usize, event: &Event) {
-        let sent = cut(&event.sent, 12, self.answer - self.sent - 6.0);
-        let mut text = |at: f64, align: Align, text: &str| svg.text(x + at, y, 12, align, text);
-        text(20.0, Align::End, &number.to_string());
-        text(self.time, Align::Start, &clock(event.second));
-        text(self.sent, Align::Start, &sent);
-        text(self.answer, Align::Start, &said(event.answer));
-    }
-}
-
-/// An answer by number and name.
-fn said(answer: u8) -> String {
-    let named = tables::answer(answer);
-    match answer::has_report(answer) {
-        true => named,
-        false => format!("refused: {named}"),
+        _ => format!("{} refused, {span}", count(many, "frame")),
     }
 }
 
@@ -224,68 +139,4 @@ fn places(times: &[f64]) -> Vec<(f64, usize)> {
         }
     }
     places
-}
-
-/// A mark whose shape is its answer: a black circle is done; of the others a
-/// white circle is a repeat, a diamond stale, a square not now, a cross refused.
-pub fn mark(svg: &mut Svg, x: f64, y: f64, radius: f64, answer: u8, about: &str) {
-    let corner = |dx: f64, dy: f64| (x + radius * dx, y + radius * dy);
-    match answer {
-        answer::DONE => svg.circle(x, y, radius, "solid", about),
-        answer::REPEAT => svg.circle(x, y, radius, "box", about),
-        answer::STALE => {
-            let corners = [(0.0, -1.2), (1.2, 0.0), (0.0, 1.2), (-1.2, 0.0)];
-            svg.path(
-                &polygon(&corners.map(|(dx, dy)| corner(dx, dy))),
-                "box",
-                about,
-            );
-        }
-        answer::NOT_NOW => {
-            svg.rect(
-                x - radius,
-                y - radius,
-                2.0 * radius,
-                2.0 * radius,
-                "box",
-                about,
-            );
-        }
-        _ => svg.path(
-            &polygon(&CROSS.map(|(dx, dy)| corner(dx, dy))),
-            "box",
-            about,
-        ),
-    }
-}
-
-/// The corners of a cross that stands on two feet.
-const CROSS: [(f64, f64); 12] = {
-    // From the middle to an inner corner, and to an arm's two outer ones.
-    const IN: f64 = 0.72;
-    const NEAR: f64 = 0.43;
-    const FAR: f64 = 1.15;
-    [
-        (0.0, -IN),
-        (NEAR, -FAR),
-        (FAR, -NEAR),
-        (IN, 0.0),
-        (FAR, NEAR),
-        (NEAR, FAR),
-        (0.0, IN),
-        (-NEAR, FAR),
-        (-FAR, NEAR),
-        (-IN, 0.0),
-        (-FAR, -NEAR),
-        (-NEAR, -FAR),
-    ]
-};
-
-/// A number on a mark.
-fn inscribe(svg: &mut Svg, x: f64, y: f64, answer: u8, number: &str) {
-    match answer {
-        answer::DONE => svg.inverse(x, y + 4.0, 11, number),
-        answer if answer::has_report(answer) => svg.label(x, y + 4.0, 11, number),
-        _ => svg.label(x, y + 3.5, 9, number),
-    }
 }

@@ -1,6 +1,6 @@
 //! What the shapes mean.
 
-use super::events::{mark, ANSWERS};
+use super::marks::{mark, SHAPES};
 use super::modes::fill;
 use super::modules::{arrow, State};
 use super::svg::{width, Align, Svg};
@@ -120,7 +120,7 @@ fn due() -> Vec<(Sign, String)> {
 }
 
 fn orders() -> Vec<(Sign, String)> {
-    let orders = ANSWERS.into_iter().map(|answer| {
+    let orders = SHAPES.into_iter().map(|answer| {
         let meaning = match answer::has_report(answer) {
             true => tables::answer(answer),
             false => "refused".to_string(),

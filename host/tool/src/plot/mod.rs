@@ -6,6 +6,8 @@ mod beacons;
 mod events;
 mod layout;
 mod legend;
+mod list;
+mod marks;
 mod modes;
 mod modules;
 mod record;
@@ -46,7 +48,7 @@ pub fn draw(view: &View, title: &str) -> String {
     events.stems(&mut shade, view, marks, bottom);
     svg.insert(behind, shade);
     let y = axis::draw(&mut svg, view, top, bottom);
-    let y = events.list(&mut svg, y + 2.0 * GAP);
+    let y = list::draw(&mut svg, &events, y + 2.0 * GAP);
     svg.finish(WIDTH, y + GAP)
 }
 

@@ -1,6 +1,6 @@
 //! The mode as bands: a strip with names, and a lighter shade behind everything.
 
-use super::layout::{spread, Wish};
+use super::layout::{groups, spread, Wish};
 use super::record::Stretch;
 use super::svg::{width, Align, Svg};
 use super::view::{span, View};
@@ -8,7 +8,6 @@ use super::{LEFT, RIGHT};
 use crate::tables;
 use crate::words::count;
 use ems::Mode;
-use std::collections::BTreeMap;
 
 const HEIGHT: f64 = 22.0;
 
@@ -39,8 +38,10 @@ pub fn draw(svg: &mut Svg, view: &View, y: f64) -> (f64, f64) {
     for stretch in wide {
         band(svg, view, stretch, top);
     }
-    for (x, stretches) in places(view, &narrow) {
-        sliver(svg, x, &stretches, top);
+    // There may be thousands: those at one place are drawn together.
+    for together in groups(&narrow, |stretch| middle(view, stretch), NARROW) {
+        let x = middle(view, together[0]) - NARROW / 2.0;
+        sliver(svg, x.clamp(LEFT, RIGHT - NARROW), together, top);
     }
     names(svg, view, &outside, top);
     svg.line(LEFT, top, RIGHT, top, "thin");
@@ -52,6 +53,12 @@ pub fn draw(svg: &mut Svg, view: &View, y: f64) -> (f64, f64) {
 fn extent(view: &View, stretch: &Stretch<u8>) -> (f64, f64) {
     let x = view.x(stretch.from);
     (x, view.x(stretch.to) - x)
+}
+
+/// Where the middle of a stretch is.
+fn middle(view: &View, stretch: &Stretch<u8>) -> f64 {
+    let (x, width) = extent(view, stretch);
+    x + width / 2.0
 }
 
 fn is_wide(view: &View, stretch: &Stretch<u8>) -> bool {
@@ -76,38 +83,10 @@ fn band(svg: &mut Svg, view: &View, stretch: &Stretch<u8>, y: f64) {
     svg.line(x, y, x, y + HEIGHT, "thin");
     let wide = room(stretch.value);
     if width > wide {
-        let middle = x + width / 2.0;
-        let name = tables::mode(stretch.value);
-        let inner = HEIGHT - 6.0;
-        svg.rect(
-            middle - wide / 2.0,
-            y + 3.0,
-            wide,
-            inner,
-            "box",
-            &about(stretch),
-        );
-        svg.label(middle, y + 15.0, SIZE, &name);
+        let (x, tall) = (middle(view, stretch), HEIGHT - 6.0);
+        svg.rect(x - wide / 2.0, y + 3.0, wide, tall, "box", &about(stretch));
+        svg.label(x, y + 15.0, SIZE, &tables::mode(stretch.value));
     }
-}
-
-/// Narrow stretches by the place where they are drawn, those at one place
-/// together: there may be thousands.
-fn places<'a>(view: &View, narrow: &[&'a Stretch<u8>]) -> Vec<(f64, Vec<&'a Stretch<u8>>)> {
-    let mut places: BTreeMap<i64, Vec<&Stretch<u8>>> = BTreeMap::new();
-    for &stretch in narrow {
-        let (x, width) = extent(view, stretch);
-        let place = ((x + width / 2.0) / NARROW) as i64;
-        places.entry(place).or_default().push(stretch);
-    }
-    let middle = |stretches: &[&Stretch<u8>]| {
-        let (x, width) = extent(view, stretches[0]);
-        (x + width / 2.0 - NARROW / 2.0).clamp(LEFT, RIGHT - NARROW)
-    };
-    let drawn = places.into_values();
-    drawn
-        .map(|stretches| (middle(&stretches), stretches))
-        .collect()
 }
 
 /// Stretches that are too narrow to be drawn as they are: so wide that they can
@@ -151,10 +130,9 @@ fn nameless(view: &View, stretches: &[Stretch<u8>]) -> Vec<Stretch<u8>> {
 
 /// Names over the strip, each with a line to its stretch.
 fn names(svg: &mut Svg, view: &View, stretches: &[Stretch<u8>], y: f64) {
-    let wish = |stretch: &Stretch<u8>| {
-        let (x, width) = extent(view, stretch);
-        let (middle, width) = (x + width / 2.0, room(stretch.value));
-        Wish { middle, width }
+    let wish = |stretch: &Stretch<u8>| Wish {
+        middle: middle(view, stretch),
+        width: room(stretch.value),
     };
     let wishes: Vec<Wish> = stretches.iter().map(wish).collect();
     let places = spread(&wishes, LEFT, RIGHT);

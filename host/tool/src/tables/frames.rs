@@ -117,7 +117,7 @@ pub const BATTERY: u8 = 0x02;
 /// The kind that brings the antennas' position.
 const ANTENNAS: u8 = 0x03;
 /// The kind that asks for a module, on or off.
-const ORDER: u8 = 0x04;
+pub const ORDER: u8 = 0x04;
 /// The kind that sets both thresholds.
 const THRESHOLDS: u8 = 0x05;
 
