@@ -11,8 +11,8 @@ It begins at the fresh start.
 Example:
   ems log --explain examples/dawn.pass
 
-Exit status: 0 done; 1 wrong usage, or a file that can't be read or written; 2 a
-frame, a text or units were refused; `compare` has 3 and 4 too.";
+Exit status: 0 done; 1 wrong usage, or a file that can't be read or written, or is no
+image; 2 a frame, a text or units were refused; `compare` has 3 and 4 too.";
 
 pub const LOG: &str = "\
 Ends at the first frame that is refused with 4 to 7, with status 2 and the reason on

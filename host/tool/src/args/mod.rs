@@ -194,6 +194,7 @@ pub struct Image {
     /// Takes the flight for this, whatever its name
     #[arg(long = "as", value_name = "WHAT", requires = "after")]
     pub kind: Option<As>,
-    #[command(flatten)]
-    pub going: KeepGoing,
+    /// Flies on after a frame that is refused with 6 or 7
+    #[arg(long, requires = "after")]
+    pub keep_going: bool,
 }

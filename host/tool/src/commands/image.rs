@@ -51,7 +51,7 @@ fn read(file: &Path, is_hex: bool) -> Result<(), Failure> {
 /// The image of a board after a flight.
 fn after(file: &Path, args: &args::Image) -> Result<(), Failure> {
     let (file, kind) = (file.to_path_buf(), args.kind);
-    let mut flight = Flight::going(&args::Flight { file, kind }, args.going.keep_going)?;
+    let mut flight = Flight::going(&args::Flight { file, kind }, args.keep_going)?;
     while flight.step()?.is_some() {}
     let mut output = Output::standard()?;
     print(&mut output, &flight.board.image())?;
