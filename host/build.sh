@@ -6,15 +6,20 @@ checkout=$(dirname "$(dirname "$(readlink -f "${BASH_SOURCE[0]}")")")
 # Where a build's own lines go.
 build_log=$checkout/target/$me-build.log
 
-# What builds the tool, and the Debian package it comes in. Cargo looks for what any crate in host needs, whichever
-# it builds.
+# What builds the tool, and the Debian package it comes in. Cargo looks for what any crate in host needs, its
+# tests too, whichever it builds.
 registry=/usr/share/cargo/registry
 tool_needs=(
     "cc gcc"
+    "$registry/assert_cmd-2* librust-assert-cmd-dev"
     "$registry/clap-4.* librust-clap-dev"
     "$registry/clap_derive-4.* librust-clap-derive-dev"
+    "$registry/ctor-0.1.* librust-ctor-dev"
     "$registry/indicatif-0.17.* librust-indicatif-dev"
     "$registry/quickcheck-1* librust-quickcheck-dev"
+    "$registry/roxmltree-0.16* librust-roxmltree-dev"
+    "$registry/tempfile-3* librust-tempfile-dev"
+    "$registry/unicode-width-0.1.* librust-unicode-width-dev"
 )
 
 say() {

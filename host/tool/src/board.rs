@@ -1,15 +1,19 @@
 //! A board from the fresh start on, one frame after the other. What it answers
-//! is the library's word; this only counts frames and seconds.
+//! is the library's word; this only counts frames and seconds, and remembers who
+//! has sent a number.
 
 use crate::image::Image;
 use crate::tables::TICK;
-use ems::{Beacon, Craft, Report, BEACON_COMPLETE_BYTES};
+use ems::{answer, Beacon, Craft, Report, BEACON_COMPLETE_BYTES};
 
 /// A board, and how far its flight has come.
 pub struct Board {
     craft: Craft,
+    image: Image,
     frames: u64,
     seconds: u64,
+    /// The origins that a number was taken from.
+    numbered: Vec<u8>,
 }
 
 /// One frame's passing.
@@ -20,36 +24,54 @@ pub struct Step {
     pub seconds: u64,
     pub before: Image,
     pub after: Image,
+    /// Whether the board had taken a number from this frame's origin before.
+    pub numbered: bool,
     /// The report, or the refusal's number.
     pub outcome: Result<Report, u8>,
 }
 
 impl Board {
     pub fn fresh() -> Board {
+        let craft = Craft::fresh();
         Board {
-            craft: Craft::fresh(),
+            image: Image::of(craft.image()),
+            craft,
             frames: 0,
             seconds: 0,
+            numbered: Vec::new(),
         }
     }
 
     /// Gives the board one frame.
     pub fn step(&mut self, frame: &[u8]) -> Step {
-        let before = self.image();
+        let before = self.image;
         let outcome = self.craft.report_on(frame);
+        self.image = Image::of(self.craft.image());
         self.frames += 1;
         self.seconds += u64::from(outcome.is_ok_and(|report| report.kind == TICK));
         Step {
             n: self.frames,
             seconds: self.seconds,
             before,
-            after: self.image(),
+            after: self.image,
+            numbered: outcome.is_ok_and(|report| self.number(&report)),
             outcome,
         }
     }
 
+    /// Whether a number was taken from a report's origin before; it is now, if
+    /// the answer says so.
+    fn number(&mut self, report: &Report) -> bool {
+        let before = self.numbered.contains(&report.origin);
+        let taken = matches!(report.answer, answer::DONE | answer::NOT_NOW);
+        if report.origin != 0 && taken && !before {
+            self.numbered.push(report.origin);
+        }
+        before
+    }
+
     pub fn image(&self) -> Image {
-        Image::of(self.craft.image())
+        self.image
     }
 
     /// A beacon's text.

@@ -1,4 +1,4 @@
-//! How a command ends badly: one line for standard error, and a status.
+//! How a command ends badly: what standard error is told, and a status.
 
 use std::{fmt, io};
 
@@ -15,17 +15,24 @@ pub const CONCLUSIONS: u8 = 4;
 #[derive(Debug)]
 pub struct Failure {
     pub status: u8,
-    message: String,
+    /// Each is said by itself.
+    pub messages: Vec<String>,
 }
 
 impl Failure {
     pub fn new(status: u8, message: impl Into<String>) -> Failure {
-        let message = message.into();
-        Failure { status, message }
+        let messages = vec![message.into()];
+        Failure { status, messages }
     }
 
     pub fn usage(message: impl Into<String>) -> Failure {
         Failure::new(USAGE, message)
+    }
+
+    /// The same with another message, if there is one.
+    pub fn and(mut self, message: Option<String>) -> Failure {
+        self.messages.extend(message);
+        self
     }
 
     /// A file that can't be opened, read or written.
@@ -43,12 +50,6 @@ pub fn said(error: &io::Error) -> String {
     match text.find(" (os error") {
         Some(end) => text[..end].to_string(),
         None => text,
-    }
-}
-
-impl fmt::Display for Failure {
-    fn fmt(&self, f: &mut fmt::Formatter<'_>) -> fmt::Result {
-        f.write_str(&self.message)
     }
 }
 

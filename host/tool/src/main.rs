@@ -4,13 +4,18 @@
 
 mod args;
 mod board;
+mod closed;
 mod commands;
 mod compare;
 mod failure;
+mod few;
+mod flight;
 mod image;
+mod morse;
 mod output;
 mod plot;
 mod progress;
+mod report;
 mod script;
 mod source;
 mod story;
@@ -34,7 +39,7 @@ fn main() -> ExitCode {
     match outcome {
         Ok(()) => ExitCode::SUCCESS,
         Err(failure) => {
-            output::say(&failure);
+            failure.messages.iter().for_each(|said| output::say(said));
             ExitCode::from(failure.status)
         }
     }
@@ -42,7 +47,7 @@ fn main() -> ExitCode {
 
 fn run(command: &Command) -> Result<(), Failure> {
     match command {
-        Command::Log(log) if log.explain => commands::explain::run(&log.flight),
+        Command::Log(log) if log.explain => commands::explain::run(&log.flight, log.keep_going),
         Command::Log(log) if log.hex => commands::hex::run(&log.flight),
         Command::Log(log) => commands::log::run(&log.flight),
         Command::Frames(frames) => commands::frames::run(frames),
@@ -52,6 +57,7 @@ fn run(command: &Command) -> Result<(), Failure> {
         Command::Key(key) => commands::key::run(key),
         Command::Read(read) => commands::read::run(read),
         Command::Compare(compare) => commands::compare::run(compare),
+        Command::Image(image) => commands::image::run(image),
     }
 }
 
@@ -69,7 +75,7 @@ fn usage(error: &clap::Error) -> Failure {
 
 /// The help or the version that was asked for.
 fn help(error: &clap::Error) -> Result<(), Failure> {
-    let mut output = Output::standard();
+    let mut output = Output::standard()?;
     write!(output, "{error}")?;
     Ok(output.flush()?)
 }

@@ -2,9 +2,11 @@
 //! name which.
 
 use crate::failure::{self, Failure};
-use crate::progress;
-use std::fs::File;
+use crate::words::{visible, visible_lines};
+use crate::{closed, progress};
+use std::fs::{self, File};
 use std::io::{self, BufWriter, IsTerminal, Stdout, Write};
+use std::os::unix::fs::MetadataExt;
 use std::path::Path;
 
 /// A place to write to.
@@ -14,23 +16,25 @@ pub struct Output {
 }
 
 impl Output {
-    pub fn standard() -> Output {
-        Output {
-            name: "standard output".to_string(),
-            writer: BufWriter::new(if io::stdout().is_terminal() {
-                Box::new(Screen(io::stdout()))
-            } else {
-                Box::new(io::stdout())
-            }),
+    pub fn standard() -> Result<Output, Failure> {
+        let name = "standard output".to_string();
+        if closed::output() {
+            return Err(Failure::usage(format!("{name}: is closed")));
         }
+        let writer = BufWriter::new(if io::stdout().is_terminal() {
+            Box::new(Screen(io::stdout())) as Box<dyn Write>
+        } else {
+            Box::new(io::stdout())
+        });
+        Ok(Output { name, writer })
     }
 
     /// The file at a path, or standard output for `-`.
     pub fn at(path: &Path) -> Result<Output, Failure> {
         if path == Path::new("-") {
-            return Ok(Output::standard());
+            return Output::standard();
         }
-        let name = path.display().to_string();
+        let name = visible(&path.to_string_lossy());
         let file = File::create(path).map_err(|error| Failure::file(&name, &error))?;
         let writer = BufWriter::new(Box::new(file) as Box<dyn Write>);
         Ok(Output { name, writer })
@@ -40,6 +44,29 @@ impl Output {
     fn named(&self, error: &io::Error) -> io::Error {
         let message = format!("{}: {}", self.name, failure::said(error));
         io::Error::other(message)
+    }
+}
+
+/// Refuses to write where a file is that is read.
+pub fn spare(input: &Path, output: &Path) -> Result<(), Failure> {
+    if output == Path::new("-") || !same_file(input, output) {
+        return Ok(());
+    }
+    let name = visible(&output.to_string_lossy());
+    Err(Failure::usage(format!(
+        "{name}: is the input, which would be lost: name another file after -o"
+    )))
+}
+
+/// Whether two paths lead to one file with a content, by whatever links.
+fn same_file(input: &Path, output: &Path) -> bool {
+    let input = match input {
+        path if path == Path::new("-") => Path::new("/dev/stdin"),
+        path => path,
+    };
+    match (fs::metadata(input), fs::metadata(output)) {
+        (Ok(a), Ok(b)) => a.is_file() && (a.dev(), a.ino()) == (b.dev(), b.ino()),
+        _ => false,
     }
 }
 
@@ -67,6 +94,7 @@ impl Write for Screen {
 }
 
 /// Says something on standard error; there is nobody to tell if that fails.
-pub fn say(message: impl std::fmt::Display) {
-    let _ = writeln!(io::stderr(), "ems: {message}");
+pub fn say(message: &str) {
+    let message = visible_lines(message);
+    let _ = progress::hidden(|| writeln!(io::stderr(), "ems: {message}"));
 }

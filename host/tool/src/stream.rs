@@ -1,5 +1,5 @@
-//! A stream of bytes cut into frames by kind, the way the page's `step-log` cuts
-//! them. What no kind tells the length of is one byte.
+//! A stream of bytes cut into frames by kind, the way `step-log` cuts them. What
+//! no kind tells the length of is one byte.
 
 use crate::args::Flight;
 use crate::failure::Failure;
@@ -17,7 +17,7 @@ pub struct Stream {
 
 impl Stream {
     pub fn open(flight: &Flight) -> Result<Stream, Failure> {
-        let source = source::open(&flight.file, flight.kind)?;
+        let source = source::open(flight)?;
         let progress = Progress::new(source.length);
         Ok(Stream {
             source,
@@ -59,6 +59,13 @@ impl Stream {
     /// The file's name, as it was given.
     pub fn name(&self) -> &str {
         &self.source.name
+    }
+
+    /// What to try where the stream is no stream of frames, if it looks so.
+    pub fn hint(&self) -> Option<String> {
+        let name = self.name();
+        let looks = self.source.looks_like_text;
+        looks.then(|| format!("{name} looks like text: `--as script` takes it for a pass script"))
     }
 
     fn byte(&mut self) -> Result<Option<(u8, Place)>, Failure> {

@@ -2,7 +2,7 @@
 
 mod common;
 
-use common::{run, scratch, Ran};
+use common::{fed, run, scratch, Ran};
 
 /// Two scripts, compared.
 fn compared(name: &str, a: &str, b: &str) -> Ran {
@@ -57,7 +57,76 @@ fn other_frames_break_the_premises() {
 #[test]
 fn a_frame_refused_on_both_ends_the_flights() {
     let ran = compared("refused", "tick\nantennas 2\n", "tick\nantennas 2\n").status(2);
-    ran.says("frame 2 is refused on both: 6, a field");
+    let ran = ran.prints("hold: 2 frames, the same on both").prints(
+        "So it is promised that after each of the first 2 frames, where the comparison ended:\n",
+    );
+    ran.says("on both craft: ")
+        .says("line 2: frame 2, `antennas 2`, is refused: 6, a field");
+}
+
+/// Where it ended early, nothing is said of every frame.
+#[test]
+fn a_comparison_that_stops_says_how_far_it_came() {
+    let ran = compared(
+        "early",
+        "tick\nantennas 2\ntick 5\n",
+        "tick\nantennas 2\ntick 5\n",
+    );
+    let ran = ran.status(2);
+    assert!(!ran.text().contains("after every frame"), "{}", ran.text());
+    let ran = compared("short", "tick 2\n", "tick 3\n").status(3);
+    ran.prints("So nothing is promised, and after each of the first 2 frames, where the comparison ended:\n");
+    let ran = compared("whole", "tick 2\n", "tick 2\n").status(0);
+    ran.prints("So it is promised that after every frame:\n");
+}
+
+#[test]
+fn a_comparison_goes_on_after_6_and_7_if_that_is_wanted() {
+    let flight = |reading: u16| {
+        format!("antennas deployed\nbattery {reading}\nantennas 2\ntick 931\norder payload 1 MCS on\ntick\n")
+    };
+    let a = scratch("going-a.pass", flight(7_000));
+    let b = scratch("going-b.pass", flight(8_000));
+    let ran = run(&["compare", "--keep-going", &a, &b]).status(2);
+    let ran = ran
+        .prints("hold: 936 frames, the same on both but for 1 of 1 battery reading, all in range")
+        .prints("after every frame:\n")
+        .prints("frames 934 to 936, 00:15:31 to 00:15:32\n");
+    assert_eq!(
+        ran.err.matches("ems: on both craft: ").count(),
+        2,
+        "{}",
+        ran.err
+    );
+    // Refused on one alone, the premises don't hold, and the rest is shown.
+    let b = scratch("going-b.pass", flight(9_001));
+    let ran = run(&["compare", "--keep-going", &a, &b]).status(3);
+    ran.prints("after every frame:\n")
+        .says("B's reading is out of range");
+}
+
+#[test]
+fn one_stream_is_not_two_craft() {
+    fed(&["compare", "-", "-"], b"\x01\x00")
+        .status(1)
+        .says("standard input can be one of the two craft, not both");
+    fed(&["compare", "examples/dawn.pass", "-"], b"\x01\x00").status(3);
+}
+
+#[test]
+fn both_files_can_be_taken_for_scripts() {
+    let (a, b) = (scratch("a.txt", "tick 3\n"), scratch("b.txt", "tick 3\n"));
+    let ran = run(&["compare", &a, &b]).status(2);
+    ran.says("a.txt looks like text: `--as script` takes it for a pass script");
+    run(&["compare", "--as", "script", &a, &b]).status(0);
+    // Also where it is the premises that don't hold.
+    let b = scratch("b.txt", "antennas deployed\n");
+    let ran = run(&["compare", &a, &b]).status(3);
+    assert!(
+        ran.err.contains("looks like text: `--as script`"),
+        "{}",
+        ran.err
+    );
 }
 
 #[test]

@@ -3,11 +3,11 @@
 
 mod common;
 
-use common::{fed, place, root, run, scratch};
-use ems::{answer, Craft, REPORT_BYTES};
+use ::ems::{answer, Craft, REPORT_BYTES};
+use common::{ems, fed, place, root, run, scratch};
 use model::image;
 use std::os::unix::fs::symlink;
-use std::path::Path;
+use std::path::{Path, PathBuf};
 use std::process::Command;
 use std::{env, fs};
 
@@ -30,21 +30,32 @@ fn alike(wanted: &[&str], given: &[&str]) -> bool {
     }
 }
 
-/// A folder with `ems` and `examples` in it, to run commands in.
-fn folder(name: &str) -> String {
-    let folder = place(name);
-    let _ = fs::remove_dir_all(&folder);
-    fs::create_dir_all(&folder).expect("a folder");
-    let link = |to: &Path, name: &str| symlink(to, Path::new(&folder).join(name));
-    link(Path::new(env!("CARGO_BIN_EXE_ems")), "ems").expect("a link");
-    let examples = root().canonicalize().expect("a path").join("examples");
-    link(&examples, "examples").expect("a link");
+/// A folder to run a document's commands in, as if it were the repository's, with
+/// the document's C in `board.c`.
+fn folder(document: &str) -> PathBuf {
+    let folder = PathBuf::from(place("shell"));
+    fs::create_dir_all(folder.join("target")).expect("a folder");
+    let link = |to: &Path, name: &str| symlink(to, folder.join(name)).expect("a link");
+    link(&ems(), "ems");
+    let root = root().canonicalize().expect("a path");
+    link(&root.join("examples"), "examples");
+    link(&root.join("include"), "include");
+    link(&library_folder(), "target/staticlib");
+    let code = blocks(document, "c").concat();
+    fs::write(folder.join("board.c"), code).expect("a file");
     folder
+}
+
+/// Where the library is that the tool is linked with.
+fn library_folder() -> PathBuf {
+    let own = || root().join("target/staticlib");
+    let folder = env::var_os("EMS_LIB_DIR").map_or_else(own, PathBuf::from);
+    folder.canonicalize().expect("the library is built")
 }
 
 /// Runs the commands of a document's blocks; gives how many.
 fn run_document(document: &str) -> usize {
-    let folder = folder("shell");
+    let folder = folder(document);
     let mut commands = 0;
     for block in blocks(document, "console") {
         for exchange in format!("\n{block}").split("\n$ ").skip(1) {
@@ -82,12 +93,12 @@ fn the_readme_s_first_command_is_short() {
 
 #[test]
 fn commands_of_pass_scripts_give_what_stands_there() {
-    assert!(run_document("docs/PASS-SCRIPTS.md") >= 7);
+    assert!(run_document("docs/PASS-SCRIPTS.md") >= 12);
 }
 
 #[test]
 fn commands_of_the_icd_give_what_stands_there() {
-    assert!(run_document("docs/ICD.md") >= 4);
+    assert!(run_document("docs/ICD.md") >= 11);
 }
 
 #[test]
@@ -137,22 +148,15 @@ fn the_icd_s_fresh_image_is_the_library_s() {
     assert_eq!(bytes, Craft::fresh().image());
 }
 
-#[test]
-fn the_icd_s_c_compiles() {
-    let code = blocks("docs/ICD.md", "c").concat();
-    let file = scratch("icd.c", code.as_bytes());
-    let mut compiler = Command::new("cc");
-    compiler.args([
-        "-std=c99",
-        "-Wall",
-        "-Wextra",
-        "-Werror",
-        "-fsyntax-only",
-        "-I",
-        "include",
-    ]);
-    let ran = compiler
-        .arg(&file)
+/// Compiles C that stands in a file, with the library; gives the program.
+fn compiled(file: &str, flags: &[&str]) -> String {
+    let program = place("program");
+    let ran = Command::new("cc")
+        .args(["-std=c99", "-Wall", "-Wextra", "-Werror", "-Iinclude"])
+        .args(flags)
+        .arg(file)
+        .arg(library_folder().join("libflight.a"))
+        .args(["-o", &program])
         .current_dir(root())
         .output()
         .expect("cc runs");
@@ -161,6 +165,124 @@ fn the_icd_s_c_compiles() {
         "{}",
         String::from_utf8_lossy(&ran.stderr)
     );
+    program
+}
+
+/// What a program prints.
+fn printed(program: &str, args: &[&str]) -> String {
+    let ran = Command::new(program).args(args).output().expect(program);
+    assert!(ran.status.success(), "{program}: {}", ran.status);
+    String::from_utf8(ran.stdout).expect("text")
+}
+
+#[test]
+fn the_icd_s_c_compiles_without_a_warning() {
+    let code = blocks("docs/ICD.md", "c").concat();
+    compiled(&scratch("icd.c", code), &["-pedantic"]);
+}
+
+/// "Linking" says what else must be linked, and that there is no memory in it.
+#[test]
+fn the_library_needs_what_the_icd_says() {
+    let library = library_folder().join("libflight.a");
+    let symbols = printed("nm", &[library.to_str().expect("text")]);
+    let named = |kinds: &str| -> Vec<&str> {
+        let words = symbols.lines().map(|line| line.split_whitespace().rev());
+        let rows = words.filter_map(|mut words| Some((words.next()?, words.next()?)));
+        let own = rows.filter(|(_, kind)| kind.len() == 1 && kinds.contains(kind));
+        own.map(|(name, _)| name).collect()
+    };
+    let text = fs::read_to_string(root().join("docs/ICD.md")).expect("the document");
+    let row = text
+        .lines()
+        .find(|line| line.starts_with("| what else must be linked?"));
+    let row = row.expect("the ICD says what else must be linked");
+    let said: Vec<&str> = row.split('`').skip(1).step_by(2).collect();
+    assert_eq!(named("U"), said);
+    assert!(named("BbDdCGgSs").is_empty(), "{symbols}");
+    let said: Vec<String> = stacks().into_iter().map(|(call, _)| call).collect();
+    let mut calls = named("T");
+    calls.sort_by_key(|call| said.iter().position(|said| said == call));
+    assert_eq!(calls, said);
+}
+
+#[test]
+fn the_library_is_for_the_processor_that_the_icd_says() {
+    let library = library_folder().join("libflight.a");
+    let header = printed("readelf", &["-h", library.to_str().expect("text")]);
+    assert!(
+        header.contains("X86-64") && header.contains("System V"),
+        "{header}"
+    );
+    let text = fs::read_to_string(root().join("docs/ICD.md")).expect("the document");
+    assert!(text.contains("| for which processors? | x86-64 alone"));
+}
+
+/// The ICD's table of the stack that each call takes.
+fn stacks() -> Vec<(String, u64)> {
+    let text = fs::read_to_string(root().join("docs/ICD.md")).expect("the document");
+    let (_, table) = text
+        .split_once("| call | bytes of stack |\n")
+        .expect("the table");
+    let rows = table
+        .lines()
+        .skip(1)
+        .take_while(|line| line.starts_with("| `ems_"));
+    let cells = rows.map(|row| row.split('|').map(str::trim).collect::<Vec<&str>>());
+    cells
+        .map(|cells| {
+            let bytes = cells[2].replace(',', "").parse().expect("a number");
+            (cells[1].trim_matches('`').to_string(), bytes)
+        })
+        .collect()
+}
+
+/// Each call, run on a stack that was painted before, leaves as much as the table
+/// and the sentence above it say.
+#[test]
+fn the_stack_that_the_icd_gives_is_enough() {
+    const RED_ZONE: u64 = 128;
+    // What the functions of the measurement take that make the calls.
+    const OWN: u64 = 64;
+    let measured = printed(&compiled("host/tool/tests/stack.c", &["-O2"]), &[]);
+    let measured: Vec<(&str, u64)> = measured
+        .lines()
+        .filter_map(|line| line.split_once(' '))
+        .map(|(call, bytes)| (call, bytes.parse().expect("a number")))
+        .collect();
+    let said = stacks();
+    assert_eq!(measured.len(), said.len());
+    assert!(measured.iter().any(|(_, taken)| *taken > 0));
+    for ((call, taken), (named, said)) in measured.into_iter().zip(said) {
+        assert_eq!(call, named);
+        assert!(
+            taken <= said + RED_ZONE + OWN,
+            "{call} took {taken} bytes, not {said}"
+        );
+    }
+}
+
+/// No document for outsiders speaks of papers that they haven't got.
+#[test]
+fn every_word_can_be_looked_up() {
+    let help: Vec<String> = [
+        "--help", "log", "frames", "show", "plot", "beacon", "key", "read", "compare", "image",
+    ]
+    .iter()
+    .map(|command| run(&[command, "--help"]).status(0).text().to_string())
+    .collect();
+    let text = |document: &str| fs::read_to_string(root().join(document)).expect("the document");
+    let documents = ["docs/ICD.md", "docs/PASS-SCRIPTS.md", "include/ems.h"].map(text);
+    for said in documents.iter().chain(&help) {
+        let words = said
+            .to_lowercase()
+            .split_whitespace()
+            .collect::<Vec<&str>>()
+            .join(" ");
+        for unknown in ["the page", "wish ", "document 0", "demand ", "source 0"] {
+            assert!(!words.contains(unknown), "{unknown:?} in {}", &said[..60]);
+        }
+    }
 }
 
 /// "Numbering orders", the way back after 9, however far the board is ahead.

@@ -90,7 +90,9 @@ fn a_picture_is_drawn_of_any_flight() {
         .collect();
     let file = scratch("orders.pass", orders.as_bytes());
     let ran = run(&["plot", &file, "-o", "-"]).status(0);
-    assert!(ran.text().contains("and 159 more, as dots"));
+    assert!(ran
+        .text()
+        .contains("and 159 more, as small marks without a number"));
     run(&["plot", &file, "-o", "/nowhere/x.svg"])
         .status(1)
         .says("/nowhere/x.svg: No such file");

@@ -79,24 +79,86 @@ fn a_sound_is_as_long_as_its_units() {
 fn what_cannot_be_keyed_or_read_is_refused() {
     run(&["key", "--units", "EMS r"])
         .status(2)
-        .says("refused: 12, a character is outside the alphabet: `r`, character 5");
+        .says("refused: 12, a character is outside the alphabet: `r`, character 5; it has the space, 0 to 9 and A to Z\n");
     run(&["key", "--units", "É"])
         .status(2)
-        .says(": `É`, character 1");
-    run(&["key", "--units", "A  B"])
+        .says(": `É`, character 1; it has");
+    run(&["key", "--units", "A\u{1b}"])
         .status(2)
-        .says("refused: 13, a space");
-    run(&["key", "--units", &"A".repeat(65)])
+        .says(": `\u{241b}`, character 2;");
+    for (text, place) in [("A  B", 3), (" A", 1), ("A ", 2)] {
+        run(&["key", "--units", text]).status(2).says(&format!(
+            "refused: 13, a space is first, last or doubled: character {place}\n"
+        ));
+    }
+    run(&["key", "--units", &"A".repeat(1_065)])
         .status(2)
-        .says("refused: 11, the text is too long");
-    fed(&["read", "-"], b"1 1")
-        .status(2)
-        .says("standard input: the units are refused: 15");
-    fed(&["read", "-"], b"12").status(2).says("refused: 15");
+        .says("refused: 11, the text is too long: it has 1,065 bytes, and 64 is the most\n");
     let file = scratch("letters.txt", b"10\n1x");
     run(&["read", &file])
         .status(1)
         .says("letters.txt:2:2: expected a unit: 1 or 0");
+}
+
+/// Of units that are not a keying, the first one that no keying has is shown.
+#[test]
+fn the_place_of_a_wrong_unit_is_said() {
+    let refused = |units: &[u8], said: &str| {
+        let why = "the units are refused: 15, the units are not exactly the keying of a text";
+        fed(&["read", "-"], units)
+            .status(2)
+            .says(&format!("standard input:{}\n", said.replace("..", why)));
+    };
+    refused(b"1 1", "1:3: ..: they end too early, after unit 2");
+    refused(b"1\n1\n", "2:1: ..: they end too early, after unit 2");
+    refused(b"12", "1:2: ..: no keying goes on with unit 2");
+    refused(b"101\n  00001", "2:7: ..: no keying goes on with unit 8");
+    refused(b"0", "1:1: ..: no keying goes on with unit 1");
+    let too_long = "1000".repeat(64) + "1";
+    refused(
+        too_long.as_bytes(),
+        "1:255: ..: the text is too long from unit 255",
+    );
+}
+
+#[test]
+fn speeds_and_tones_have_ranges_that_help_says() {
+    let help = run(&["key", "--help"]).status(0);
+    let help = help
+        .prints("Words a minute, 1 to 100")
+        .prints("hertz, 50 to 10,000");
+    assert!(help.text().contains("[default: 18]"));
+    for right in [
+        ["--wpm", "1"],
+        ["--wpm", "100"],
+        ["--tone", "50"],
+        ["--tone", "10000"],
+    ] {
+        run(&[&["key", "E", "-o", "/dev/null"][..], &right].concat()).status(0);
+    }
+    for wrong in [
+        ["--wpm", "0"],
+        ["--wpm", "101"],
+        ["--tone", "49"],
+        ["--tone", "10001"],
+    ] {
+        run(&[&["key", "E", "-o", "/dev/null"][..], &wrong].concat()).status(1);
+    }
+}
+
+#[test]
+fn beacons_go_on_after_6_and_7_if_that_is_wanted() {
+    let script = b"antennas deployed\nbattery 7000\ntick 901\nbattery 1\ntick 300\n";
+    let beacon = |more: &[&str]| {
+        let args = [&["beacon", "--as", "script", "-"], more].concat();
+        fed(&args, script).status(2)
+    };
+    let ran = beacon(&[]);
+    assert!(ran.out.is_empty());
+    ran.says("`battery 1`, is refused: 6");
+    assert_eq!(beacon(&["--keep-going"]).text(), "EMS R 7000\n");
+    let all = beacon(&["--keep-going", "--all"]);
+    assert_eq!(all.text(), "00:20:01  basic     EMS R 7000\n");
 }
 
 #[test]

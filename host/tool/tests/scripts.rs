@@ -2,7 +2,7 @@
 
 mod common;
 
-use common::{fed, place, run, scratch};
+use common::{bash, fed, place, run, scratch};
 
 /// A script's bytes.
 fn bytes(script: &str) -> Vec<u8> {
@@ -58,7 +58,7 @@ fn a_mistake_is_shown_where_it_is() {
     );
     assert_eq!(
         mistakes("\tbattery"),
-        "ems: wrong.pass:1:10: expected millivolts: a number 0 to 65535\n    \
+        "ems: wrong.pass:1:10: expected millivolts: a number 0 to 65,535\n    \
          \tbattery\n    \t        ^\n"
     );
 }
@@ -73,7 +73,7 @@ fn each_mistake_says_what_was_expected() {
         "tack 3",
         ":1:1: expected a frame: tick, battery, antennas, order, thresholds or raw",
     );
-    said("tick 0", ":1:6: expected a number 1 to 4294967295");
+    said("tick 0", ":1:6: expected a number 1 to 4,294,967,295");
     said(
         "tick often",
         ":1:6: expected how often, shorts or the end of the line",
@@ -91,7 +91,7 @@ fn each_mistake_says_what_was_expected() {
     said("tick shorts MCS I2C", ":1:17: expected the end of the line");
     said(
         "battery 65536",
-        ":1:9: expected millivolts: a number 0 to 65535",
+        ":1:9: expected millivolts: a number 0 to 65,535",
     );
     said("battery +7400", ":1:9: expected millivolts");
     said(
@@ -112,7 +112,7 @@ fn each_mistake_says_what_was_expected() {
     );
     said(
         "thresholds ground 1 7400",
-        ":1:26: expected descend: a number 0 to 65535",
+        ":1:26: expected descend: a number 0 to 65,535",
     );
     said("raw", ":1:5: expected a byte: two hexadecimal digits");
     said("raw 04 1", ":1:8: expected a byte: two hexadecimal digits");
@@ -121,9 +121,13 @@ fn each_mistake_says_what_was_expected() {
 
 #[test]
 fn all_mistakes_are_shown_up_to_ten() {
-    let mistakes = mistakes(&"tock\n".repeat(12));
+    let mistakes = mistakes(&"tock\n".repeat(1_212));
+    assert_eq!(mistakes.matches("ems: wrong.pass:").count(), 11);
     assert_eq!(mistakes.matches("expected a frame").count(), 10);
-    assert!(mistakes.ends_with("wrong.pass: and 2 more\n"), "{mistakes}");
+    assert!(
+        mistakes.ends_with("ems: wrong.pass: and 1,202 more\n"),
+        "{mistakes}"
+    );
 }
 
 #[test]
@@ -135,6 +139,113 @@ fn bytes_taken_for_a_script_are_a_mistake() {
         "{}",
         ran.err
     );
+    // A stream of ticks is UTF-8, and no text.
+    let file = scratch("ticks.pass", b"\x01\x00\x01\x00");
+    let ran = run(&["log", &file]).status(1);
+    let said = ":1:2: expected text in UTF-8; if these are frames, `--as bytes` flies them";
+    assert!(ran.err.contains(said), "{}", ran.err);
+    run(&["log", "--as", "bytes", &file]).status(0);
+}
+
+/// Ten million bytes of mistakes take no more memory than the file, and a bit.
+#[test]
+fn a_great_many_mistakes_cost_no_memory() {
+    let file = scratch("wrong.pass", "tock\n".repeat(2_000_000));
+    let ran = bash(&format!("ulimit -v 100000; $ems log {file}")).status(1);
+    assert!(
+        ran.err.ends_with("wrong.pass: and 1,999,990 more\n"),
+        "{}",
+        ran.err
+    );
+    // Nor do as many lines without one.
+    let file = scratch("right.pass", "#ick\n".repeat(2_000_000) + "tick 2\n");
+    bash(&format!("ulimit -v 100000; $ems log {file}")).status(0);
+}
+
+#[test]
+fn of_a_long_line_a_part_is_shown() {
+    // The word is long, then what is before it and after it is.
+    for (line, column) in [
+        ("x".repeat(1_000_000), 1),
+        (
+            "raw ".to_string() + &"00 ".repeat(100_000) + "zz" + &" 00".repeat(100_000),
+            300_005,
+        ),
+    ] {
+        let mistakes = mistakes(&line);
+        assert!(mistakes.starts_with(&format!("ems: wrong.pass:1:{column}: expected a ")));
+        assert_eq!(mistakes.lines().count(), 3);
+        assert!(
+            mistakes.lines().all(|line| line.chars().count() < 120),
+            "{mistakes}"
+        );
+    }
+    let mistakes = mistakes(&("raw ".to_string() + &"00 ".repeat(100_000) + "zz 11"));
+    let lines: Vec<&str> = mistakes.lines().collect();
+    assert!(
+        lines[1].starts_with("    ...") && lines[1].ends_with(" 00 zz 11"),
+        "{mistakes}"
+    );
+    assert_eq!(lines[1].find("zz"), lines[2].find("^^"), "{mistakes}");
+}
+
+#[test]
+fn carets_stand_under_wide_characters() {
+    let said = mistakes("tick \u{706b}\u{661f} # \u{706b}");
+    let lines: Vec<&str> = said.lines().collect();
+    assert_eq!(
+        lines[1..],
+        ["    tick \u{706b}\u{661f} # \u{706b}", "         ^^^^"]
+    );
+    // Before the mistake, too; what is of no width takes none.
+    let said = mistakes("order \u{706b}e\u{301} 1");
+    let lines: Vec<&str> = said.lines().collect();
+    assert_eq!(lines[2], "          ^^^");
+    // A blank of two bytes is a blank.
+    let said = mistakes("battery\u{a0}");
+    assert!(said.ends_with("            ^\n"), "{said}");
+}
+
+#[test]
+fn control_characters_of_a_script_are_shown_and_not_sent() {
+    let said = mistakes("tick \u{1b}[2J\u{7}\u{202e}x\n\u{1b}]0;title\u{7}\n");
+    assert!(
+        !said.contains(|c: char| c.is_control() && c != '\n'),
+        "{said:?}"
+    );
+    assert!(
+        said.contains("    tick \u{241b}[2J\u{2407}\u{fffd}x\n         ^^^^^^^\n"),
+        "{said}"
+    );
+    // A file's name may have them too.
+    let ran = run(&["log", "no\u{1b}[31m\nsuch.pass"]).status(1);
+    ran.says("ems: no\u{241b}[31m\u{240a}such.pass: No such file");
+    let ran = run(&["fly\u{1b}[31m"]).status(1);
+    assert!(!ran.err.contains('\u{1b}'), "{:?}", ran.err);
+}
+
+#[test]
+fn a_file_is_not_written_over_what_is_read() {
+    let script = "tick 3\n";
+    let file = scratch("kept.pass", script);
+    let (other, hard) = (place("link.pass"), place("hard.pass"));
+    std::os::unix::fs::symlink(&file, &other).expect("a link");
+    std::fs::hard_link(&file, &hard).expect("a link");
+    for onto in [&file, &other, &hard] {
+        for command in ["frames", "plot"] {
+            run(&[command, &file, "-o", onto])
+                .status(1)
+                .says(": is the input, which would be lost: name another file after -o");
+        }
+        for command in ["frames -", "plot --as script -"] {
+            bash(&format!("$ems {command} -o {onto} < {file}"))
+                .status(1)
+                .says(": is the input");
+        }
+    }
+    assert_eq!(std::fs::read_to_string(&file).expect("it is there"), script);
+    run(&["frames", &file, "-o", &place("kept.bin")]).status(0);
+    bash("$ems frames /dev/null -o /dev/null").status(0);
 }
 
 /// A script means its bytes: it makes no difference where it is cut.

@@ -2,7 +2,7 @@
 
 mod common;
 
-use common::{fed, run, vectors};
+use common::{fed, run, scratch, vectors};
 use std::fs;
 
 #[test]
@@ -35,6 +35,93 @@ raw 04 01                               # 00000B  refused: 5, the length is not 
 fn a_report_is_shown_in_words() {
     let report = b"\x81\x04\x01\x00\x11\x08\x02\x27\x27\x00\x00";
     let ran = fed(&["show", "-"], report).status(0);
-    let words = "a report: order 1 17: 8 repeat; SAFE; requested 27 MCS,COMM1,COMM2,I2C;";
+    let words = "a report: order ground 17: 8 repeat; SAFE; requested 27 MCS,COMM1,COMM2,I2C;";
     assert!(ran.text().contains(words), "{}", ran.text());
+    assert!(!ran.text().contains("no board"), "{}", ran.text());
+}
+
+#[test]
+fn a_report_that_no_board_sends_is_marked() {
+    let marked = |report: [u8; 10], why: &str| {
+        let bytes = [&[0x81][..], &report].concat();
+        let mark = format!("; no board sends this: {why}\n");
+        fed(&["show", "-"], &bytes).status(0).prints(&mark);
+    };
+    let tick = [1, 0, 0, 0, 0, 2, 0x27, 0x27, 0, 0];
+    let changed = |at: usize, byte: u8| {
+        let mut report = tick;
+        report[at] = byte;
+        report
+    };
+    marked(changed(0, 9), "no such kind is answered");
+    marked(changed(1, 1), "this kind has no origin and no serial");
+    marked(changed(3, 7), "this kind has no origin and no serial");
+    marked(changed(4, 6), "answer 6 has no report");
+    marked(changed(4, 8), "this kind has no such answer");
+    marked(changed(5, 3), "there is no mode 3");
+    marked(changed(8, 0x21), "MCS and I2C on and failed at once");
+    marked(changed(9, 3), "there is no beacon 3");
+    marked(changed(9, 1), "no such beacon is due in SAFE");
+    marked([4, 3, 0, 1, 0, 2, 0, 0, 0, 0], "there is no origin 3");
+    marked(
+        [4, 1, 0, 1, 10, 2, 0, 0, 0, 0],
+        "in SAFE it is never too early",
+    );
+    marked(
+        [5, 1, 0, 1, 10, 1, 0, 0, 0, 0],
+        "this kind has no such answer",
+    );
+    marked(
+        [2, 0, 0, 0, 0, 2, 0, 0, 0, 2],
+        "only a tick makes a beacon due",
+    );
+    marked(
+        [4, 0, 0, 1, 99, 9, 0, 0, 0, 0],
+        "answer 99 has no report, there is no mode 9 and there is no origin 0",
+    );
+}
+
+/// Every report on every vector is one that a board sends.
+#[test]
+fn no_board_s_report_is_marked() {
+    for (stream, _) in vectors() {
+        let log = run(&["log", "--hex", &stream]);
+        let reports = log
+            .text()
+            .lines()
+            .filter_map(|line| line.strip_prefix("< "));
+        let reports = reports.filter(|report| report.starts_with("81 "));
+        let bytes: Vec<u8> = reports
+            .flat_map(str::split_whitespace)
+            .map(|byte| u8::from_str_radix(byte, 16).expect("a byte"))
+            .collect();
+        let ran = fed(&["show", "-"], &bytes).status(0);
+        assert!(!ran.text().contains("no board"), "{stream}");
+    }
+}
+
+#[test]
+fn text_is_not_shown_as_if_it_were_frames() {
+    let script = "# a pass\nbattery 4999\ntick 3\n";
+    let file = scratch("notes.txt", script);
+    let ran = run(&["show", &file]).status(1);
+    assert!(ran.out.is_empty());
+    ran.says("notes.txt looks like text: `--as script` shows what it sends");
+    fed(&["show", "-"], script.as_bytes())
+        .status(1)
+        .says("standard input looks like text");
+    // What it sends, with what the board would say to it.
+    let wanted = "\
+battery 4999                            # 000000  refused: 6, a field is outside its range, or descend is above ascend
+tick 3                                  # 000003
+";
+    assert_eq!(
+        run(&["show", "--as", "script", &file]).status(0).text(),
+        wanted
+    );
+    let named = scratch("notes.pass", script);
+    assert_eq!(run(&["show", &named]).status(0).text(), wanted);
+    run(&["show", "--as", "bytes", &file])
+        .status(0)
+        .prints("refused: 4");
 }

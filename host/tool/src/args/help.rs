@@ -1,20 +1,23 @@
 //! What stands under each command's help: what else to know, and examples.
 
 pub const MAIN: &str = "\
-Every answer is the proved library's: this tool knows names and layouts, and no rule.
+Every answer is the proved library's: of frames and flights, this tool knows names and
+layouts, and no rule.
 
 A flight is a pass script (*.pass, see docs/PASS-SCRIPTS.md) or a stream of frames
-as bytes (any other file, and `-` for standard input). It begins at the fresh start.
+as bytes (any other file, and `-` for standard input); `--as` says so of any file.
+It begins at the fresh start.
 
 Example:
   ems log --explain examples/dawn.pass
 
-Exit status: 0 done; 1 wrong usage, or a file that can't be read or written; 2 a
-frame, a text or units were refused; `compare` has 3 and 4 too.";
+Exit status: 0 done; 1 wrong usage, or a file that can't be read or written, or is no
+image; 2 a frame, a text or units were refused; `compare` has 3 and 4 too.";
 
 pub const LOG: &str = "\
 Ends at the first frame that is refused with 4 to 7, with status 2 and the reason on
-standard error.
+standard error. After 6 and 7 the next frame is known, and the board flies on: so does
+`--explain --keep-going`, and the status is 2 still.
 
 Examples:
   ems log examples/dawn.pass
@@ -28,15 +31,19 @@ Example:
 
 pub const SHOW: &str = "\
 What is printed is a pass script that `ems frames` turns into the same bytes. Where
-the board would stop reading, a comment says so; what follows is a guess.
+the board would stop reading, a comment says so; what follows is a guess. Of a pass
+script it prints what the script sends.
 
 Examples:
   ems show dawn.bin
   printf '\\004\\001\\000\\021\\004\\001' | ems show -";
 
 pub const PLOT: &str = "\
-Example:
-  ems plot examples/orbit.pass -o flight.svg --title 'A day of fifteen orbits'";
+In a browser, every mark and bar says what it is under the pointer.
+
+Examples:
+  ems plot examples/orbit.pass -o flight.svg --title 'A day of fifteen orbits'
+  ems plot examples/orbit.pass -o evening.svg --from 18:00:00 --to 20h";
 
 pub const BEACON: &str = "\
 The text that the last tick made due; if none is due then, the board is left alone
@@ -64,8 +71,19 @@ in range and never lower on B. Then, after every frame, B's mode is as good as A
 each mission module requested on A is requested on B, and each that never saw a
 short and is on at A is on at B.
 
+It ends where a frame is refused; with --keep-going, where it is refused with 4 or 5.
+
 Exit status: 0 premises and conclusions hold; 3 the premises don't; 4 they do and a
 conclusion doesn't (never seen: it is proved); 2 a frame was refused on both.
 
 Example:
   ems compare examples/sister-craft-a.pass examples/sister-craft-b.pass";
+
+pub const IMAGE: &str = "\
+The layout is that of include/ems.h. For bytes that are no state's image, every field
+that is wrong is named, with status 1.
+
+Examples:
+  ems image --after examples/dawn.pass
+  ems image saved.bin
+  ems image --hex - < dump.txt";

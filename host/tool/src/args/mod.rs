@@ -1,9 +1,11 @@
 //! The command line: every command with what it is for and an example.
 
 mod help;
+mod time;
 
 use clap::{Args, Parser, Subcommand, ValueEnum};
 use std::path::{Path, PathBuf};
+use time::time;
 
 /// What will the board do if this is sent to it, and why did it do that?
 #[derive(Debug, Parser)]
@@ -39,6 +41,9 @@ pub enum Command {
     /// Two craft side by side: where they differ, and whether the stronger keeps up
     #[command(after_help = help::COMPARE)]
     Compare(Compare),
+    /// A board's image in words: what a caller keeps over a reset
+    #[command(after_help = help::IMAGE)]
+    Image(Image),
 }
 
 /// A flight: what is sent to a board from the fresh start on.
@@ -62,7 +67,7 @@ impl As {
     /// What a file of this name holds.
     pub fn of(path: &Path) -> As {
         match path.extension() {
-            Some(ending) if ending == "pass" => As::Script,
+            Some(ending) if ending.eq_ignore_ascii_case("pass") => As::Script,
             _ => As::Bytes,
         }
     }
@@ -78,6 +83,17 @@ pub struct Log {
     /// As bytes, each frame (>) with its report (<), the same ones in a row taken together
     #[arg(long, conflicts_with = "explain")]
     pub hex: bool,
+    /// With --explain: flies on after a frame that is refused with 6 or 7
+    #[arg(long, requires = "explain", conflicts_with = "hex")]
+    pub keep_going: bool,
+}
+
+/// For the commands that may go on after a refusal.
+#[derive(Args, Debug)]
+pub struct KeepGoing {
+    /// Flies on after a frame that is refused with 6 or 7
+    #[arg(long)]
+    pub keep_going: bool,
 }
 
 #[derive(Args, Debug)]
@@ -91,8 +107,8 @@ pub struct Frames {
 
 #[derive(Args, Debug)]
 pub struct Show {
-    /// The bytes; `-` is standard input
-    pub file: PathBuf,
+    #[command(flatten)]
+    pub flight: Flight,
 }
 
 #[derive(Args, Debug)]
@@ -105,6 +121,14 @@ pub struct Plot {
     /// The picture's title [default: the flight's file name]
     #[arg(long, value_name = "TEXT")]
     pub title: Option<String>,
+    /// Where the picture begins: 01:30:00, 5400 or 90m (s, m, h, d)
+    #[arg(long, value_name = "TIME", value_parser = time)]
+    pub from: Option<u64>,
+    /// Where the picture ends [default: with the flight]
+    #[arg(long, value_name = "TIME", value_parser = time)]
+    pub to: Option<u64>,
+    #[command(flatten)]
+    pub going: KeepGoing,
 }
 
 #[derive(Args, Debug)]
@@ -114,6 +138,8 @@ pub struct Beacon {
     /// Every beacon that falls due in the flight, with its time and kind
     #[arg(long)]
     pub all: bool,
+    #[command(flatten)]
+    pub going: KeepGoing,
 }
 
 #[derive(Args, Debug)]
@@ -126,10 +152,10 @@ pub struct Key {
     /// Units as text instead of sound: 1 key down, 0 key up
     #[arg(long)]
     pub units: bool,
-    /// Words a minute: a unit lasts 1,200 ms divided by it
+    /// Words a minute, 1 to 100: a unit lasts 1,200 ms divided by it
     #[arg(long, default_value_t = 18, value_parser = clap::value_parser!(u32).range(1..=100))]
     pub wpm: u32,
-    /// The tone in hertz
+    /// The tone in hertz, 50 to 10,000
     #[arg(long, value_name = "HZ", default_value_t = 700,
           value_parser = clap::value_parser!(u32).range(50..=10_000))]
     pub tone: u32,
@@ -147,4 +173,28 @@ pub struct Compare {
     pub a: PathBuf,
     /// The same flight with battery readings as high or higher
     pub b: PathBuf,
+    /// Takes both files for this, whatever their names
+    #[arg(long = "as", value_name = "WHAT")]
+    pub kind: Option<As>,
+    #[command(flatten)]
+    pub going: KeepGoing,
+}
+
+#[derive(Args, Debug)]
+pub struct Image {
+    /// The image; `-` is standard input
+    #[arg(required_unless_present = "after")]
+    pub file: Option<PathBuf>,
+    /// The bytes are written in hex, with blanks and line ends between or not
+    #[arg(long, requires = "file")]
+    pub hex: bool,
+    /// The image of a board after this flight, instead of a file's
+    #[arg(long, value_name = "FLIGHT", conflicts_with = "file")]
+    pub after: Option<PathBuf>,
+    /// Takes the flight for this, whatever its name
+    #[arg(long = "as", value_name = "WHAT", requires = "after")]
+    pub kind: Option<As>,
+    /// Flies on after a frame that is refused with 6 or 7
+    #[arg(long, requires = "after")]
+    pub keep_going: bool,
 }

@@ -1,11 +1,10 @@
 //! `ems beacon`: the text that falls due.
 
-use super::refused;
 use crate::args;
 use crate::board::Board;
 use crate::failure::Failure;
+use crate::flight::Flight;
 use crate::output::{self, Output};
-use crate::stream::Stream;
 use crate::tables::TICK;
 use crate::words;
 use ems::Beacon;
@@ -18,32 +17,32 @@ const QUIET: [u8; 2] = [TICK, 0];
 const PATIENCE: u64 = 2 * 86_400;
 
 pub fn run(beacon: &args::Beacon) -> Result<(), Failure> {
-    let mut stream = Stream::open(&beacon.flight)?;
-    let mut output = Output::standard();
-    let mut board = Board::fresh();
+    let mut flight = Flight::going(&beacon.flight, beacon.going.keep_going)?;
+    let mut output = Output::standard()?;
     let mut due = None;
-    while stream.advance()? {
-        let step = board.step(stream.frame());
-        let report = step.outcome.map_err(|r| refused(&stream, step.n, r))?;
+    while let Some(step) = flight.step()? {
+        // A frame that is refused leaves everything as it is, what is due too.
+        let Ok(report) = step.outcome else { continue };
         due = Beacon::of(report.beacon);
         if let Some(due) = due.filter(|_| beacon.all) {
-            let (time, text) = (words::clock(step.seconds), board.beacon(due));
+            let (time, text) = (words::clock(step.seconds), flight.board.beacon(due));
             writeln!(output, "{time}  {due:8}  {text}")?;
         }
     }
-    if !beacon.all {
-        let (waited, due) = wait(&mut board, due);
+    if !beacon.all && !flight.is_cut_off() {
+        let (waited, due) = wait(&mut flight.board, due);
         if waited > 0 {
             let time = words::count(waited, "second");
-            output::say(format!(
+            output::say(&format!(
                 "none is due at the end; left alone, the next is after {time}"
             ));
         }
         if let Some(due) = due {
-            writeln!(output, "{}", board.beacon(due))?;
+            writeln!(output, "{}", flight.board.beacon(due))?;
         }
     }
-    Ok(output.flush()?)
+    output.flush()?;
+    flight.end()
 }
 
 /// Leaves the board alone until a beacon is due: how long that takes, and which.

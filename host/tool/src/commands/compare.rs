@@ -1,110 +1,105 @@
 //! `ems compare`: two craft side by side. It checks what the two-craft promise
 //! asks of them, and shows what it promises.
 
-use crate::args::{Compare, Flight};
-use crate::board::{Board, Step};
+use crate::args::{self, Compare};
+use crate::board::Step;
 use crate::compare::{Promise, Rows};
-use crate::failure::{Failure, CONCLUSIONS, PREMISES, REFUSED};
+use crate::failure::{Failure, CONCLUSIONS, PREMISES};
+use crate::flight::Flight;
 use crate::output::Output;
-use crate::script::in_words;
-use crate::stream::Stream;
-use crate::tables::meaning;
 use std::io::Write;
 use std::path::Path;
 
-/// One of the two: its frames, and its board.
-struct Side {
-    stream: Stream,
-    board: Board,
-}
-
-impl Side {
-    fn open(path: &Path) -> Result<Side, Failure> {
-        let file = path.to_path_buf();
-        let stream = Stream::open(&Flight { file, kind: None })?;
-        let board = Board::fresh();
-        Ok(Side { stream, board })
-    }
-
-    /// Steps over the next frame, if there is one.
-    fn step(&mut self) -> Result<Option<Step>, Failure> {
-        let more = self.stream.advance()?;
-        Ok(more.then(|| self.board.step(self.stream.frame())))
-    }
-
-    fn sent(&self) -> String {
-        in_words(self.stream.frame())
-    }
+/// Two craft, and what has been seen of them.
+struct Pair {
+    a: Flight,
+    b: Flight,
+    promise: Promise,
+    rows: Rows,
 }
 
 pub fn run(compare: &Compare) -> Result<(), Failure> {
-    let (mut a, mut b) = (Side::open(&compare.a)?, Side::open(&compare.b)?);
-    let mut output = Output::standard();
-    writeln!(output, "A is {}, B is {}", a.stream.name(), b.stream.name())?;
-    let (mut promise, mut rows) = (Promise::default(), Rows::default());
-    let mut frames = 0;
-    let mut refused = None;
-    loop {
-        let (first, second) = match (a.step()?, b.step()?) {
-            (None, None) => break,
-            (Some(first), Some(second)) => (first, second),
-            (first, _) => {
-                let (side, which) = if first.is_some() {
-                    (&a, "A")
-                } else {
-                    (&b, "B")
-                };
-                let why = format!("only {which} has a frame here, `{}`", side.sent());
-                promise.not_spoken_of(frames + 1, why);
-                break;
-            }
-        };
-        let n = frames + 1;
-        let sent = (a.stream.frame(), first.outcome);
-        promise.sent(n, sent, (b.stream.frame(), second.outcome));
-        match (first.outcome, second.outcome) {
-            (Ok(one), Ok(other)) => {
-                promise.found(n, &one, &other);
-                let at = (n, first.seconds);
-                rows.add(&mut output, at, || a.sent(), &one, &other)?;
-            }
-            (Err(refusal), _) | (_, Err(refusal)) => {
-                refused = Some((n, refusal));
-                break;
-            }
-        }
-        frames = n;
+    if [&compare.a, &compare.b]
+        .iter()
+        .all(|path| *path == Path::new("-"))
+    {
+        return Err(Failure::usage(
+            "standard input can be one of the two craft, not both",
+        ));
     }
-    rows.end(&mut output)?;
-    if !rows.any() {
+    let open = |file: &Path| {
+        let (file, kind) = (file.to_path_buf(), compare.kind);
+        Flight::going(&args::Flight { file, kind }, compare.going.keep_going)
+    };
+    let mut pair = Pair {
+        a: open(&compare.a)?,
+        b: open(&compare.b)?,
+        promise: Promise::default(),
+        rows: Rows::default(),
+    };
+    let mut output = Output::standard()?;
+    writeln!(output, "A is {}, B is {}", pair.a.name(), pair.b.name())?;
+    while pair.step(&mut output)? {}
+    pair.rows.end(&mut output)?;
+    if !pair.rows.any() {
         writeln!(output, "\nThey never differ.")?;
     }
-    write!(output, "\n{}", promise.verdict(frames))?;
+    write!(output, "\n{}", pair.promise.verdict())?;
     output.flush()?;
     drop(output);
-    ended(&promise, refused)
+    pair.ended()
 }
 
-/// The status: premises first, then conclusions, then a frame refused on both.
-fn ended(promise: &Promise, refused: Option<(u64, u8)>) -> Result<(), Failure> {
-    if let Err(why) = promise.premises() {
-        return Err(Failure::new(
-            PREMISES,
-            format!("the premises do not hold: {why}"),
-        ));
-    }
-    if let Err(what) = promise.conclusions() {
-        return Err(Failure::new(
-            CONCLUSIONS,
-            format!("a conclusion does not hold: {what}"),
-        ));
-    }
-    match refused {
-        Some((n, refusal)) => {
-            let why = meaning(refusal);
-            let message = format!("frame {n} is refused on both: {refusal}, {why}");
-            Err(Failure::new(REFUSED, message))
+impl Pair {
+    /// Steps both over their next frame; false where that is the end.
+    fn step(&mut self, output: &mut Output) -> Result<bool, Failure> {
+        let (a, b) = match (self.a.step()?, self.b.step()?) {
+            (None, None) => return Ok(false),
+            (Some(a), Some(b)) => (a, b),
+            (Some(a), None) => return Ok(self.alone(&a, "A")),
+            (None, Some(b)) => return Ok(self.alone(&b, "B")),
+        };
+        let sent = (self.a.frame(), a.outcome);
+        self.promise.sent(a.n, sent, (self.b.frame(), b.outcome));
+        if let (Ok(one), Ok(other)) = (a.outcome, b.outcome) {
+            self.promise.found(a.n, &one, &other);
+            let sent = || self.a.sent();
+            self.rows
+                .add(output, (a.n, a.seconds), sent, &one, &other)?;
         }
-        None => Ok(()),
+        let cut_off = self.a.is_cut_off() || self.b.is_cut_off();
+        if cut_off {
+            self.promise.stop();
+        }
+        Ok(!cut_off)
+    }
+
+    /// The end, where only one of the two has a frame.
+    fn alone(&mut self, step: &Step, which: &str) -> bool {
+        let side = if which == "A" { &self.a } else { &self.b };
+        let why = format!("only {which} has a frame here, `{}`", side.sent());
+        self.promise.not_spoken_of(step.n, why);
+        self.promise.stop();
+        false
+    }
+
+    /// The status: premises first, then conclusions, then what was refused. Where
+    /// the premises hold, that is the same on both.
+    fn ended(self) -> Result<(), Failure> {
+        if let Err(why) = self.promise.premises() {
+            let message = format!("the premises do not hold: {why}");
+            let hint = self.a.hint().or_else(|| self.b.hint());
+            return Err(Failure::new(PREMISES, message).and(hint));
+        }
+        if let Err(what) = self.promise.conclusions() {
+            let message = format!("a conclusion does not hold: {what}");
+            return Err(Failure::new(CONCLUSIONS, message));
+        }
+        self.a.end().map_err(|mut failure| {
+            for message in &mut failure.messages {
+                message.insert_str(0, "on both craft: ");
+            }
+            failure
+        })
     }
 }

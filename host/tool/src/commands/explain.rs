@@ -1,19 +1,18 @@
 //! `ems log --explain`: what the board answers, in words.
 
-use super::refused;
-use crate::args::Flight;
-use crate::board::{Board, Step};
+use crate::args;
+use crate::board::Step;
 use crate::failure::Failure;
+use crate::flight::Flight;
 use crate::output::Output;
 use crate::script::in_words;
 use crate::story;
-use crate::stream::Stream;
 use crate::tables::{meaning, shorts, TICK};
-use crate::words::{clock, count, list, modules};
+use crate::words::{clock, count, list, modules, thousands};
 use ems::{Beacon, Report};
 use std::io::{self, Write};
 
-const HEADER: &str = "    time    frame  what was sent, and what came of it";
+const HEADER: &str = "    time      frame  what was sent, and what came of it";
 
 /// Ticks with the same shorts in which nothing happened.
 struct Quiet {
@@ -26,27 +25,14 @@ struct Quiet {
     text: String,
 }
 
-pub fn run(flight: &Flight) -> Result<(), Failure> {
-    let mut stream = Stream::open(flight)?;
-    let mut output = Output::standard();
-    let mut board = Board::fresh();
+pub fn run(flight: &args::Flight, keep_going: bool) -> Result<(), Failure> {
+    let mut flight = Flight::going(flight, keep_going)?;
+    let mut output = Output::standard()?;
     let mut quiet: Option<Quiet> = None;
     writeln!(output, "{HEADER}")?;
-    while stream.advance()? {
-        let step = board.step(stream.frame());
-        let report = match step.outcome {
-            Ok(report) => report,
-            Err(refusal) => {
-                end(&mut output, &mut quiet)?;
-                let (frame, why) = (in_words(stream.frame()), meaning(refusal));
-                let text = format!("{frame}: refused, {refusal}: {why}");
-                line(&mut output, step.seconds, step.n, &text)?;
-                output.flush()?;
-                return Err(refused(&stream, step.n, refusal));
-            }
-        };
-        let due = Beacon::of(report.beacon).map(|beacon| (beacon, board.beacon(beacon)));
-        match happened(stream.frame(), &step, &report) {
+    while let Some(step) = flight.step()? {
+        let due = due(&flight, &step);
+        match happened(flight.frame(), &step) {
             Some(mut said) => {
                 end(&mut output, &mut quiet)?;
                 if let Some((beacon, text)) = due {
@@ -55,7 +41,7 @@ pub fn run(flight: &Flight) -> Result<(), Failure> {
                 line(&mut output, step.seconds, step.n, &said)?;
             }
             None => {
-                let shorts = shorts(stream.frame());
+                let shorts = shorts(flight.frame());
                 if quiet.as_ref().is_some_and(|quiet| quiet.shorts != shorts) {
                     end(&mut output, &mut quiet)?;
                 }
@@ -66,18 +52,32 @@ pub fn run(flight: &Flight) -> Result<(), Failure> {
         }
     }
     end(&mut output, &mut quiet)?;
-    Ok(output.flush()?)
+    output.flush()?;
+    flight.end()
 }
 
-/// What a frame did; none for a tick in which nothing happened.
-fn happened(frame: &[u8], step: &Step, report: &Report) -> Option<String> {
-    let came = if report.kind == TICK {
-        let changes = story::changes(&step.before, &step.after, shorts(frame));
-        (!changes.is_empty()).then(|| changes.join("; "))
-    } else {
-        Some(story::outcome(frame, step, report))
+/// The beacon that a step has made due, and its text.
+fn due(flight: &Flight, step: &Step) -> Option<(Beacon, String)> {
+    let beacon = Beacon::of(step.outcome.ok()?.beacon)?;
+    Some((beacon, flight.board.beacon(beacon)))
+}
+
+/// What was sent and what it did; none for a tick in which nothing happened.
+fn happened(frame: &[u8], step: &Step) -> Option<String> {
+    let came = match step.outcome {
+        Ok(report) => came_of(frame, step, &report)?,
+        Err(refusal) => format!("refused, {refusal}: {}", meaning(refusal)),
     };
-    came.map(|came| format!("{}: {came}", in_words(frame)))
+    Some(format!("{}: {came}", in_words(frame)))
+}
+
+/// What a frame did that has a report.
+fn came_of(frame: &[u8], step: &Step, report: &Report) -> Option<String> {
+    if report.kind != TICK {
+        return Some(story::outcome(frame, step, report));
+    }
+    let changes = story::changes(&step.before, &step.after, shorts(frame));
+    (!changes.is_empty()).then(|| changes.join("; "))
 }
 
 impl Quiet {
@@ -102,6 +102,36 @@ impl Quiet {
             }
         }
     }
+
+    /// The ticks: one as it was sent, or how many and which frames they are.
+    fn ticks(&self) -> String {
+        if self.first == self.last {
+            return in_words(&[TICK, self.shorts]);
+        }
+        let shorts = match self.shorts {
+            0 => String::new(),
+            shorts => format!(" with shorts on {}", list(&modules(shorts))),
+        };
+        let ticks = count(self.last - self.first + 1, "tick");
+        let (first, last) = (thousands(self.first), thousands(self.last));
+        format!("{ticks}{shorts}, frames {first} to {last}")
+    }
+
+    /// The beacons that fell due.
+    fn due(&self) -> String {
+        let mut text = String::new();
+        for (kind, fell) in self.beacons {
+            if fell > 0 {
+                text += &format!("; {}", count(fell, &format!("{kind} beacon")));
+            }
+        }
+        match self.beacons.iter().map(|(_, fell)| fell).sum() {
+            0_u64 => {}
+            1 => text += &format!(", {}", self.text),
+            _ => text += &format!(", the last {}", self.text),
+        }
+        text
+    }
 }
 
 /// Writes down the quiet ticks so far, if there are any.
@@ -109,28 +139,10 @@ fn end(output: &mut Output, quiet: &mut Option<Quiet>) -> io::Result<()> {
     let Some(quiet) = quiet.take() else {
         return Ok(());
     };
-    let mut text = if quiet.first == quiet.last {
-        "tick".to_string()
-    } else {
-        format!("ticks {} to {}", quiet.first, quiet.last)
-    };
-    if quiet.shorts != 0 {
-        text += &format!(", shorts {}", list(&modules(quiet.shorts)));
-    }
-    text += ": nothing changed";
-    for (kind, fell) in quiet.beacons {
-        if fell > 0 {
-            text += &format!("; {}", count(fell, &format!("{kind} beacon")));
-        }
-    }
-    match quiet.beacons.iter().map(|(_, fell)| fell).sum() {
-        0_u64 => {}
-        1 => text += &format!(", {}", quiet.text),
-        _ => text += &format!(", the last {}", quiet.text),
-    }
+    let text = format!("{}: nothing changed{}", quiet.ticks(), quiet.due());
     line(output, quiet.seconds, quiet.last, &text)
 }
 
 fn line(output: &mut Output, seconds: u64, n: u64, text: &str) -> io::Result<()> {
-    writeln!(output, "{:>8} {n:>8}  {text}", clock(seconds))
+    writeln!(output, "{:>8} {:>10}  {text}", clock(seconds), thousands(n))
 }

@@ -1,11 +1,9 @@
 //! `ems log --hex`: frames and reports as bytes.
 
-use super::refused;
-use crate::args::Flight;
-use crate::board::Board;
+use crate::args;
 use crate::failure::Failure;
+use crate::flight::Flight;
 use crate::output::Output;
-use crate::stream::Stream;
 use crate::words::{hex, thousands};
 use ems::Report;
 use std::io::{self, Write};
@@ -17,14 +15,12 @@ struct Exchange {
     times: u64,
 }
 
-pub fn run(flight: &Flight) -> Result<(), Failure> {
-    let mut stream = Stream::open(flight)?;
-    let mut output = Output::standard();
-    let mut board = Board::fresh();
+pub fn run(flight: &args::Flight) -> Result<(), Failure> {
+    let mut flight = Flight::open(flight)?;
+    let mut output = Output::standard()?;
     let mut last: Option<Exchange> = None;
-    while stream.advance()? {
-        let frame = stream.frame();
-        let step = board.step(frame);
+    while let Some(step) = flight.step()? {
+        let frame = flight.frame();
         match (step.outcome, &mut last) {
             (Ok(report), Some(last)) if last.frame == frame && last.report == report => {
                 last.times += 1;
@@ -40,13 +36,12 @@ pub fn run(flight: &Flight) -> Result<(), Failure> {
             (Err(refusal), _) => {
                 end(&mut output, last.take())?;
                 writeln!(output, "> {}\n< nothing: refused {refusal}", hex(frame))?;
-                output.flush()?;
-                return Err(refused(&stream, step.n, refusal));
             }
         }
     }
     end(&mut output, last)?;
-    Ok(output.flush()?)
+    output.flush()?;
+    flight.end()
 }
 
 fn end(output: &mut Output, exchange: Option<Exchange>) -> io::Result<()> {

@@ -2,8 +2,8 @@
 
 use crate::args::Key;
 use crate::failure::{Failure, REFUSED};
+use crate::morse;
 use crate::output::Output;
-use crate::tables::meaning;
 use ems::{answer, UNITS_BYTES};
 use std::io::Write;
 use std::path::Path;
@@ -15,7 +15,7 @@ pub fn run(key: &Key) -> Result<(), Failure> {
     let mut room = [0; UNITS_BYTES];
     let (given, count) = ems::key(key.text.as_bytes(), &mut room);
     if given != answer::DONE {
-        return Err(refused(&key.text, given));
+        return Err(Failure::new(REFUSED, morse::unkeyed(&key.text, given)));
     }
     let units = &room[..count];
     let path = key.output.as_deref().unwrap_or(Path::new("-"));
@@ -30,26 +30,4 @@ pub fn run(key: &Key) -> Result<(), Failure> {
         output.write_all(&sound::wav(units, key.wpm, key.tone))?;
     }
     Ok(output.flush()?)
-}
-
-/// Why a text isn't keyed; for a character that can't be, which one.
-fn refused(text: &str, refusal: u8) -> Failure {
-    let why = meaning(refusal);
-    let keyed = |character: char| {
-        let mut bytes = [0; 4];
-        let one = character.encode_utf8(&mut bytes).as_bytes();
-        ems::key(one, &mut [0; UNITS_BYTES]).0 != answer::NOT_KEYABLE
-    };
-    let culprit = text.chars().position(|character| !keyed(character));
-    let at = match culprit.filter(|_| refusal == answer::NOT_KEYABLE) {
-        Some(at) => {
-            let character: String = text.chars().skip(at).take(1).collect();
-            format!(": `{}`, character {}", character.escape_debug(), at + 1)
-        }
-        None => String::new(),
-    };
-    Failure::new(
-        REFUSED,
-        format!("the text is refused: {refusal}, {why}{at}"),
-    )
 }

@@ -1,36 +1,29 @@
-//! `ems log`: exactly what the page's `step-log` prints.
+//! `ems log`: exactly what `step-log` prints.
 
-use super::refused;
-use crate::args::Flight;
-use crate::board::Board;
+use crate::args;
 use crate::failure::Failure;
+use crate::flight::Flight;
 use crate::output::Output;
-use crate::stream::Stream;
 use ems::Report;
 use std::io::Write;
 
 const HEADER: &str = "n kind origin serial answer mode requested on failed beacon";
 
-pub fn run(flight: &Flight) -> Result<(), Failure> {
-    let mut stream = Stream::open(flight)?;
-    let mut output = Output::standard();
-    let mut board = Board::fresh();
+pub fn run(flight: &args::Flight) -> Result<(), Failure> {
+    let mut flight = Flight::open(flight)?;
+    let mut output = Output::standard()?;
     writeln!(output, "{HEADER}")?;
-    while stream.advance()? {
-        let step = board.step(stream.frame());
+    while let Some(step) = flight.step()? {
         match step.outcome {
             Ok(report) => writeln!(output, "{} {}", step.n, line(&report))?,
-            Err(refusal) => {
-                writeln!(output, "{} refused {refusal}", step.n)?;
-                output.flush()?;
-                return Err(refused(&stream, step.n, refusal));
-            }
+            Err(refusal) => writeln!(output, "{} refused {refusal}", step.n)?,
         }
     }
-    Ok(output.flush()?)
+    output.flush()?;
+    flight.end()
 }
 
-/// A report's fields in the page's order.
+/// A report's fields in its own order.
 fn line(report: &Report) -> String {
     let Report {
         kind,

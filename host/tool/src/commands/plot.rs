@@ -1,44 +1,32 @@
 //! `ems plot`: the flight as a picture.
 
-use super::refused;
 use crate::args::Plot;
-use crate::board::Board;
 use crate::failure::Failure;
-use crate::output::Output;
-use crate::plot::{draw, Record};
-use crate::script::in_words;
-use crate::stream::Stream;
+use crate::flight::Flight;
+use crate::output::{self, Output};
+use crate::plot::{draw, Record, View};
 use std::io::Write;
 
 pub fn run(plot: &Plot) -> Result<(), Failure> {
-    let mut stream = Stream::open(&plot.flight)?;
-    let mut board = Board::fresh();
-    let mut record = Record::new(&board.image());
-    while stream.advance()? {
-        let step = board.step(stream.frame());
-        match step.outcome {
-            Ok(report) => {
-                let words = || in_words(stream.frame());
-                record.add(stream.frame(), &step, &report, words);
-            }
-            Err(refusal) => {
-                record.refused = Some((step.n, refusal));
-                break;
-            }
-        }
+    output::spare(&plot.flight.file, &plot.output)?;
+    let mut flight = Flight::going(&plot.flight, plot.going.keep_going)?;
+    let mut record = Record::new(&flight.board.image());
+    while let Some(step) = flight.step()? {
+        record.add(flight.frame(), &step);
     }
-    let name = plot
-        .flight
-        .file
-        .file_name()
-        .map(|name| name.to_string_lossy());
-    let title = plot.title.as_deref().or(name.as_deref());
-    let title = title.unwrap_or_else(|| stream.name());
+    let view = View::of(&record, plot.from, plot.to).map_err(Failure::usage)?;
     let mut output = Output::at(&plot.output)?;
-    output.write_all(draw(&record, title).as_bytes())?;
+    output.write_all(draw(&view, &title(plot, &flight)).as_bytes())?;
     output.flush()?;
-    match record.refused {
-        Some((n, refusal)) => Err(refused(&stream, n, refusal)),
-        None => Ok(()),
-    }
+    flight.end()
+}
+
+/// The title that was given, or the file's name.
+fn title(plot: &Plot, flight: &Flight) -> String {
+    let file = plot.flight.file.file_name();
+    let name = file
+        .filter(|name| *name != "-")
+        .map(|name| name.to_string_lossy().into_owned());
+    let given = plot.title.clone().or(name);
+    given.unwrap_or_else(|| flight.name().to_string())
 }

@@ -5,11 +5,11 @@ use crate::args::Show;
 use crate::board::Board;
 use crate::failure::Failure;
 use crate::output::Output;
+use crate::report;
 use crate::script;
 use crate::source;
-use crate::tables::{self, kind_of, meaning, Kind};
-use crate::words;
-use ems::{answer, Report, REPORT_BYTES, REPORT_KIND};
+use crate::tables::{kind_of, loses_the_cut, meaning, Kind};
+use ems::{Report, REPORT_BYTES, REPORT_KIND};
 use std::io::{self, Write};
 
 /// Where comments begin.
@@ -22,8 +22,8 @@ const LOST: &str =
     "# The board reads nothing after this. Where frames begin from here on is a guess.";
 
 pub fn run(show: &Show) -> Result<(), Failure> {
-    let (_, bytes) = source::whole(&show.file)?;
-    let mut output = Output::standard();
+    let bytes = bytes(show)?;
+    let mut output = Output::standard()?;
     let (mut at, mut lost) = (0, false);
     while at < bytes.len() {
         let rest = &bytes[at..];
@@ -32,12 +32,26 @@ pub fn run(show: &Show) -> Result<(), Failure> {
         let comment = about(piece);
         line(&mut output, piece, times, at, &comment)?;
         at += times * piece.len();
-        if !lost && at < bytes.len() && loses_the_cut(piece) {
+        if !lost && at < bytes.len() && is_lost_after(piece) {
             lost = true;
             writeln!(output, "{LOST}")?;
         }
     }
     Ok(output.flush()?)
+}
+
+/// The bytes to show: those that a script sends, if that is what the file holds.
+fn bytes(show: &Show) -> Result<Vec<u8>, Failure> {
+    let source = source::open(&show.flight)?;
+    let name = source.name;
+    if source.looks_like_text {
+        return Err(Failure::usage(format!(
+            "{name} looks like text: `--as script` shows what it sends as a pass script, \
+             `--as bytes` takes it for frames"
+        )));
+    }
+    let bytes: io::Result<Vec<u8>> = source.bytes.map(|byte| Ok(byte?.0)).collect();
+    bytes.map_err(|error| Failure::file(&name, &error))
 }
 
 /// How many of the bytes belong together: a frame, a report, or what begins with
@@ -74,42 +88,17 @@ fn refusal(piece: &[u8]) -> Option<u8> {
 }
 
 /// Whether nobody can tell where the next frame begins.
-fn loses_the_cut(piece: &[u8]) -> bool {
-    let lost = matches!(
-        refusal(piece),
-        Some(answer::UNKNOWN_KIND | answer::BAD_LENGTH)
-    );
-    lost && Report::read(piece).is_none()
+fn is_lost_after(piece: &[u8]) -> bool {
+    refusal(piece).is_some_and(loses_the_cut) && Report::read(piece).is_none()
 }
 
 /// What a comment says of a piece.
 fn about(piece: &[u8]) -> String {
     if let Some(report) = Report::read(piece) {
-        return in_words(&report);
+        return report::in_words(&report);
     }
     let refused = |refusal| format!("refused: {refusal}, {}", meaning(refusal));
     refusal(piece).map(refused).unwrap_or_default()
-}
-
-/// A report in words.
-fn in_words(report: &Report) -> String {
-    let kind = kind_of(report.kind)
-        .map_or_else(|| format!("{:02X}", report.kind), |kind| kind.name.into());
-    let order = match report.origin {
-        0 => String::new(),
-        origin => format!(" {origin} {}", report.serial),
-    };
-    let mask =
-        |name: &str, mask: u8| format!("{name} {mask:02X} {}", words::modules(mask).join(","));
-    let parts = [
-        format!("a report: {kind}{order}: {}", tables::answer(report.answer)),
-        tables::mode(report.mode),
-        mask("requested", report.requested),
-        mask("on", report.on),
-        mask("failed", report.failed),
-        format!("{} beacon", tables::beacon(report.beacon)),
-    ];
-    parts.map(|part| part.trim_end().to_string()).join("; ")
 }
 
 /// A line of the script: the piece, how often, where it begins, what about it.

@@ -2,7 +2,7 @@
 
 use crate::script::in_words;
 use crate::tables::{mode, shorts, BATTERY};
-use crate::words::{list, modules, thousands};
+use crate::words::{count, list, modules, thousands};
 use ems::{Module, Report};
 
 /// A frame as it was sent, and what came of it.
@@ -11,6 +11,10 @@ type Sent<'a> = (&'a [u8], Result<Report, u8>);
 /// What has been seen of the two flights so far.
 #[derive(Default)]
 pub struct Promise {
+    /// The frames that were sent to both.
+    frames: u64,
+    /// Whether there was more that they were not sent.
+    stopped: bool,
     /// Modules that saw a short, as a mask.
     shorted: u8,
     readings: u64,
@@ -41,6 +45,12 @@ impl Promise {
             self.not_spoken_of(n, format!("{wrong}: `{a}` on A, `{b}` on B"));
         }
         self.shorted |= shorts(a.0);
+        self.frames = n;
+    }
+
+    /// The flights are not looked at any further.
+    pub fn stop(&mut self) {
+        self.stopped = true;
     }
 
     /// The flights are not those that are spoken of, from frame n on.
@@ -79,13 +89,15 @@ impl Promise {
         first.or(self.on.as_deref()).map_or(Ok(()), Err)
     }
 
-    /// All of it in words, after so many frames.
-    pub fn verdict(&self, frames: u64) -> String {
+    /// All of it in words.
+    pub fn verdict(&self) -> String {
         let premises = match &self.premises {
             Some(why) => format!("do not hold: {why}"),
             None => format!(
-                "hold: {} frames, the same on both but for {} of {} battery readings, all in range, none lower on B",
-                thousands(frames), self.higher, self.readings,
+                "hold: {}, the same on both but for {} of {}, all in range, none lower on B",
+                count(self.frames, "frame"),
+                thousands(self.higher),
+                count(self.readings, "battery reading"),
             ),
         };
         let holds = |broken: &Option<String>| match broken {
@@ -94,19 +106,32 @@ impl Promise {
         };
         let unshorted = list(&modules(Module::MISSION & !self.shorted));
         let promised = match self.premises {
-            Some(_) => "nothing is promised, and after every frame:",
-            None => "it is promised that after every frame:",
+            Some(_) => "nothing is promised, and",
+            None => "it is promised that",
         };
         format!(
-            "The premises {premises}.\nSo {promised}\n  \
+            "The premises {premises}.\nSo {promised} {}:\n  \
              mode       B's is as good as A's or better: {}\n  \
              requested  of {}, all that A has requested, B has: {}\n  \
              on         of {unshorted}, which saw no short, all that A has on, B has: {}\n",
+            self.looked_at(),
             holds(&self.mode),
             list(&modules(Module::MISSION)),
             holds(&self.requested),
             holds(&self.on),
         )
+    }
+
+    /// The frames after which the two were compared.
+    fn looked_at(&self) -> String {
+        match (self.stopped, self.frames) {
+            (false, _) => "after every frame".to_string(),
+            (true, 1) => "after the first frame, where the comparison ended".to_string(),
+            (true, frames) => format!(
+                "after each of the first {} frames, where the comparison ended",
+                thousands(frames)
+            ),
+        }
     }
 }
 

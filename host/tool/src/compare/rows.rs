@@ -2,7 +2,7 @@
 //! difference.
 
 use crate::tables::{answer, mode};
-use crate::words::{clock, modules};
+use crate::words::{clock, modules, thousands};
 use ems::Report;
 use std::io::{self, Write};
 
@@ -63,15 +63,12 @@ impl Rows {
         self.any = true;
         let ((first, from), (last, to)) = (row.first, row.last);
         let sent = row.sent.map(|sent| format!(": {sent}")).unwrap_or_default();
+        let (first_said, from) = (thousands(first), clock(from));
         if first == last {
-            writeln!(output, "\nframe {first}, {}{sent}", clock(from))?;
+            writeln!(output, "\nframe {first_said}, {from}{sent}")?;
         } else {
-            writeln!(
-                output,
-                "\nframes {first} to {last}, {} to {}",
-                clock(from),
-                clock(to)
-            )?;
+            let (last, to) = (thousands(last), clock(to));
+            writeln!(output, "\nframes {first_said} to {last}, {from} to {to}")?;
         }
         writeln!(output, "  {:11}{:WIDTH$}B", "", "A")?;
         row.lines

@@ -1,115 +1,132 @@
 //! What the shapes mean.
 
+use super::marks::{mark, SHAPES};
 use super::modes::fill;
-use super::orders::mark;
-use super::svg::{Align, Svg};
-use super::LEFT;
+use super::modules::{arrow, State};
+use super::svg::{width, Align, Svg};
+use super::{beacons, LEFT, WIDTH};
 use crate::tables;
 use ems::{answer, Beacon, Mode};
 
-/// A row's height, and the space before a group's next sign.
+/// A row's height, the room of a sign, and that after a text.
 const ROW: f64 = 22.0;
 const SIGN: f64 = 26.0;
+const AFTER: f64 = 14.0;
+const SIZE: u32 = 12;
 
-/// A row that is being written from left to right.
-struct Row<'a> {
-    svg: &'a mut Svg,
-    x: f64,
-    y: f64,
-}
+/// Draws a sign at its left middle.
+type Sign = Box<dyn Fn(&mut Svg, f64, f64)>;
 
-impl Row<'_> {
-    fn word(&mut self, text: &str) {
-        self.svg.text(self.x, self.y + 4.0, 12, Align::Start, text);
-        self.x += width(text) + 14.0;
-    }
-
-    /// A sign of the given width, drawn at its left middle, then its meaning.
-    fn sign(&mut self, draw: impl Fn(&mut Svg, f64, f64), meaning: &str) {
-        draw(self.svg, self.x, self.y);
-        self.x += SIGN;
-        self.word(meaning);
-    }
-}
-
-/// About how wide a text is.
-fn width(text: &str) -> f64 {
-    let one = |c: char| if c.is_uppercase() { 8.6 } else { 6.6 };
-    text.chars().map(one).sum()
-}
+/// A subject, and its signs with their meanings.
+type Group = (&'static str, Vec<(Sign, String)>);
 
 /// The legend; gives where it ends.
 pub fn draw(svg: &mut Svg, y: f64) -> f64 {
-    let x = LEFT;
-    let mut row = Row { svg, x, y };
-    row.word("Mode:");
-    for mode in Mode::ALL {
-        let fill = fill(mode.number()).map(|fill| fill.strip);
-        row.sign(
-            |svg, x, y| {
-                svg.rect(x, y - 7.0, 20.0, 14.0, "box");
-                if let Some(fill) = fill {
-                    svg.rect(x, y - 7.0, 20.0, 14.0, fill);
-                }
-            },
+    let (mut x, mut y) = (LEFT, y);
+    for (subject, signs) in groups() {
+        let wide = |text: &str| width(text, SIZE) + AFTER;
+        let all: f64 = signs.iter().map(|(_, meaning)| SIGN + wide(meaning)).sum();
+        if x > LEFT && x + wide(subject) + all > WIDTH {
+            (x, y) = (LEFT, y + ROW);
+        }
+        svg.text(x, y + 4.0, SIZE, Align::Start, subject);
+        x += wide(subject);
+        for (sign, meaning) in signs {
+            sign(svg, x, y);
+            svg.text(x + SIGN, y + 4.0, SIZE, Align::Start, &meaning);
+            x += SIGN + wide(&meaning);
+        }
+    }
+    y + 8.0
+}
+
+fn groups() -> [Group; 6] {
+    [
+        ("Mode:", modes()),
+        ("Millivolts:", millivolts()),
+        ("Module:", modules()),
+        ("Short:", shorts()),
+        ("Beacon:", due()),
+        ("Order:", orders()),
+    ]
+}
+
+/// A sign with its meaning.
+fn sign(draw: impl Fn(&mut Svg, f64, f64) + 'static, meaning: &str) -> (Sign, String) {
+    (Box::new(draw), meaning.to_string())
+}
+
+fn modes() -> Vec<(Sign, String)> {
+    let modes = Mode::ALL.into_iter().map(|mode| {
+        let class = format!("{} edged", fill(mode.number()).0);
+        sign(
+            move |svg, x, y| svg.rect(x, y - 7.0, 20.0, 14.0, &class, ""),
             mode.name(),
-        );
-    }
-    let line = |class: &'static str| {
-        move |svg: &mut Svg, x: f64, y: f64| svg.line(x, y, x + 20.0, y, class)
-    };
-    row.word("Millivolts:");
-    row.sign(line("curve"), "tension");
-    row.sign(line("ascend"), "ascend");
-    row.sign(line("descend"), "descend");
+        )
+    });
+    modes.collect()
+}
 
-    let mut row = Row {
-        x,
-        y: y + ROW,
-        svg: row.svg,
+fn millivolts() -> Vec<(Sign, String)> {
+    let line = |class: &'static str, meaning: &str| {
+        sign(move |svg, x, y| svg.line(x, y, x + 20.0, y, class), meaning)
     };
-    row.word("Module:");
-    row.sign(
-        |svg, x, y| svg.rect(x, y - 7.0, 20.0, 14.0, "box"),
-        "requested",
-    );
-    row.sign(
-        |svg, x, y| {
-            svg.rect(x, y - 7.0, 20.0, 14.0, "box");
-            svg.rect(x, y - 4.0, 20.0, 8.0, "solid");
-        },
-        "requested and on",
-    );
-    row.sign(
-        |svg, x, y| svg.rect(x, y - 7.0, 20.0, 14.0, "failed"),
-        "failed",
-    );
-    row.sign(
-        |svg, x, y| {
-            svg.path(
-                &format!("M{} {}l2.5-4.5l2.5 4.5z", x + 8.0, y + 3.0),
-                "short",
-            )
-        },
-        "short",
-    );
-    row.word("Beacon:");
-    for (beacon, tall) in [(Beacon::Basic, 8.0), (Beacon::Complete, 16.0)] {
-        row.sign(
-            |svg, x, y| svg.line(x + 10.0, y + 7.0, x + 10.0, y + 7.0 - tall, "thin"),
-            beacon.name(),
-        );
-    }
+    let band = |svg: &mut Svg, x: f64, y: f64| svg.rect(x, y - 5.0, 20.0, 10.0, "band", "");
+    vec![
+        line("curve", "tension"),
+        sign(band, "least to greatest"),
+        line("ascend", "ascend"),
+        line("descend", "descend"),
+    ]
+}
 
-    let mut row = Row {
-        x,
-        y: y + 2.0 * ROW,
-        svg: row.svg,
+fn modules() -> Vec<(Sign, String)> {
+    let bars = |states: &'static [State], meaning: &str| {
+        let draw = move |svg: &mut Svg, x: f64, y: f64| {
+            for state in states {
+                state.draw(svg, x, y - 8.5, 20.0, "");
+            }
+        };
+        sign(draw, meaning)
     };
-    row.word("Order:");
-    for answer in [answer::DONE, answer::REPEAT, answer::STALE, answer::NOT_NOW] {
-        let meaning = tables::answer(answer);
-        row.sign(|svg, x, y| mark(svg, x + 10.0, y, answer, ""), &meaning);
-    }
-    y + 2.0 * ROW + 8.0
+    vec![
+        bars(&[State::Requested], "requested"),
+        bars(&[State::Requested, State::On], "requested and on"),
+        bars(&[State::Requested, State::Failed], "requested and failed"),
+        bars(&[State::Failed], "failed"),
+    ]
+}
+
+fn shorts() -> Vec<(Sign, String)> {
+    let short = |svg: &mut Svg, x: f64, y: f64| svg.path(&arrow(x + 10.0, y + 3.0), "solid", "");
+    let tries = |svg: &mut Svg, x: f64, y: f64| svg.text(x + 8.0, y + 4.0, 11, Align::Start, "3");
+    vec![sign(short, "short"), sign(tries, "tries left")]
+}
+
+fn due() -> Vec<(Sign, String)> {
+    let tick = |beacon: Beacon| {
+        let draw = move |svg: &mut Svg, x: f64, y: f64| {
+            let top = y + 8.0 - 0.6 * beacons::tall(beacon);
+            svg.line(x + 10.0, y + 8.0, x + 10.0, top, "thin");
+        };
+        sign(draw, beacon.name())
+    };
+    let band = |svg: &mut Svg, x: f64, y: f64| svg.rect(x, y - 7.0, 20.0, 15.0, "many", "");
+    vec![
+        tick(Beacon::Basic),
+        tick(Beacon::Complete),
+        sign(band, "many"),
+    ]
+}
+
+fn orders() -> Vec<(Sign, String)> {
+    let orders = SHAPES.into_iter().map(|answer| {
+        let meaning = match answer::has_report(answer) {
+            true => tables::answer(answer),
+            false => "refused".to_string(),
+        };
+        let draw = move |svg: &mut Svg, x: f64, y: f64| mark(svg, x + 10.0, y, 8.0, answer, "");
+        sign(draw, &meaning)
+    });
+    orders.collect()
 }

@@ -1,9 +1,10 @@
 //! What a picture needs of a flight: when what changed.
 
 use crate::board::Step;
-use crate::image::Image;
+use crate::image::{Image, Power};
+use crate::script::in_words;
 use crate::tables::{shorts, TICK};
-use ems::{Beacon, Report};
+use ems::{answer, Beacon, Module, Report};
 
 /// A value over time: each with the second from which on it stands.
 pub struct Track<T>(Vec<(u64, T)>);
@@ -15,40 +16,51 @@ impl<T: Copy + PartialEq> Track<T> {
 
     /// Takes down the value at a second, which is not before the last.
     fn at(&mut self, second: u64, value: T) {
-        match self.0.last_mut() {
-            Some((_, last)) if *last == value => {}
-            Some((when, last)) if *when == second => *last = value,
-            _ => self.0.push((second, value)),
+        if self.0.last().is_some_and(|&(when, _)| when == second) {
+            self.0.pop();
+        }
+        if self.0.last().is_none_or(|&(_, last)| last != value) {
+            self.0.push((second, value));
         }
     }
 
     /// Stretches of time with their value, up to an end.
-    pub fn stretches(&self, end: u64) -> Vec<(u64, u64, T)> {
+    pub fn stretches(&self, end: u64) -> impl Iterator<Item = Stretch<T>> + '_ {
         let ends = self.0.iter().skip(1).map(|&(second, _)| second);
         let stretches = self.0.iter().zip(ends.chain([end]));
-        stretches
-            .map(|(&(from, value), to)| (from, to, value))
-            .collect()
+        stretches.map(|(&(from, value), to)| Stretch { from, to, value })
     }
+}
 
-    /// The stretches in which something is true of the value, joined.
-    pub fn spans(&self, end: u64, is: impl Fn(T) -> bool) -> Vec<(u64, u64)> {
-        let mut spans: Vec<(u64, u64)> = Vec::new();
-        for (from, to, value) in self.stretches(end) {
-            match spans.last_mut() {
-                _ if !is(value) => {}
-                Some(last) if last.1 == from => last.1 = to,
-                _ => spans.push((from, to)),
-            }
-        }
-        spans
+/// A value, and the seconds from and to which it stands.
+#[derive(Clone, Copy)]
+pub struct Stretch<T> {
+    pub from: u64,
+    pub to: u64,
+    pub value: T,
+}
+
+/// A frame with a number of its sender's, or one that was refused.
+pub struct Event {
+    pub second: u64,
+    /// The frame's number.
+    pub n: u64,
+    /// The frame as a line of a script.
+    pub sent: String,
+    /// The answer, or the refusal.
+    pub answer: u8,
+}
+
+impl Event {
+    pub fn is_done(&self) -> bool {
+        self.answer == answer::DONE
     }
 }
 
 /// The state that is drawn, over time.
 pub struct Record {
     pub frames: u64,
-    seconds: u64,
+    pub seconds: u64,
     pub mode: Track<u8>,
     /// 0 before the first reading.
     pub tension: Track<u16>,
@@ -59,12 +71,14 @@ pub struct Record {
     pub failed: Track<u8>,
     /// Shorts seen in each second, at the second's begin.
     pub shorts: Track<u8>,
-    /// Frames with a serial: when, in words, and the answer.
-    pub orders: Vec<(u64, String, u8)>,
+    /// The tries that a module has left, where it has spent some.
+    pub tries: [Track<Option<u16>>; Module::ALL.len()],
+    /// Orders, thresholds, and what was refused.
+    pub events: Vec<Event>,
     /// When a beacon was due, and which.
     pub beacons: Vec<(u64, Beacon)>,
-    /// The frame that was refused, and with what.
-    pub refused: Option<(u64, u8)>,
+    /// The powers of a board that has seen nothing.
+    fresh: Image,
 }
 
 impl Record {
@@ -81,22 +95,26 @@ impl Record {
             on: Track::new(),
             failed: Track::new(),
             shorts: Track::new(),
-            orders: Vec::new(),
+            tries: Module::ALL.map(|_| Track::new()),
+            events: Vec::new(),
             beacons: Vec::new(),
-            refused: None,
+            fresh: *fresh,
         };
         record.state(fresh);
         record
     }
 
-    /// The flight's seconds; at least 1, so that there is something to draw.
-    pub fn end(&self) -> u64 {
-        self.seconds.max(1)
+    /// Takes down a frame.
+    pub fn add(&mut self, frame: &[u8], step: &Step) {
+        self.frames = step.n;
+        match step.outcome {
+            Ok(report) => self.passed(frame, step, &report),
+            Err(refusal) => self.event(frame, step, refusal),
+        }
     }
 
     /// Takes down a frame that has a report.
-    pub fn add(&mut self, frame: &[u8], step: &Step, report: &Report, words: impl Fn() -> String) {
-        self.frames = step.n;
+    fn passed(&mut self, frame: &[u8], step: &Step, report: &Report) {
         if report.kind == TICK {
             self.shorts.at(self.seconds, shorts(frame));
             self.seconds = step.seconds;
@@ -104,11 +122,20 @@ impl Record {
         }
         self.state(&step.after);
         if report.origin != 0 {
-            self.orders.push((self.seconds, words(), report.answer));
+            self.event(frame, step, report.answer);
         }
         if let Some(beacon) = Beacon::of(report.beacon) {
             self.beacons.push((self.seconds, beacon));
         }
+    }
+
+    fn event(&mut self, frame: &[u8], step: &Step, answer: u8) {
+        self.events.push(Event {
+            second: self.seconds,
+            n: step.n,
+            sent: in_words(frame),
+            answer,
+        });
     }
 
     fn state(&mut self, image: &Image) {
@@ -120,5 +147,15 @@ impl Record {
         self.requested.at(now, image.requests());
         self.on.at(now, image.on());
         self.failed.at(now, image.failed());
+        for (module, tries) in Module::ALL.into_iter().zip(&mut self.tries) {
+            let power = image.power(module);
+            tries.at(
+                now,
+                match power {
+                    Power::Off(left) if power != self.fresh.power(module) => Some(left),
+                    _ => None,
+                },
+            );
+        }
     }
 }

@@ -1,10 +1,13 @@
 //! The tension, and the two thresholds it is judged by.
 
-use super::scale::Scale;
-use super::svg::{short, Align, Svg};
-use super::{Record, LEFT, RIGHT};
+use super::record::Stretch;
+use super::svg::{polygon, short, Align, Svg};
+use super::view::View;
+use super::{LEFT, RIGHT};
 use crate::words::thousands;
 use std::fmt::Write;
+
+const HEIGHT: f64 = 190.0;
 
 /// Room for a label.
 const LABEL: f64 = 14.0;
@@ -12,6 +15,9 @@ const LABEL: f64 = 14.0;
 /// Millivolts between two lines of the grid, the first that gives few enough.
 const STEPS: [u16; 4] = [100, 200, 500, 1_000];
 const LINES: u16 = 8;
+
+/// The columns of the panel.
+const COLUMNS: usize = (RIGHT - LEFT) as usize;
 
 /// From millivolts to places.
 struct Height {
@@ -28,46 +34,58 @@ impl Height {
     }
 }
 
+/// A value that is drawn over time.
+struct Curve {
+    name: &'static str,
+    class: &'static str,
+    stretches: Vec<Stretch<u16>>,
+}
+
+impl Curve {
+    /// Whether a line would be a smear.
+    fn is_dense(&self) -> bool {
+        self.stretches.len() > COLUMNS
+    }
+}
+
 /// The panel; gives where it ends.
-pub fn draw(svg: &mut Svg, scale: &Scale, record: &Record, y: f64, tall: f64) -> f64 {
-    let height = height(record, y, y + tall);
+pub fn draw(svg: &mut Svg, view: &View, y: f64) -> f64 {
+    let curves = curves(view);
+    let height = height(&curves, y, y + HEIGHT);
     grid(svg, &height);
-    let end = record.end();
-    let tension: Vec<_> = record.tension.stretches(end);
-    let known = tension.into_iter().filter(|stretch| stretch.2 > 0);
-    let curves = [
-        (record.ascend.stretches(end), "ascend"),
-        (record.descend.stretches(end), "descend"),
-        (known.collect(), "curve"),
-    ];
-    for (stretches, class) in &curves {
-        svg.path(&steps(scale, &height, stretches), class);
+    // A line on a band has a white rim.
+    let rimmed = curves.iter().any(Curve::is_dense);
+    for curve in &curves {
+        line(svg, view, &height, curve, rimmed);
     }
-    let labels = ["ascend", "descend", "tension"].iter().zip(&curves);
-    let mut labels: Vec<(f64, String)> = labels
-        .filter_map(|(name, (stretches, _))| {
-            let last = stretches.last()?.2;
-            let text = format!("{name} {}", thousands(u64::from(last)));
-            Some((height.y(last) + 4.0, text))
-        })
-        .collect();
-    labels.sort_by(|a, b| a.0.total_cmp(&b.0));
-    let mut free = f64::MIN;
-    for (y, text) in labels {
-        let y = y.max(free);
-        svg.text(RIGHT + 4.0, y, 12, Align::Start, &text);
-        free = y + LABEL;
-    }
+    labels(svg, &height, &curves);
     svg.line(LEFT, height.bottom, RIGHT, height.bottom, "thin");
     height.bottom
 }
 
+/// The tension, where there is a reading, and over it the thresholds.
+fn curves(view: &View) -> [Curve; 3] {
+    let curve = |name, class, track| {
+        let mut stretches = view.stretches(track);
+        stretches.retain(|stretch| stretch.value > 0);
+        Curve {
+            name,
+            class,
+            stretches,
+        }
+    };
+    let record = view.record;
+    [
+        curve("tension", "curve", &record.tension),
+        curve("ascend", "ascend", &record.ascend),
+        curve("descend", "descend", &record.descend),
+    ]
+}
+
 /// The range that holds the tension and the thresholds.
-fn height(record: &Record, top: f64, bottom: f64) -> Height {
-    let end = record.end();
-    let tracks = [&record.tension, &record.ascend, &record.descend];
-    let values = tracks.iter().flat_map(|track| track.stretches(end));
-    let values: Vec<u16> = values.map(|stretch| stretch.2).filter(|&v| v > 0).collect();
+fn height(curves: &[Curve], top: f64, bottom: f64) -> Height {
+    let stretches = curves.iter().flat_map(|curve| &curve.stretches);
+    let values: Vec<u16> = stretches.map(|stretch| stretch.value).collect();
     let low = values.iter().min().copied().unwrap_or(0);
     let high = values.iter().max().copied().unwrap_or(0);
     Height {
@@ -92,15 +110,26 @@ fn grid(svg: &mut Svg, height: &Height) {
     }
 }
 
+/// A line from value to value, or a band from the least to the greatest.
+fn line(svg: &mut Svg, view: &View, height: &Height, curve: &Curve, rimmed: bool) {
+    if curve.is_dense() {
+        let about = format!("{}, the least to the greatest", curve.name);
+        svg.path(&band(view, height, &curve.stretches), "band", &about);
+        return;
+    }
+    let steps = steps(view, height, &curve.stretches);
+    if rimmed {
+        svg.path(&steps, "rim", "");
+    }
+    svg.path(&steps, curve.class, curve.name);
+}
+
 /// A line that steps from value to value.
-fn steps(scale: &Scale, height: &Height, stretches: &[(u64, u64, u16)]) -> String {
+fn steps(view: &View, height: &Height, stretches: &[Stretch<u16>]) -> String {
     let mut path = String::new();
-    for &(from, to, value) in stretches {
-        let (x1, x2, y) = (
-            short(scale.x(from)),
-            short(scale.x(to)),
-            short(height.y(value)),
-        );
+    for stretch in stretches {
+        let (x1, x2) = (short(view.x(stretch.from)), short(view.x(stretch.to)));
+        let y = short(height.y(stretch.value));
         // Writing to a string can't fail.
         let _ = match path.is_empty() {
             true => write!(path, "M{x1} {y}H{x2}"),
@@ -108,4 +137,43 @@ fn steps(scale: &Scale, height: &Height, stretches: &[(u64, u64, u16)]) -> Strin
         };
     }
     path
+}
+
+/// The shape between the greatest and the least value of every column.
+fn band(view: &View, height: &Height, stretches: &[Stretch<u16>]) -> String {
+    let mut columns: [Option<(u16, u16)>; COLUMNS + 1] = [None; COLUMNS + 1];
+    let column = |second: u64| (view.x(second) - LEFT) as usize;
+    for Stretch { from, to, value } in stretches {
+        for seen in &mut columns[column(*from)..=column(*to)] {
+            let (least, greatest) = seen.unwrap_or((*value, *value));
+            *seen = Some((least.min(*value), greatest.max(*value)));
+        }
+    }
+    let seen = columns.iter().enumerate().filter_map(|(at, seen)| {
+        let x = LEFT + at as f64;
+        seen.map(|(least, greatest)| (x, height.y(least), height.y(greatest)))
+    });
+    let seen: Vec<(f64, f64, f64)> = seen.collect();
+    let over = seen.iter().map(|&(x, _, greatest)| (x, greatest));
+    let under = seen.iter().rev().map(|&(x, least, _)| (x, least));
+    polygon(&over.chain(under).collect::<Vec<(f64, f64)>>())
+}
+
+/// The last values, beside the panel.
+fn labels(svg: &mut Svg, height: &Height, curves: &[Curve]) {
+    let mut labels: Vec<(f64, String)> = curves
+        .iter()
+        .filter_map(|curve| {
+            let last = curve.stretches.last()?.value;
+            let text = format!("{} {}", curve.name, thousands(u64::from(last)));
+            Some((height.y(last) + 4.0, text))
+        })
+        .collect();
+    labels.sort_by(|a, b| a.0.total_cmp(&b.0));
+    let mut free = f64::MIN;
+    for (y, text) in labels {
+        let y = y.max(free);
+        svg.beside(y, &text);
+        free = y + LABEL;
+    }
 }

@@ -4,36 +4,14 @@ use crate::tables::{kind_of, Field, Kind, Written};
 use crate::words;
 use ems::Module;
 
-/// The greatest number that a field's bytes hold.
-fn greatest(field: &Field) -> u64 {
-    (1 << (8 * field.bytes)) - 1
-}
-
-/// What may stand for a field, for people.
-pub fn expected(field: &Field) -> String {
-    let name = field.name;
-    let numbers = format!("a number 0 to {}", greatest(field));
-    match field.written {
-        Written::Number => format!("expected {name}: {numbers}"),
-        Written::Named(names) => {
-            let names: Vec<&str> = names.iter().map(|row| row.1).collect();
-            format!("expected {name}: {}, or {numbers}", names.join(", "))
-        }
-        Written::Modules => {
-            let names = Module::ALL.map(Module::name).join(", ");
-            format!("expected modules with commas between: {names}")
-        }
-    }
-}
-
 /// The value of a field's word.
 pub fn value(field: &Field, word: &str) -> Option<u64> {
     match field.written {
-        Written::Number => decimal(word, greatest(field)),
+        Written::Number => decimal(word, field.greatest()),
         Written::Named(names) => {
             let named = names.iter().find(|row| row.1.eq_ignore_ascii_case(word));
             named.map_or_else(
-                || decimal(word, greatest(field)),
+                || decimal(word, field.greatest()),
                 |&(number, _)| Some(u64::from(number)),
             )
         }

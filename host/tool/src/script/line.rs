@@ -1,11 +1,13 @@
 //! One line of a script.
 
-use super::fields::{self, decimal, value};
-use super::{mistake::Mistake, reader::Reader, Line};
+use super::expected::Expected;
+use super::fields::{decimal, value};
+use super::reader::{Reader, Wrong};
+use super::Line;
 use crate::tables::{Kind, Written, KINDS};
 
 /// What a line sends, if it isn't empty or a comment.
-pub fn parse(number: usize, text: &str) -> Result<Option<Line>, Mistake> {
+pub fn parse(number: usize, text: &str) -> Result<Option<Line>, Wrong<'_>> {
     let mut reader = Reader::new(number, text);
     if reader.peek().is_none() {
         return Ok(None);
@@ -13,11 +15,11 @@ pub fn parse(number: usize, text: &str) -> Result<Option<Line>, Mistake> {
     let (bytes, times) = if reader.peek().is_some_and(|word| same(word, RAW)) {
         (raw(&mut reader)?, 1)
     } else {
-        let kind = reader.take(kind_named, frames)?;
+        let kind = reader.take(kind_named, Expected::Frame)?;
         frame(&mut reader, kind)?
     };
     if reader.peek().is_some() {
-        return Err(reader.mistake("expected the end of the line".into()));
+        return Err(reader.wrong(Expected::End));
     }
     Ok(Some(Line {
         number,
@@ -27,7 +29,7 @@ pub fn parse(number: usize, text: &str) -> Result<Option<Line>, Mistake> {
 }
 
 /// What a line of bytes begins with.
-const RAW: &str = "raw";
+pub const RAW: &str = "raw";
 
 /// Capitals or not, it is the same word.
 fn same(word: &str, name: &str) -> bool {
@@ -38,32 +40,27 @@ fn kind_named(word: &str) -> Option<&'static Kind> {
     KINDS.iter().find(|kind| same(word, kind.name))
 }
 
-/// What a line may begin with.
-fn frames() -> String {
-    let names: Vec<&str> = KINDS.iter().map(|kind| kind.name).collect();
-    format!("expected a frame: {} or {RAW}", names.join(", "))
-}
-
 /// The bytes of a kind's frame, and how often it is sent.
-fn frame(reader: &mut Reader, kind: &Kind) -> Result<(Vec<u8>, u32), Mistake> {
-    let mut times = 1;
-    let mut after_name = if kind.repeats { "how often, " } else { "" };
+fn frame<'a>(reader: &mut Reader<'a>, kind: &'static Kind) -> Result<(Vec<u8>, u32), Wrong<'a>> {
     let numeric = |word: &str| word.starts_with(|c: char| c.is_ascii_digit());
-    if kind.repeats && reader.peek().is_some_and(numeric) {
-        times = reader.take(how_often, || format!("expected a number 1 to {}", u32::MAX))?;
-        after_name = "";
-    }
+    let counted = kind.repeats && reader.peek().is_some_and(numeric);
+    let times = match counted {
+        true => reader.take(how_often, Expected::Times)?,
+        false => 1,
+    };
     let mut bytes = vec![kind.byte];
     for field in kind.fields {
-        let mut given = 0;
-        if field.written != Written::Modules {
-            given = reader.take(|word| value(field, word), || fields::expected(field))?;
-        } else if reader.peek().is_some() {
-            let name = field.name;
-            let expected = || format!("expected {after_name}{name} or the end of the line");
-            reader.take(|word| same(word, name).then_some(()), expected)?;
-            given = reader.take(|word| value(field, word), || fields::expected(field))?;
-        }
+        let by_name = field.written == Written::Modules;
+        let given = if by_name && reader.peek().is_none() {
+            0
+        } else {
+            if by_name {
+                let times = kind.repeats && !counted;
+                let is_name = |word: &str| same(word, field.name).then_some(());
+                reader.take(is_name, Expected::Name { field, times })?;
+            }
+            reader.take(|word| value(field, word), Expected::Value(field))?
+        };
         bytes.extend(&given.to_be_bytes()[8 - field.bytes..]);
     }
     Ok((bytes, times))
@@ -76,12 +73,11 @@ fn how_often(word: &str) -> Option<u32> {
 }
 
 /// The bytes of a `raw` line.
-fn raw(reader: &mut Reader) -> Result<Vec<u8>, Mistake> {
+fn raw<'a>(reader: &mut Reader<'a>) -> Result<Vec<u8>, Wrong<'a>> {
     reader.skip();
     let mut bytes = Vec::new();
     while bytes.is_empty() || reader.peek().is_some() {
-        let byte = reader.take(byte, || "expected a byte: two hexadecimal digits".into())?;
-        bytes.push(byte);
+        bytes.push(reader.take(byte, Expected::Byte)?);
     }
     Ok(bytes)
 }

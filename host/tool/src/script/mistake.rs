@@ -1,83 +1,119 @@
-//! What is wrong with a script: where, and what was expected there.
+//! A mistake as it is shown: its place, what was expected there, and the line.
 
-use std::fmt::Write;
+use super::expected::Expected;
+use super::reader::Wrong;
+use crate::few::Few;
+use crate::words::{thousands, visible};
+use unicode_width::UnicodeWidthChar;
 
-/// At most so many are shown; the rest are counted.
-const SHOWN: usize = 10;
+/// Of a long line, so many characters are shown before the wrong word, and so
+/// many from its begin on.
+const BEFORE: usize = 40;
+const FROM: usize = 60;
+
+/// Stands for what is left out.
+const CUT: &str = "...";
+
+/// Everything wrong with a script: the first few, and how many more there are.
+pub type Mistakes = Few<Mistake>;
 
 /// One thing wrong.
 #[derive(Debug)]
 pub struct Mistake {
-    /// The line's number, from 1.
-    pub line: usize,
+    line: usize,
     /// The column of its first character, from 1.
-    pub column: usize,
-    /// How many characters are wrong; at least one is pointed at.
-    pub width: usize,
-    pub expected: String,
-    /// The whole line.
-    pub text: String,
+    column: usize,
+    expected: Expected,
+    /// The line, and under it what points at the wrong word.
+    text: String,
+    carets: String,
 }
 
 impl Mistake {
-    /// Bytes that are no text from a byte on.
-    pub fn not_text(bytes: &[u8], from: usize) -> Mistake {
-        let before = String::from_utf8_lossy(&bytes[..from]);
-        let last = before.rsplit('\n').next().unwrap_or_default();
+    pub fn of(wrong: &Wrong) -> Mistake {
+        let Wrong {
+            line,
+            text,
+            at,
+            word,
+            expected,
+        } = *wrong;
+        let (before, from) = text.split_at(at);
+        let (shown_before, shown_from) = (last(before, BEFORE), first(from, FROM));
+        let pointed: String = shown_from
+            .chars()
+            .take(word.map_or(1, |word| word.chars().count()))
+            .collect();
+        // A missing word would stand after a blank.
+        let (blanks, carets) = match word {
+            Some(_) => ("", width(&pointed).max(1)),
+            None => (" ", 1),
+        };
         Mistake {
-            line: 1 + before.matches('\n').count(),
-            column: 1 + last.chars().count(),
-            width: 1,
-            expected: "expected text in UTF-8 (for a stream of bytes, use `--as bytes`)".into(),
-            text: last.to_string(),
+            line,
+            column: 1 + before.chars().count() + blanks.len(),
+            expected,
+            text: drawn(&(shown_before.clone() + &shown_from)),
+            carets: blank(&shown_before) + blanks + &"^".repeat(carets),
         }
     }
 
-    /// File, line, column, what was expected; the line, and what is wrong in it.
     fn show(&self, file: &str) -> String {
         let Mistake {
             line,
             column,
             expected,
             text,
-            ..
+            carets,
         } = self;
-        // Tabs stay, so that the carets stand where the text does.
-        let indent: String = text
-            .chars()
-            .take(column - 1)
-            .map(|c| if c == '\t' { c } else { ' ' })
-            .collect();
-        let padding = " ".repeat((column - 1).saturating_sub(indent.chars().count()));
-        let carets = "^".repeat(self.width.max(1));
-        format!("{file}:{line}:{column}: {expected}\n    {text}\n    {indent}{padding}{carets}")
+        format!("{file}:{line}:{column}: {expected}\n    {text}\n    {carets}")
     }
 }
-
-/// Everything wrong with a script.
-#[derive(Debug)]
-pub struct Mistakes(Vec<Mistake>);
 
 impl Mistakes {
     /// All of it, for standard error.
-    pub fn show(&self, file: &str) -> String {
-        let shown: Vec<String> = self.0.iter().take(SHOWN).map(|m| m.show(file)).collect();
-        let mut text = shown.join("\n");
-        if let Some(more) = self.0.len().checked_sub(SHOWN + 1) {
-            let _ = write!(text, "\n{file}: and {} more", more + 1);
+    pub fn show(&self, file: &str) -> Vec<String> {
+        let mut messages: Vec<String> = self.kept().iter().map(|one| one.show(file)).collect();
+        if self.more() > 0 {
+            messages.push(format!("{file}: and {} more", thousands(self.more())));
         }
-        text
+        messages
     }
 }
 
-impl From<Mistake> for Mistakes {
-    fn from(mistake: Mistake) -> Mistakes {
-        Mistakes(vec![mistake])
+/// The last characters of a text.
+fn last(text: &str, count: usize) -> String {
+    match text.char_indices().rev().nth(count) {
+        Some((at, c)) => CUT.to_string() + &text[at + c.len_utf8()..],
+        None => text.to_string(),
     }
 }
 
-impl From<Vec<Mistake>> for Mistakes {
-    fn from(mistakes: Vec<Mistake>) -> Mistakes {
-        Mistakes(mistakes)
+/// The first characters of a text.
+fn first(text: &str, count: usize) -> String {
+    match text.char_indices().nth(count) {
+        Some((at, _)) => text[..at].to_string() + CUT,
+        None => text.to_string(),
     }
+}
+
+/// A part of a line as it is shown. Tabs stay: what points at it has them too.
+fn drawn(text: &str) -> String {
+    let parts: Vec<String> = text.split('\t').map(visible).collect();
+    parts.join("\t")
+}
+
+/// Blanks as wide as a text.
+fn blank(text: &str) -> String {
+    let parts: Vec<String> = text
+        .split('\t')
+        .map(|part| " ".repeat(width(part)))
+        .collect();
+    parts.join("\t")
+}
+
+/// The columns that a text takes on a screen.
+fn width(text: &str) -> usize {
+    let text = visible(text);
+    text.chars().map(|c| c.width().unwrap_or(0)).sum()
 }

@@ -1,83 +1,87 @@
 //! A line's words, taken one by one.
 
-use super::mistake::Mistake;
-
-/// A word and the column of its first character, from 1.
-type Word<'a> = (usize, &'a str);
+use super::expected::Expected;
 
 /// What is left of a line that is being read.
 pub struct Reader<'a> {
     number: usize,
     text: &'a str,
-    words: Vec<Word<'a>>,
-    next: usize,
+    /// Where the last word ended, and where the next one begins.
+    end: usize,
+    next: Option<(usize, &'a str)>,
+}
+
+/// What is wrong with a line: where, and what was expected there.
+#[derive(Debug)]
+pub struct Wrong<'a> {
+    /// The line's number, from 1.
+    pub line: usize,
+    /// The whole line.
+    pub text: &'a str,
+    /// Where in it the wrong word begins, in bytes; or the last one ends, after
+    /// which one is missing.
+    pub at: usize,
+    pub word: Option<&'a str>,
+    pub expected: Expected,
 }
 
 impl<'a> Reader<'a> {
     pub fn new(number: usize, text: &'a str) -> Reader<'a> {
-        let sent = text.split('#').next().unwrap_or_default();
-        let words = words(sent);
-        Reader {
+        let mut reader = Reader {
             number,
             text,
-            words,
-            next: 0,
-        }
+            end: 0,
+            next: None,
+        };
+        reader.next = reader.word();
+        reader
     }
 
     pub fn peek(&self) -> Option<&'a str> {
-        self.words.get(self.next).map(|&(_, word)| word)
+        self.next.map(|(_, word)| word)
     }
 
     /// Leaves the next word.
     pub fn skip(&mut self) {
-        self.next += 1;
+        if let Some((at, word)) = self.next {
+            self.end = at + word.len();
+            self.next = self.word();
+        }
     }
 
-    /// Takes the next word if it means something; else that is a mistake.
+    /// Takes the next word if it means something; else that is wrong.
     pub fn take<T>(
         &mut self,
         meaning: impl Fn(&str) -> Option<T>,
-        expected: impl Fn() -> String,
-    ) -> Result<T, Mistake> {
+        expected: Expected,
+    ) -> Result<T, Wrong<'a>> {
         match self.peek().and_then(meaning) {
             Some(value) => {
                 self.skip();
                 Ok(value)
             }
-            None => Err(self.mistake(expected())),
+            None => Err(self.wrong(expected)),
         }
     }
 
-    /// A mistake at the next word, or after the last.
-    pub fn mistake(&self, expected: String) -> Mistake {
-        let after = |&(column, word): &Word| (column + word.chars().count() + 1, "");
-        let at = self.words.get(self.next).copied();
-        let (column, word) = at
-            .or_else(|| self.words.last().map(after))
-            .unwrap_or((1, ""));
-        Mistake {
+    /// The next word is wrong, or there is one missing after the last.
+    pub fn wrong(&self, expected: Expected) -> Wrong<'a> {
+        Wrong {
             line: self.number,
-            column,
-            width: word.chars().count(),
+            text: self.text,
+            at: self.next.map_or(self.end, |(at, _)| at),
+            word: self.peek(),
             expected,
-            text: self.text.to_string(),
         }
     }
-}
 
-/// The words of a text with their columns.
-fn words(text: &str) -> Vec<Word<'_>> {
-    let mut words = Vec::new();
-    let mut rest = text;
-    let mut column = 1;
-    while let Some(begin) = rest.find(|c: char| !c.is_whitespace()) {
-        column += rest[..begin].chars().count();
-        rest = &rest[begin..];
-        let (word, after) = rest.split_at(rest.find(char::is_whitespace).unwrap_or(rest.len()));
-        words.push((column, word));
-        column += word.chars().count();
-        rest = after;
+    /// The first word after the last one's end, up to a comment.
+    fn word(&self) -> Option<(usize, &'a str)> {
+        let rest = &self.text[self.end..];
+        let at = rest.find(|c: char| !c.is_whitespace())?;
+        let rest = &rest[at..];
+        let length = rest.find(|c: char| c.is_whitespace() || c == '#');
+        let word = &rest[..length.unwrap_or(rest.len())];
+        (!word.is_empty()).then_some((self.end + at, word))
     }
-    words
 }

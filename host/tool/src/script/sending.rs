@@ -1,10 +1,13 @@
 //! A script on its way: lines as bytes, one after the other.
 
-use super::Line;
+use super::{line, Line, Script};
 
 /// The bytes that a script's lines send, each with its line's number.
 pub struct Sending {
-    lines: std::vec::IntoIter<Line>,
+    text: String,
+    /// Where the next line begins, and how many have begun before it.
+    next: usize,
+    lines: usize,
     line: Option<Line>,
     /// How often the line has been sent, and how much of it since.
     sent: u32,
@@ -12,14 +15,29 @@ pub struct Sending {
 }
 
 impl Sending {
-    pub fn new(lines: Vec<Line>) -> Sending {
-        let mut lines = lines.into_iter();
-        let line = lines.next();
-        Sending {
-            lines,
-            line,
+    pub fn new(script: Script) -> Sending {
+        let mut sending = Sending {
+            text: script.text,
+            next: 0,
+            lines: 0,
+            line: None,
             sent: 0,
             at: 0,
+        };
+        sending.line = sending.next_line();
+        sending
+    }
+
+    /// The next line that sends something. None is wrong: they were all looked at.
+    fn next_line(&mut self) -> Option<Line> {
+        loop {
+            let whole = self.text[self.next..].split_inclusive('\n').next()?;
+            self.next += whole.len();
+            self.lines += 1;
+            let line = whole.lines().next().unwrap_or_default();
+            if let Ok(Some(line)) = line::parse(self.lines, line) {
+                return Some(line);
+            }
         }
     }
 }
@@ -38,7 +56,7 @@ impl Iterator for Sending {
             self.sent += 1;
             if self.sent == line.times {
                 self.sent = 0;
-                self.line = self.lines.next();
+                self.line = self.next_line();
             }
         }
     }

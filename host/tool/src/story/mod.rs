@@ -88,8 +88,7 @@ fn requests(before: &Image, after: &Image) -> Vec<String> {
 
 /// What came of a frame that has a report: the answer, and what changed.
 pub fn outcome(frame: &[u8], step: &Step, report: &Report) -> String {
-    let (serial, last) = (report.serial, step.before.serial(report.origin));
-    let origin = || word_of(frame, "origin");
+    let serial = report.serial;
     match report.answer {
         answer::DONE => {
             let changes = changes(&step.before, &step.after, 0);
@@ -99,22 +98,31 @@ pub fn outcome(frame: &[u8], step: &Step, report: &Report) -> String {
                 format!("done, {}", changes.join("; "))
             }
         }
-        answer::REPEAT => {
-            format!(
-                "8, {serial} is a repeat of {}'s last order: nothing moved",
-                origin()
-            )
-        }
-        answer::STALE => {
-            format!(
-                "9, {serial} is stale, {}'s last order was {last}: nothing moved",
-                origin()
-            )
-        }
+        answer::REPEAT => match last_number(step, report) {
+            Some((origin, _)) => {
+                format!("8, {serial} is a repeat of {origin}'s last number: nothing moved")
+            }
+            None => format!("8, {serial} is the number that a board begins with: nothing moved"),
+        },
+        answer::STALE => match last_number(step, report) {
+            Some((origin, last)) => {
+                format!("9, {serial} is stale, {origin}'s last number was {last}: nothing moved")
+            }
+            None => {
+                let begin = step.before.serial(report.origin);
+                format!("9, {serial} is stale beside the {begin} that a board begins with: nothing moved")
+            }
+        },
         answer::NOT_NOW => {
             let (module, mode) = (word_of(frame, "module"), tables::mode(report.mode));
             format!("10, {module} is not switched on in {mode}; {serial} is used up")
         }
         other => tables::answer(other),
     }
+}
+
+/// The sender of a frame and its last number, if the board has had one from it.
+fn last_number(step: &Step, report: &Report) -> Option<(&'static str, u16)> {
+    let origin = tables::origin(report.origin).filter(|_| step.numbered)?;
+    Some((origin, step.before.serial(report.origin)))
 }

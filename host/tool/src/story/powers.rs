@@ -33,12 +33,8 @@ fn fate(before: Power, after: Power, short: bool) -> Option<String> {
         (Power::On, Power::Off(_)) if short => Some("off, shorted".to_string()),
         (Power::On, Power::Off(_)) => Some("off".to_string()),
         (Power::Off(was), Power::Off(is)) if is < was => {
-            let left = if is == 1 {
-                "1 try".into()
-            } else {
-                format!("{is} tries")
-            };
-            Some(format!("shorted at its start, {left} left"))
+            let tries = count(u64::from(is), "try");
+            Some(format!("shorted at its start, {tries} left"))
         }
         (Power::Failed(was), Power::Failed(left)) if left > was => {
             Some(format!("shorted at its start, {} to wait", again(left)))

@@ -36,10 +36,22 @@ pub struct Kind {
     pub repeats: bool,
 }
 
+impl Field {
+    /// The greatest number that its bytes hold.
+    pub fn greatest(&self) -> u64 {
+        (1 << (8 * self.bytes)) - 1
+    }
+}
+
 impl Kind {
     /// The frame's length, kind included.
     pub fn total(&self) -> usize {
         1 + self.fields.iter().map(|field| field.bytes).sum::<usize>()
+    }
+
+    /// Whether its frames have a sender and a number.
+    pub fn is_numbered(&self) -> bool {
+        self.fields.iter().any(|field| field.name == ORIGIN.name)
     }
 }
 
@@ -70,7 +82,10 @@ const fn modules(name: &'static str) -> Field {
     }
 }
 
-const ORIGIN: Field = named("origin", &[(1, "ground"), (2, "payload")]);
+/// Who sends orders.
+const ORIGINS: [(u8, &str); 2] = [(1, "ground"), (2, "payload")];
+
+const ORIGIN: Field = named("origin", &ORIGINS);
 const SERIAL: Field = number("serial", 2);
 const MODULE: Field = named("module", &MODULES);
 
@@ -102,7 +117,7 @@ pub const BATTERY: u8 = 0x02;
 /// The kind that brings the antennas' position.
 const ANTENNAS: u8 = 0x03;
 /// The kind that asks for a module, on or off.
-const ORDER: u8 = 0x04;
+pub const ORDER: u8 = 0x04;
 /// The kind that sets both thresholds.
 const THRESHOLDS: u8 = 0x05;
 
@@ -141,6 +156,12 @@ pub fn shorts(frame: &[u8]) -> u8 {
         [TICK, mask] => *mask,
         _ => 0,
     }
+}
+
+/// The name of a sender, if there is one with this number.
+pub fn origin(number: u8) -> Option<&'static str> {
+    let named = ORIGINS.iter().find(|row| row.0 == number);
+    named.map(|&(_, name)| name)
 }
 
 /// The kind with this first byte, if it is one that is read.

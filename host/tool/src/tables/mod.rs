@@ -5,8 +5,8 @@
 mod frames;
 mod names;
 
-pub use frames::{kind_of, shorts, Field, Kind, Written, BATTERY, KINDS, TICK};
-pub use names::{answer, beacon, meaning, mode};
+pub use frames::{kind_of, origin, shorts, Field, Kind, Written, BATTERY, KINDS, ORDER, TICK};
+pub use names::{answer, beacon, loses_the_cut, meaning, mode};
 
 /// The library is asked whether it sees the same.
 #[cfg(test)]

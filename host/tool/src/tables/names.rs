@@ -4,7 +4,7 @@ use ems::{answer, Beacon, Mode};
 
 /// A mode's name, or its number where there is no such mode.
 pub fn mode(number: u8) -> String {
-    Mode::of(number).map_or_else(|| number.to_string(), |mode| mode.to_string())
+    Mode::of(number).map_or_else(|| format!("mode {number}"), |mode| mode.to_string())
 }
 
 /// The name of the beacon that is due, or its number where there is no such one.
@@ -24,6 +24,11 @@ pub fn answer(number: u8) -> String {
 /// What an answer's number says.
 pub fn meaning(number: u8) -> &'static str {
     row(number).1
+}
+
+/// Whether nobody can tell where the frame after a refused one begins.
+pub fn loses_the_cut(refusal: u8) -> bool {
+    matches!(refusal, answer::UNKNOWN_KIND | answer::BAD_LENGTH)
 }
 
 /// An answer's name and what it says; nothing where there is no such answer.
@@ -46,11 +51,8 @@ fn row(number: u8) -> (&'static str, &'static str) {
             "not permitted",
             "the payload asks for what only the ground may",
         ),
-        answer::REPEAT => ("repeat", "the serial is that of the origin's last order"),
-        answer::STALE => (
-            "stale",
-            "the serial lies behind that of the origin's last order",
-        ),
+        answer::REPEAT => ("repeat", "the serial is the origin's last one"),
+        answer::STALE => ("stale", "the serial lies behind the origin's last one"),
         answer::NOT_NOW => (
             "not now",
             "a mission module is switched on in SAFE only; the serial is used up",

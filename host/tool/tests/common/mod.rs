@@ -2,10 +2,17 @@
 
 #![allow(dead_code)] // Each test file is a program and uses its part.
 
-use std::io::Write;
+pub mod picture;
+
+use assert_cmd::Command;
 use std::path::{Path, PathBuf};
-use std::process::{Command, Output, Stdio};
+use std::process::Output;
+use std::time::Duration;
 use std::{env, fs};
+use tempfile::TempDir;
+
+/// Longer than anything takes that is tested.
+const PATIENCE: Duration = Duration::from_secs(60);
 
 /// What a run of `ems` gave.
 #[derive(Debug)]
@@ -16,7 +23,7 @@ pub struct Ran {
 }
 
 impl Ran {
-    fn of(output: Output) -> Ran {
+    pub fn of(output: Output) -> Ran {
         Ran {
             status: output.status.code().expect("it ended by itself"),
             out: output.stdout,
@@ -41,6 +48,12 @@ impl Ran {
         assert_eq!(self.err.lines().count(), 1, "{}", self.err);
         self
     }
+
+    /// Asserts that the result holds a text.
+    pub fn prints(self, text: &str) -> Ran {
+        assert!(self.text().contains(text), "{} lacks {text:?}", self.text());
+        self
+    }
 }
 
 /// The repository's top folder.
@@ -48,50 +61,50 @@ pub fn root() -> PathBuf {
     Path::new(env!("CARGO_MANIFEST_DIR")).join("../..")
 }
 
+/// The binary.
+pub fn ems() -> PathBuf {
+    assert_cmd::cargo::cargo_bin("ems")
+}
+
 /// `ems` with arguments, in the repository's top folder.
 pub fn command(args: &[&str]) -> Command {
-    let mut command = Command::new(env!("CARGO_BIN_EXE_ems"));
-    command.args(args).current_dir(root());
+    let mut command = Command::new(ems());
+    command.args(args).current_dir(root()).timeout(PATIENCE);
     command
 }
 
 pub fn run(args: &[&str]) -> Ran {
-    let output = command(args).stdin(Stdio::null()).output();
-    Ran::of(output.expect("ems runs"))
+    Ran::of(command(args).output().expect("ems runs"))
 }
 
 /// `ems` with something on its standard input.
 pub fn fed(args: &[&str], input: &[u8]) -> Ran {
     let mut command = command(args);
-    command
-        .stdin(Stdio::piped())
-        .stdout(Stdio::piped())
-        .stderr(Stdio::piped());
-    let mut child = command.spawn().expect("ems runs");
-    let mut stdin = child.stdin.take().expect("it has an input");
-    let input = input.to_vec();
-    // It may end before it has read everything.
-    let feeder = std::thread::spawn(move || drop(stdin.write_all(&input)));
-    let output = child.wait_with_output().expect("ems ends");
-    feeder.join().expect("the input is given");
-    Ran::of(output)
+    Ran::of(command.write_stdin(input).output().expect("ems runs"))
+}
+
+/// A line of bash, in which `$ems` is the binary.
+pub fn bash(line: &str) -> Ran {
+    let mut command = Command::new("bash");
+    command.args(["-c", line]).env("ems", ems());
+    command.current_dir(root()).timeout(PATIENCE);
+    Ran::of(command.output().expect("bash runs"))
 }
 
 /// A file of the test's own, with a content.
-pub fn scratch(name: &str, content: &[u8]) -> String {
+pub fn scratch(name: &str, content: impl AsRef<[u8]>) -> String {
     let path = place(name);
     fs::write(&path, content).expect("a scratch file");
     path
 }
 
-/// Where a file of the test's own goes: tests run side by side.
+/// Where a file of the test's own goes: each test has a thread, and a folder that
+/// goes with it.
 pub fn place(name: &str) -> String {
-    let test = std::thread::current()
-        .name()
-        .map(|name| name.replace(':', "_"));
-    let folder = Path::new(env!("CARGO_TARGET_TMPDIR")).join(test.unwrap_or_default());
-    fs::create_dir_all(&folder).expect("a scratch folder");
-    let path = folder.join(name);
+    thread_local! {
+        static FOLDER: TempDir = TempDir::new().expect("a scratch folder");
+    }
+    let path = FOLDER.with(|folder| folder.path().join(name));
     path.to_str().expect("its name is text").to_string()
 }
 

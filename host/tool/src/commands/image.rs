@@ -1,0 +1,106 @@
+//! `ems image`: a board's image in words.
+
+use crate::args;
+use crate::failure::{Failure, USAGE};
+use crate::flight::Flight;
+use crate::image::{fields, Image, BYTES};
+use crate::output::Output;
+use crate::source;
+use crate::words::{count, hex, thousands, visible};
+use std::io::{self, Write};
+use std::path::Path;
+
+pub fn run(args: &args::Image) -> Result<(), Failure> {
+    match (&args.file, &args.after) {
+        (Some(file), _) => read(file, args.hex),
+        (None, Some(flight)) => after(flight, args),
+        (None, None) => Err(Failure::usage("an image or --after is missing")),
+    }
+}
+
+/// The image in a file; it may be none.
+fn read(file: &Path, is_hex: bool) -> Result<(), Failure> {
+    let (name, content) = source::whole(file)?;
+    let bytes = match is_hex {
+        true => unhexed(&name, &content)?,
+        false => content,
+    };
+    let Some(image) = Image::maybe(&bytes) else {
+        return Err(other_length(&name, &bytes));
+    };
+    let mut output = Output::standard()?;
+    print(&mut output, &image)?;
+    output.flush()?;
+    let wrong = |(field, why)| {
+        let number = thousands(u64::from(image.number(&field)));
+        format!(
+            "{name}: no state has this image: {} is {number}, {why}",
+            field.name
+        )
+    };
+    let messages: Vec<String> = image.faults().iter().cloned().map(wrong).collect();
+    match messages.is_empty() {
+        true => Ok(()),
+        false => Err(Failure {
+            status: USAGE,
+            messages,
+        }),
+    }
+}
+
+/// The image of a board after a flight.
+fn after(file: &Path, args: &args::Image) -> Result<(), Failure> {
+    let (file, kind) = (file.to_path_buf(), args.kind);
+    let mut flight = Flight::going(&args::Flight { file, kind }, args.keep_going)?;
+    while flight.step()?.is_some() {}
+    let mut output = Output::standard()?;
+    print(&mut output, &flight.board.image())?;
+    output.flush()?;
+    flight.end()
+}
+
+/// Every field: where it begins, its bytes, its name, and what it says.
+fn print(output: &mut Output, image: &Image) -> io::Result<()> {
+    writeln!(output, "at  bytes     field     says")?;
+    for field in fields() {
+        let number = image.number(&field);
+        let said = (field.says)(number);
+        let said =
+            said.unwrap_or_else(|| format!("{}, which no state has", thousands(u64::from(number))));
+        let (at, bytes, name) = (field.at, hex(image.bytes(&field)), field.name);
+        writeln!(output, "{at:>2}  {bytes:9} {name:9} {said}")?;
+    }
+    Ok(())
+}
+
+/// The bytes that a text has in hexadecimal digits, with blanks between or none.
+fn unhexed(name: &str, text: &[u8]) -> Result<Vec<u8>, Failure> {
+    let digits = text.iter().filter(|byte| !byte.is_ascii_whitespace());
+    let digits: Vec<u8> = digits.copied().collect();
+    let value = |digit: &u8| char::from(*digit).to_digit(16);
+    if let Some(at) = digits.iter().position(|digit| value(digit).is_none()) {
+        let found = String::from_utf8_lossy(&digits[at..digits.len().min(at + 1)]).into_owned();
+        let message = format!("{name}: `{}` is no hexadecimal digit", visible(&found));
+        return Err(Failure::usage(message));
+    }
+    let pairs = digits.chunks(2).map(|pair| {
+        let pair = pair.iter().filter_map(value);
+        pair.fold(0, |byte, digit| 16 * byte + digit as u8)
+    });
+    match digits.len() % 2 {
+        0 => Ok(pairs.collect()),
+        _ => Err(Failure::usage(format!(
+            "{name}: the last byte has one digit"
+        ))),
+    }
+}
+
+/// Bytes that are too few or too many; and what they may be.
+fn other_length(name: &str, bytes: &[u8]) -> Failure {
+    let length = count(bytes.len() as u64, "byte");
+    let message = format!("{name} has {length}, and an image has {BYTES}");
+    let is_text = |byte: &u8| byte.is_ascii_hexdigit() || byte.is_ascii_whitespace();
+    let like_hex = !bytes.is_empty() && bytes.iter().all(is_text);
+    let hint = like_hex.then_some("; it looks like hex: `--hex` reads it so");
+    Failure::usage(message + hint.unwrap_or_default())
+}

@@ -1,0 +1,204 @@
+//! The layout of the image, as `include/ems.h` has it: a row for each field, and
+//! what its number says. Every number has its low byte first.
+
+use crate::words::{count, thousands};
+use ems::{Mode, Module};
+
+/// The bytes of an image.
+pub const BYTES: usize = 34;
+
+/// A field: its name, where it begins, its bytes, and what its number says.
+#[derive(Clone, Copy)]
+pub struct Field {
+    pub name: &'static str,
+    pub at: usize,
+    pub bytes: usize,
+    /// What a number says; none where no state has it.
+    pub says: fn(u32) -> Option<String>,
+    /// The numbers that states have.
+    pub range: &'static str,
+}
+
+pub const VERSION: Field = field("version", 0, 1, version, "2");
+pub const MODE: Field = field("mode", 1, 3, mode, "0 to 87,301");
+pub const CONTROL: Field = field("control", 4, 1, control, "0 to 29");
+pub const BEACON: Field = field("beacon", 5, 2, beacon, "0 to 299");
+pub const ANTENNAS: Field = field("antennas", 7, 1, antennas, "0 or 1");
+pub const TENSION: Field = field("tension", 8, 2, tension, "0, or 5,000 to 9,000");
+pub const ASCEND: Field = field("ascend", 10, 2, millivolts, "5,000 to 9,000");
+pub const DESCEND: Field = field("descend", 12, 2, millivolts, "5,000 to 9,000");
+pub const GROUND: Field = field("ground", 14, 2, serial, "any");
+pub const PAYLOAD: Field = field("payload", 16, 2, serial, "any");
+
+/// The first of the modules; each next one follows the one before.
+const MODULE: Field = field("", 18, 2, module, "0 to 606, nor so much and 32,768");
+
+const fn field(
+    name: &'static str,
+    at: usize,
+    bytes: usize,
+    says: fn(u32) -> Option<String>,
+    range: &'static str,
+) -> Field {
+    Field {
+        name,
+        at,
+        bytes,
+        says,
+        range,
+    }
+}
+
+/// The fields before the modules.
+const HEAD: [Field; 10] = [
+    VERSION, MODE, CONTROL, BEACON, ANTENNAS, TENSION, ASCEND, DESCEND, GROUND, PAYLOAD,
+];
+
+/// All fields, in their order.
+pub fn fields() -> impl Iterator<Item = Field> {
+    HEAD.into_iter().chain(Module::ALL.map(of_module))
+}
+
+/// A module's field.
+pub fn of_module(module: Module) -> Field {
+    Field {
+        name: module.name(),
+        at: MODULE.at + MODULE.bytes * usize::from(module.number()),
+        ..MODULE
+    }
+}
+
+fn version(number: u32) -> Option<String> {
+    (number == 2).then(|| "2".to_string())
+}
+
+fn mode(number: u32) -> Option<String> {
+    Watch::of(number).map(Watch::said)
+}
+
+fn control(number: u32) -> Option<String> {
+    (number < 30).then(|| format!("{number} of 30 seconds"))
+}
+
+fn beacon(number: u32) -> Option<String> {
+    (number < 300).then(|| format!("{number} of 300 seconds"))
+}
+
+fn antennas(number: u32) -> Option<String> {
+    match number {
+        0 => Some("folded".to_string()),
+        1 => Some("deployed".to_string()),
+        _ => None,
+    }
+}
+
+fn tension(number: u32) -> Option<String> {
+    match number {
+        0 => Some("no reading yet".to_string()),
+        number => millivolts(number),
+    }
+}
+
+fn millivolts(number: u32) -> Option<String> {
+    let said = || format!("{} mV", thousands(u64::from(number)));
+    (5_000..=9_000).contains(&number).then(said)
+}
+
+fn serial(number: u32) -> Option<String> {
+    Some(format!("last number {number}"))
+}
+
+fn module(number: u32) -> Option<String> {
+    Supply::of(number).map(Supply::said)
+}
+
+/// The mode, and what a board in DEPLOY_WAIT does.
+#[derive(Clone, Copy, Debug, PartialEq, Eq)]
+pub enum Watch {
+    /// For so many seconds, for the antennas.
+    Waiting(u32),
+    /// With so many seconds left.
+    Settling(u32),
+    Recovery,
+    Safe,
+}
+
+impl Watch {
+    /// What the mode's number says.
+    pub fn of(number: u32) -> Option<Watch> {
+        match number {
+            0..=86_399 => Some(Watch::Waiting(number)),
+            86_400..=87_299 => Some(Watch::Settling(number - 86_399)),
+            87_300 => Some(Watch::Recovery),
+            87_301 => Some(Watch::Safe),
+            _ => None,
+        }
+    }
+
+    fn said(self) -> String {
+        let mode = self.mode();
+        let seconds = |seconds: u32| count(u64::from(seconds), "second");
+        match self {
+            Watch::Waiting(waited) => {
+                format!("{mode}, {} waited for the antennas", seconds(waited))
+            }
+            Watch::Settling(left) => format!("{mode}, settling, {} left", seconds(left)),
+            Watch::Recovery | Watch::Safe => mode.to_string(),
+        }
+    }
+
+    pub fn mode(self) -> Mode {
+        match self {
+            Watch::Waiting(_) | Watch::Settling(_) => Mode::DeployWait,
+            Watch::Recovery => Mode::Recovery,
+            Watch::Safe => Mode::Safe,
+        }
+    }
+}
+
+/// A module's power.
+#[derive(Clone, Copy, Debug, PartialEq, Eq)]
+pub enum Power {
+    On,
+    /// With so many tries left.
+    Off(u16),
+    /// With so many seconds left.
+    Failed(u16),
+}
+
+/// A module's power, and whether it is requested on.
+#[derive(Clone, Copy, Debug, PartialEq, Eq)]
+pub struct Supply {
+    pub power: Power,
+    pub requested: bool,
+}
+
+impl Supply {
+    /// What a module's number says.
+    pub fn of(number: u32) -> Option<Supply> {
+        const REQUESTED: u16 = 32_768;
+        let number = u16::try_from(number).ok()?;
+        let power = match number % REQUESTED {
+            0 => Power::On,
+            tries @ 1..=5 => Power::Off(tries),
+            more @ 6..=606 => Power::Failed(more - 6),
+            _ => return None,
+        };
+        let requested = number >= REQUESTED;
+        Some(Supply { power, requested })
+    }
+
+    fn said(self) -> String {
+        let power = match self.power {
+            Power::On => "on".to_string(),
+            Power::Off(tries) => format!("off, {} left", count(u64::from(tries), "try")),
+            Power::Failed(left) => format!("failed, {} left", count(u64::from(left), "second")),
+        };
+        let requested = if self.requested {
+            "requested"
+        } else {
+            "not requested"
+        };
+        format!("{power}, {requested}")
+    }
+}

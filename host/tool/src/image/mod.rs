@@ -1,0 +1,268 @@
+//! The board's state, read off an image.
+
+mod layout;
+mod old;
+
+pub use layout::{fields, Field, Power, BYTES};
+
+use ems::{Mode, Module};
+use layout::{
+    of_module, Supply, Watch, ANTENNAS, ASCEND, BEACON, CONTROL, DESCEND, GROUND, MODE, PAYLOAD,
+    TENSION,
+};
+
+/// What a board in DEPLOY_WAIT does.
+#[derive(Clone, Copy, Debug, PartialEq, Eq)]
+pub enum Phase {
+    Waiting,
+    Settling,
+    /// It is in another mode.
+    Over,
+}
+
+/// A copy of the image.
+#[derive(Clone, Copy, Debug, PartialEq, Eq)]
+pub struct Image([u8; BYTES]);
+
+impl Image {
+    /// The library's image of a state.
+    pub fn of(bytes: &[u8]) -> Image {
+        match bytes.try_into() {
+            Ok(bytes) => Image(bytes),
+            Err(_) => Image(old::converted(bytes)),
+        }
+    }
+
+    /// Bytes that may be an image, if there are as many as it has.
+    pub fn maybe(bytes: &[u8]) -> Option<Image> {
+        bytes.try_into().ok().map(Image)
+    }
+
+    /// A field's own bytes.
+    pub fn bytes(&self, field: &Field) -> &[u8] {
+        &self.0[field.at..field.at + field.bytes]
+    }
+
+    /// A field's number.
+    pub fn number(&self, field: &Field) -> u32 {
+        let bytes = self.bytes(field).iter().rev();
+        bytes.fold(0, |number, &byte| 256 * number + u32::from(byte))
+    }
+
+    /// Why this is no state's image, field by field: nothing, if it is.
+    pub fn faults(&self) -> Vec<(Field, String)> {
+        let not_said = |field: &Field| (field.says)(self.number(field)).is_none();
+        let strays = fields().filter(not_said);
+        let strays: Vec<(Field, String)> = strays
+            .map(|field| (field, format!("not {}", field.range)))
+            .collect();
+        match strays.is_empty() {
+            true => self.disagreements(),
+            false => strays,
+        }
+    }
+
+    /// Fields, each in its range, that no state has with the others.
+    fn disagreements(&self) -> Vec<(Field, String)> {
+        let mut faults = Vec::new();
+        if self.watch().mode() == Mode::DeployWait {
+            let counting = [CONTROL, BEACON].into_iter();
+            let counting = counting.filter(|field| self.number(field) != 0);
+            faults.extend(
+                counting.map(|field| (field, format!("not 0, as in {}", Mode::DeployWait))),
+            );
+        }
+        if self.descend() > self.ascend() {
+            faults.push((DESCEND, "above ascend".to_string()));
+        }
+        faults
+    }
+
+    /// The mode; a number that no mode has is taken for the first one's.
+    fn watch(&self) -> Watch {
+        Watch::of(self.number(&MODE)).unwrap_or(Watch::Waiting(0))
+    }
+
+    pub fn mode(&self) -> u8 {
+        self.watch().mode().number()
+    }
+
+    pub fn phase(&self) -> Phase {
+        match self.watch() {
+            Watch::Waiting(_) => Phase::Waiting,
+            Watch::Settling(_) => Phase::Settling,
+            Watch::Recovery | Watch::Safe => Phase::Over,
+        }
+    }
+
+    pub fn deployed(&self) -> bool {
+        self.number(&ANTENNAS) == 1
+    }
+
+    /// Millivolts; 0 before any reading.
+    pub fn tension(&self) -> u16 {
+        self.two(&TENSION)
+    }
+
+    pub fn ascend(&self) -> u16 {
+        self.two(&ASCEND)
+    }
+
+    pub fn descend(&self) -> u16 {
+        self.two(&DESCEND)
+    }
+
+    /// An origin's last serial: 1 is the ground, 2 the payload.
+    pub fn serial(&self, origin: u8) -> u16 {
+        let ground = origin == 1;
+        self.two(if ground { &GROUND } else { &PAYLOAD })
+    }
+
+    /// A module's power; a number that no power has is taken for on.
+    pub fn power(&self, module: Module) -> Power {
+        self.supply(module).map_or(Power::On, |supply| supply.power)
+    }
+
+    fn supply(&self, module: Module) -> Option<Supply> {
+        Supply::of(self.number(&of_module(module)))
+    }
+
+    /// The modules that are requested on, as a mask.
+    pub fn requests(&self) -> u8 {
+        self.mask(|supply| supply.requested)
+    }
+
+    /// The modules that are on, as a mask.
+    pub fn on(&self) -> u8 {
+        self.mask(|supply| supply.power == Power::On)
+    }
+
+    /// The modules that have failed, as a mask.
+    pub fn failed(&self) -> u8 {
+        self.mask(|supply| matches!(supply.power, Power::Failed(_)))
+    }
+
+    fn mask(&self, is: impl Fn(Supply) -> bool) -> u8 {
+        let set = |module: &Module| self.supply(*module).is_some_and(&is);
+        Module::ALL.into_iter().filter(set).map(Module::bit).sum()
+    }
+
+    fn two(&self, field: &Field) -> u16 {
+        self.number(field) as u16
+    }
+}
+
+#[cfg(test)]
+mod tests {
+    use super::*;
+    use ems::Craft;
+    use model::image::save;
+    use model::state::{self, Last, State};
+
+    /// Reads a state's image, and compares it with the state.
+    fn is_read(state: &State) {
+        let image = Image::of(&save(state));
+        assert!(image.faults().is_empty());
+        let phase = match state.mode {
+            state::Mode::Waiting(_) => Phase::Waiting,
+            state::Mode::Settling(_) => Phase::Settling,
+            state::Mode::Recovery | state::Mode::Safe => Phase::Over,
+        };
+        assert_eq!((image.mode(), image.phase()), (state.mode.number(), phase));
+        assert_eq!(image.deployed(), state.antennas);
+        assert_eq!(image.tension(), state.tension);
+        assert_eq!(image.ascend(), state.ascend);
+        assert_eq!(image.descend(), state.descend);
+        for origin in [1, 2] {
+            assert_eq!(image.serial(origin), state.last.of(origin));
+        }
+        for (module, own) in Module::ALL.into_iter().zip(&state.modules) {
+            let power = match own.power {
+                state::Power::On => Power::On,
+                state::Power::Off(tries) => Power::Off(tries),
+                state::Power::Failed(left) => Power::Failed(left),
+            };
+            assert_eq!(image.power(module), power, "{module}");
+        }
+        assert_eq!(image.requests(), state.requested_mask());
+        assert_eq!(image.on(), state.on_mask());
+        assert_eq!(image.failed(), state.failed_mask());
+    }
+
+    #[test]
+    fn an_image_is_read_as_the_model_writes_it() {
+        let fresh = State::fresh();
+        assert_eq!(save(&fresh), *Craft::fresh().image());
+        is_read(&fresh);
+        let mut state = State {
+            antennas: true,
+            tension: 7_450,
+            ascend: 7_601,
+            descend: 6_802,
+            last: Last {
+                ground: 0x1122,
+                payload: 0x3344,
+            },
+            ..fresh
+        };
+        let powers = [
+            state::Power::On,
+            state::Power::Off(3),
+            state::Power::Failed(599),
+        ];
+        for (module, power) in state.modules.iter_mut().zip(powers.into_iter().cycle()) {
+            module.power = power;
+        }
+        use state::Mode::{Recovery, Safe, Settling, Waiting};
+        for mode in [Waiting(86_399), Settling(900), Settling(1), Recovery, Safe] {
+            state.mode = mode;
+            is_read(&state);
+        }
+    }
+
+    #[test]
+    fn the_fields_follow_each_other_to_the_end() {
+        let end = fields().fold(0, |end, field| {
+            assert_eq!(field.at, end, "{}", field.name);
+            end + field.bytes
+        });
+        assert_eq!(end, BYTES);
+    }
+
+    /// The library and this table refuse the same images: every field with the
+    /// numbers around the ends of its ranges, and others. It waits for a library
+    /// whose image is this one.
+    #[test]
+    fn the_library_has_the_same_images() {
+        if ems::IMAGE_BYTES != BYTES {
+            return;
+        }
+        let near = [
+            0, 300, 606, 5_000, 9_000, 32_768, 33_374, 65_535, 86_400, 87_300,
+        ];
+        let near = near
+            .into_iter()
+            .flat_map(|n: u32| n.saturating_sub(9)..n + 9);
+        let numbers: Vec<u32> = near.chain((0..1 << 24).step_by(4_999)).collect();
+        let fresh = Image::of(Craft::fresh().image());
+        for start in [fresh, put(fresh, &MODE, 87_301)] {
+            for field in fields() {
+                let fitting = numbers.iter().filter(|&&n| n < 1 << (8 * field.bytes));
+                for &number in fitting {
+                    let image = put(start, &field, number);
+                    let taken = Craft::from_image(&image.0).is_some();
+                    let fine = image.faults().is_empty();
+                    assert_eq!(fine, taken, "{} {number}", field.name);
+                }
+            }
+        }
+    }
+
+    /// An image with another number in a field.
+    fn put(mut image: Image, field: &Field, number: u32) -> Image {
+        let bytes = number.to_le_bytes();
+        let own = image.0.iter_mut().skip(field.at).take(field.bytes);
+        own.zip(bytes).for_each(|(byte, new)| *byte = new);
+        image
+    }
+}

@@ -1,0 +1,72 @@
+//! What may stand at a place of a script. A value, so that it costs nothing
+//! where nobody reads it.
+
+use super::line::RAW;
+use crate::tables::{Field, Written, KINDS};
+use crate::words::thousands;
+use ems::Module;
+use std::fmt;
+
+#[derive(Clone, Copy, Debug)]
+pub enum Expected {
+    /// A line's first word.
+    Frame,
+    /// A number of times.
+    Times,
+    /// A field's value.
+    Value(&'static Field),
+    /// A field's own name, or the end; also a number of times if there was none.
+    Name {
+        field: &'static Field,
+        times: bool,
+    },
+    Byte,
+    End,
+    Text,
+}
+
+impl fmt::Display for Expected {
+    fn fmt(&self, f: &mut fmt::Formatter<'_>) -> fmt::Result {
+        match self {
+            Expected::Frame => {
+                let names = KINDS.map(|kind| kind.name).join(", ");
+                write!(f, "expected a frame: {names} or {RAW}")
+            }
+            Expected::Times => {
+                write!(
+                    f,
+                    "expected a number 1 to {}",
+                    thousands(u64::from(u32::MAX))
+                )
+            }
+            Expected::Value(field) => value(f, field),
+            Expected::Name { field, times } => {
+                let times = if *times { "how often, " } else { "" };
+                write!(f, "expected {times}{} or the end of the line", field.name)
+            }
+            Expected::Byte => f.write_str("expected a byte: two hexadecimal digits"),
+            Expected::End => f.write_str("expected the end of the line"),
+            Expected::Text => f.write_str(
+                "expected text in UTF-8; if these are frames, `--as bytes` flies them and \
+                 `ems show` makes a script of them",
+            ),
+        }
+    }
+}
+
+/// What may stand for a field.
+fn value(f: &mut fmt::Formatter<'_>, field: &Field) -> fmt::Result {
+    let name = field.name;
+    let numbers = format!("a number 0 to {}", thousands(field.greatest()));
+    match field.written {
+        Written::Number => write!(f, "expected {name}: {numbers}"),
+        Written::Named(names) => {
+            let names: Vec<&str> = names.iter().map(|row| row.1).collect();
+            write!(f, "expected {name}: {}, or {numbers}", names.join(", "))
+        }
+        Written::Modules => {
+            let names = Module::ALL.map(Module::name).join(", ");
+            write!(f, "expected modules with commas between: {names}")
+        }
+    }
+}

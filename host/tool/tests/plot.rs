@@ -1,0 +1,392 @@
+//! `ems plot`: what is on the pictures.
+
+mod common;
+
+use common::picture::{Drawn, Picture};
+use common::{run, scratch};
+
+/// Antennas out, settled, and in SAFE from 00:15:31 on.
+const SAFE: &str = "antennas deployed\nbattery 7800\ntick 961\n";
+
+/// The picture of a script, drawn with further arguments.
+fn drawn_with(script: &str, more: &[&str]) -> Picture {
+    let file = scratch("flight.pass", script);
+    let ran = run(&[&["plot", &file, "-o", "-"], more].concat()).status(0);
+    Picture::read(ran.text())
+}
+
+fn drawn(script: &str) -> Picture {
+    drawn_with(script, &[])
+}
+
+/// Where the hours of a picture stand, from its first to its last label.
+fn x(picture: &Picture, second: f64, end: f64) -> f64 {
+    let curve = picture.one("ascend");
+    curve.left + curve.width() * second / end
+}
+
+/// The labels under the axis.
+fn labels(picture: &Picture) -> Vec<&Drawn> {
+    let unit = picture
+        .texts()
+        .find(|one| one.text.ends_with(" since the start"));
+    let y = unit.expect("the axis has a unit").bottom - 17.0;
+    let labels = picture.texts().filter(|one| (one.bottom - y).abs() < 0.01);
+    labels.collect()
+}
+
+#[test]
+fn flights_of_many_days_have_labels_of_days() {
+    for (days, step) in [(17, 2), (40, 5)] {
+        let picture = drawn(&format!("tick {}\n", days * 86_400));
+        assert!(picture.says("days since the start"));
+        let labels = labels(&picture);
+        let wanted: Vec<String> = (0..=days / step).map(|n| (n * step).to_string()).collect();
+        let given: Vec<&str> = labels.iter().map(|label| label.text.as_str()).collect();
+        assert_eq!(given, wanted);
+        for pair in labels.windows(2) {
+            assert!(pair[1].left - pair[0].right > 8.0, "{}", pair[0].text);
+        }
+    }
+}
+
+#[test]
+fn units_fit_the_flight() {
+    for (seconds, unit, last) in [
+        (12, "seconds", "12"),
+        (3_600, "minutes", "60"),
+        (6 * 3_600, "hours", "6"),
+        (86_400, "hours", "24"),
+    ] {
+        let picture = drawn(&format!("tick {seconds}\n"));
+        assert!(
+            picture.says(&format!("{unit} since the start")),
+            "{seconds}"
+        );
+        let labels = labels(&picture);
+        assert_eq!(labels.last().expect("labels").text, last);
+        assert!(labels.len() <= 16);
+    }
+}
+
+/// A module that has failed and is ordered off: what it was asked for is seen
+/// before and after.
+#[test]
+fn a_failed_module_shows_whether_it_is_requested() {
+    let picture = drawn(&format!(
+        "{SAFE}order ground 1 SBAND1 on\ntick 60\ntick 10 shorts SBAND1\n\
+         order ground 2 SBAND1 off\ntick 3600\norder ground 3 SBAND1 on\ntick 60\n"
+    ));
+    let requested = picture.about("SBAND1 requested");
+    assert_eq!(requested.len(), 2);
+    let failed = picture.one("SBAND1 failed");
+    assert!(failed.left < requested[0].right && failed.right > requested[1].left - 1.0);
+    for frame in requested {
+        assert!(frame.top < failed.top && frame.bottom > failed.bottom);
+    }
+    assert!(picture.says("requested and failed") && picture.says("failed"));
+}
+
+/// Orders of which the last three are not done.
+fn many_orders() -> String {
+    let done = (1..=200).map(|n| format!("order ground {n} MCS on\ntick 30\n"));
+    format!(
+        "{SAFE}{}order ground 200 I2C on\ntick\norder ground 7 COMM1 on\ntick\n\
+         order payload 9 PAYLOAD on\nbattery 7000\ntick 60\norder payload 9 COMM1 on\n",
+        done.collect::<String>()
+    )
+}
+
+#[test]
+fn what_was_not_done_is_numbered_first() {
+    let file = scratch("orders.pass", many_orders());
+    let ran = run(&["plot", &file, "-o", "-"]).status(2);
+    let picture = Picture::read(ran.text());
+    for listed in [
+        "order ground 200 I2C on",
+        "order ground 7 COMM1 on",
+        "order payload 9 COMM1 on",
+        "order ground 1 MCS on",
+        "order ground 37 MCS on",
+    ] {
+        assert!(picture.says(listed), "{listed}");
+    }
+    assert!(!picture.says("order ground 38 MCS on"));
+    assert!(picture.says("and 164 more, as small marks without a number"));
+}
+
+#[test]
+fn orders_without_a_number_keep_their_shape() {
+    // More than have numbers were not done.
+    let repeats = "order ground 1 MCS on\ntick\n".repeat(50);
+    let stale = "order ground 40000 MCS on\ntick\n".repeat(50);
+    let picture = drawn(&format!(
+        "{SAFE}order ground 1 MCS on\n{repeats}{stale}tick 7200\n"
+    ));
+    let small: Vec<&Drawn> = picture
+        .drawn
+        .iter()
+        .filter(|one| one.about.contains("orders, "))
+        .collect();
+    let shapes: Vec<(&str, &str)> = small
+        .iter()
+        .map(|one| (one.element.as_str(), one.class.as_str()))
+        .collect();
+    assert!(shapes.contains(&("circle", "box")), "{shapes:?}");
+    assert!(shapes.contains(&("path", "box")), "{shapes:?}");
+    assert!(small.iter().all(|one| one.width() < 9.0));
+}
+
+#[test]
+fn every_mark_and_bar_says_what_it_is() {
+    for script in ["dawn", "orbit", "shorted", "sister-craft-a"] {
+        let ran = run(&["plot", &format!("examples/{script}.pass"), "-o", "-"]).status(0);
+        let picture = Picture::read(ran.text());
+        let behind = ["wait-light", "low-light"];
+        let shapes = picture.drawn.iter().filter(|one| {
+            let mark = ["rect", "circle"].contains(&one.element.as_str());
+            let filled = ["solid", "box", "failed", "many", "band"].contains(&one.class.as_str());
+            (mark || filled) && one.top >= picture.panels() && !behind.contains(&one.class.as_str())
+        });
+        let mut count = 0;
+        for shape in shapes {
+            assert!(!shape.about.is_empty(), "{script}: {shape:?}");
+            count += 1;
+        }
+        assert!(count > 15, "{script}: {count}");
+    }
+    let ran = run(&["plot", "examples/dawn.pass", "-o", "-"]).status(0);
+    let picture = Picture::read(ran.text());
+    picture.one("3, 09:19:01: order ground 17 PAYLOAD on: 9 stale");
+    picture.one("PAYLOAD on, 00:40:02 to 01:40:02");
+}
+
+#[test]
+fn many_readings_are_a_band_under_the_thresholds() {
+    let readings = (0..5_000).map(|n| format!("battery {}\ntick 5\n", 7_300 + n * 37 % 500));
+    let script = format!("{SAFE}{}", readings.collect::<String>());
+    let file = scratch("many.pass", script);
+    let ran = run(&["plot", &file, "-o", "-"]).status(0);
+    assert!(ran.out.len() < 100_000, "{} bytes", ran.out.len());
+    let picture = Picture::read(ran.text());
+    let place = |about: &str| picture.drawn.iter().position(|one| one.about == about);
+    let band = place("tension, the least to the greatest").expect("a band");
+    let (ascend, descend) = (
+        place("ascend").expect("ascend"),
+        place("descend").expect("descend"),
+    );
+    assert!(band < ascend && band < descend, "the thresholds are on top");
+    let band = &picture.drawn[band];
+    let ascend = &picture.drawn[ascend];
+    assert!(band.top < ascend.top && band.bottom > ascend.bottom);
+    assert!(picture
+        .drawn
+        .iter()
+        .all(|one| one.class != "curve" || one.top < picture.panels()));
+}
+
+/// Half a minute of ten hours.
+#[test]
+fn a_narrow_recovery_is_seen() {
+    let ran = run(&["plot", "examples/dawn.pass", "-o", "-"]).status(0);
+    let picture = Picture::read(ran.text());
+    let recovery = picture.one("RECOVERY, 00:15:01 to 00:15:31");
+    assert!(recovery.width() >= 4.0, "{recovery:?}");
+    let last = picture
+        .drawn
+        .iter()
+        .rposition(|one| one.about.starts_with("SAFE"))
+        .expect("SAFE");
+    let own = picture
+        .drawn
+        .iter()
+        .position(|one| one.about == recovery.about);
+    assert!(own > Some(last), "nothing covers it");
+}
+
+/// Of twenty days, both the first quarter of an hour and the half minute after it.
+#[test]
+fn narrow_modes_at_one_place_are_all_seen() {
+    let picture = drawn(&format!("{SAFE}tick 1728000\n"));
+    let wait = picture.one("DEPLOY_WAIT, 00:00:00 to 00:15:01");
+    let recovery = picture.one("RECOVERY, 00:15:01 to 00:15:31");
+    assert!(wait.width() >= 4.0 && recovery.width() >= 4.0);
+    assert!(wait.bottom <= recovery.top + 0.1 || wait.right <= recovery.left + 0.1);
+}
+
+#[test]
+fn the_longest_stretch_of_each_mode_is_named() {
+    for script in ["dawn", "orbit", "shorted"] {
+        let ran = run(&["plot", &format!("examples/{script}.pass"), "-o", "-"]).status(0);
+        let picture = Picture::read(ran.text());
+        for mode in ["DEPLOY_WAIT", "RECOVERY", "SAFE"] {
+            // Beside the legend's.
+            let named = picture.texts().filter(|one| one.text == mode);
+            assert!(named.count() >= 2, "{script}: {mode}");
+        }
+    }
+}
+
+#[test]
+fn many_crossings_are_a_small_picture() {
+    let crossings = "battery 5000\ntick 30\nbattery 9000\ntick 30\n".repeat(5_000);
+    let file = scratch("crossings.pass", format!("{SAFE}{crossings}"));
+    let ran = run(&["plot", &file, "-o", "-"]).status(0);
+    assert!(ran.out.len() < 150_000, "{} bytes", ran.out.len());
+    let picture = Picture::read(ran.text());
+    assert!(!picture.about("RECOVERY ").is_empty());
+}
+
+#[test]
+fn beacons_too_close_to_tell_are_bands_that_are_counted() {
+    let ran = run(&["plot", "examples/orbit.pass", "-o", "-"]).status(0);
+    let picture = Picture::read(ran.text());
+    assert!(picture.says("1,319 complete") && picture.says("15 basic"));
+    let bands = picture.about(" complete beacons, ");
+    assert!(bands.len() < 5 && bands.iter().all(|one| one.element == "rect"));
+    // Apart, each is a tick.
+    let picture = drawn(&format!("{SAFE}tick 1200\n"));
+    assert!(picture.says("21 complete"));
+    assert_eq!(picture.about("complete beacon, ").len(), 21);
+}
+
+#[test]
+fn a_part_of_a_flight_is_drawn() {
+    let script =
+        format!("{SAFE}order ground 1 ADCS on\ntick 3600\norder ground 2 ADCS off\ntick 3600\n");
+    let part = |from: &str, to: &str| drawn_with(&script, &["--from", from, "--to", to]);
+    let picture = part("01:00:00", "90m");
+    assert!(picture.says("01:00:00 to 01:30:00 of 02:16:01"));
+    assert!(picture.says("order ground 2 ADCS off") && !picture.says("order ground 1 ADCS on"));
+    // What begins outside begins at the edge, and says when it began.
+    let on = picture.one("ADCS on, 00:16:02 to 01:16:02");
+    let ascend = picture.one("ascend");
+    assert_eq!(on.left, ascend.left);
+    assert!((on.right - (ascend.left + ascend.width() * 962.0 / 1800.0)).abs() < 0.2);
+    let labels = labels(&picture);
+    assert_eq!(labels.first().map(|label| label.text.as_str()), Some("60"));
+    // To the end and beyond is to the end.
+    let picture = part("02:00:00", "99h");
+    assert!(picture.says("02:00:00 to 02:16:01 of 02:16:01"));
+}
+
+#[test]
+fn a_part_that_is_not_there_is_wrong_usage() {
+    let file = scratch("flight.pass", SAFE);
+    let plot = |more: &[&str]| run(&[&["plot", &file, "-o", "-"], more].concat()).status(1);
+    plot(&["--from", "00:20:00"])
+        .says("nothing is left from 00:20:00 on: the flight ends at 00:16:01");
+    plot(&["--from", "10", "--to", "10"])
+        .says("the picture would end at 00:00:10, and begin at 00:00:10");
+    let ran = plot(&["--from", "soon"]);
+    assert!(
+        ran.err.contains("expected hours:minutes:seconds"),
+        "{}",
+        ran.err
+    );
+}
+
+/// Everything is within the picture, and the marks within the panels.
+fn is_framed(name: &str, picture: &Picture) {
+    for one in &picture.drawn {
+        let framed = one.left >= 0.0
+            && one.right <= picture.width
+            && one.top >= 0.0
+            && one.bottom <= picture.height;
+        assert!(framed, "{name}: {one:?} leaves the picture");
+    }
+    let panel = picture.one("ascend");
+    let in_panel = |one: &&Drawn| !one.about.is_empty();
+    for one in picture.drawn.iter().filter(in_panel) {
+        let framed = one.left >= panel.left - 0.5 && one.right <= panel.right + 1.0;
+        assert!(framed, "{name}: {one:?} leaves the panels");
+    }
+}
+
+#[test]
+fn nothing_leaves_the_frame() {
+    let orders: String = (1..=60)
+        .map(|n| format!("order ground {n} PAYLOAD on\n"))
+        .collect();
+    let shorts = "tick shorts PAYLOAD,SBAND1\n";
+    let flights = [
+        ("orders first", format!("{orders}{SAFE}")),
+        ("orders last", format!("{SAFE}{orders}")),
+        ("orders alone", orders.clone()),
+        (
+            "shorts at both ends",
+            format!("{shorts}{SAFE}order ground 1 PAYLOAD on\ntick\n{shorts}{shorts}"),
+        ),
+        (
+            "past a hundred hours",
+            format!("{SAFE}tick 400000\n{orders}tick 2\nthresholds ground 99 9000 8999\n"),
+        ),
+        ("empty", String::new()),
+    ];
+    for (name, script) in &flights {
+        for title in [
+            "short",
+            &"W".repeat(300),
+            &"\u{706b}\u{661f}".repeat(100),
+            &"on and on, ".repeat(50),
+        ] {
+            let picture = drawn_with(script, &["--title", title]);
+            assert_eq!(picture.title, title, "{name}");
+            is_framed(name, &picture);
+        }
+    }
+}
+
+#[test]
+fn a_refused_frame_is_a_cross_where_it_happened_and_in_the_list() {
+    let script =
+        format!("{SAFE}tick 1000\nbattery 4999\ntick 1000\norder payload 3 MCS on\ntick 39\n");
+    let file = scratch("refused.pass", script);
+    // It ends the flight.
+    let ran = run(&["plot", &file, "-o", "-"]).status(2);
+    let picture = Picture::read(ran.text());
+    let cross = picture.one("1, 00:32:41: battery 4999: refused: 6 bad field");
+    assert_eq!(
+        (cross.element.as_str(), cross.class.as_str()),
+        ("path", "box")
+    );
+    assert!(cross.right > picture.one("ascend").right - 20.0);
+    assert!(picture.says("battery 4999") && picture.says("refused: 6 bad field"));
+    // The flight goes on.
+    let ran = run(&["plot", &file, "-o", "-", "--keep-going"]).status(2);
+    let picture = Picture::read(ran.text());
+    let cross = picture.one("1, 00:32:41: battery 4999: refused: 6 bad field");
+    assert!((cross.middle() - x(&picture, 1_961.0, 3_000.0)).abs() < 0.5);
+    picture.one("2, 00:49:21: order payload 3 MCS on: refused: 7 not permitted");
+    assert!(picture.says("refused: 7 not permitted"));
+}
+
+/// A day, in which a camera shorts for three seconds and is given up.
+#[test]
+fn shorts_and_tries_left_are_seen_in_a_day() {
+    let script = format!(
+        "{SAFE}order ground 1 PAYLOAD on\ntick 40000\ntick 3 shorts PAYLOAD\n\
+         order ground 2 PAYLOAD off\ntick 20000\norder ground 3 PAYLOAD on\ntick 25436\n"
+    );
+    let picture = drawn(&script);
+    let short = picture.one("PAYLOAD short, 11:22:41 to 11:22:44");
+    assert!(short.width() >= 5.0 && short.height() >= 5.0, "{short:?}");
+    assert!((short.middle() - x(&picture, 40_961.0, 86_400.0)).abs() < 0.5);
+    let left = picture.one("PAYLOAD tries left: 4 and 3, 11:22:43 to 16:56:05");
+    assert_eq!(left.text, "3");
+    assert!((left.left - x(&picture, 40_963.0, 86_400.0)).abs() < 0.5);
+}
+
+#[test]
+fn control_characters_in_a_title_are_no_harm() {
+    let title = "a\u{1b}[31m<b>&\u{7}c\u{fffe}";
+    let picture = drawn_with("tick\n", &["--title", title]);
+    assert_eq!(picture.title, "a\u{241b}[31m<b>&\u{2407}c\u{fffd}");
+}
+
+#[test]
+fn an_empty_flight_lasts_no_time() {
+    assert!(drawn("").says("0 frames, 00:00:00"));
+    assert!(drawn("order ground 1 MCS off\n").says("1 frame, 00:00:00"));
+    assert!(drawn("tick\n").says("1 frame, 00:00:01"));
+}

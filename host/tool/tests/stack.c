@@ -1,0 +1,80 @@
+/* The bytes of stack that each call takes: it runs on a stack of its own, painted
+ * before, and the lowest byte that isn't paint any more tells. */
+#define _XOPEN_SOURCE 700
+#include "ems.h"
+#include <stdio.h>
+#include <string.h>
+#include <ucontext.h>
+
+#define PAINT 0xA5
+
+static uint8_t stack[1 << 16];
+static ucontext_t here, there;
+
+static uint8_t image[EMS_IMAGE_BYTES], report[EMS_REPORT_BYTES];
+static uint8_t text[EMS_TEXT_BYTES], units[EMS_UNITS_BYTES];
+static size_t count;
+
+static void frame(const char *bytes, size_t length) {
+    ems_step(image, sizeof image, (const uint8_t *)bytes, length, report, sizeof report);
+}
+
+/* A board from its start to SAFE, with orders, shorts and refusals. */
+static void step(void) {
+    int seconds;
+    ems_fresh(image, sizeof image);
+    frame("\3\1", 2);
+    frame("\2\x1E\x78", 3);
+    for (seconds = 0; seconds < 2000; seconds++)
+        frame(seconds % 7 ? "\1\0" : "\1\xFF", 2);
+    frame("\4\1\0\1\4\1", 6);
+    frame("\4\1\0\1\4\1", 6);
+    frame("\5\1\0\2\x1C\xE8\x1B\x58", 8);
+    frame("\5\2\0\2\x1C\xE8\x1B\x58", 8);
+    frame("\4\1\0\3\10\1", 6);
+    frame("\1\0", 2);
+}
+
+static void nothing(void) {}
+static void fresh(void) { ems_fresh(image, sizeof image); }
+static void basic(void) { ems_beacon_basic(image, sizeof image, text, sizeof text, &count); }
+static void complete(void) { ems_beacon_complete(image, sizeof image, text, sizeof text, &count); }
+
+static void key(void) {
+    memset(text, '0', sizeof text);
+    ems_key(text, sizeof text, units, sizeof units, &count);
+}
+
+static void read_back(void) { ems_read(units, count, text, sizeof text, &count); }
+
+/* The bytes of the stack that a call has painted over. */
+static size_t taken(void (*call)(void)) {
+    size_t left = 0;
+    memset(stack, PAINT, sizeof stack);
+    getcontext(&there);
+    there.uc_stack.ss_sp = stack;
+    there.uc_stack.ss_size = sizeof stack;
+    there.uc_link = &here;
+    makecontext(&there, call, 0);
+    swapcontext(&here, &there);
+    while (stack[left] == PAINT)
+        left++;
+    return sizeof stack - left;
+}
+
+/* The same of a call by itself; before that it runs once, so that the linker has
+ * looked up what it calls. */
+static void measure(const char *name, void (*call)(void)) {
+    call();
+    printf("%s %zu\n", name, taken(call) - taken(nothing));
+}
+
+int main(void) {
+    measure("ems_fresh", fresh);
+    measure("ems_step", step);
+    measure("ems_beacon_basic", basic);
+    measure("ems_beacon_complete", complete);
+    measure("ems_key", key);
+    measure("ems_read", read_back);
+    return 0;
+}
