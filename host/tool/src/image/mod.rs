@@ -1,7 +1,6 @@
 //! The board's state, read off an image.
 
 mod layout;
-mod old;
 
 pub use layout::{fields, Field, Power, BYTES};
 
@@ -26,11 +25,8 @@ pub struct Image([u8; BYTES]);
 
 impl Image {
     /// The library's image of a state.
-    pub fn of(bytes: &[u8]) -> Image {
-        match bytes.try_into() {
-            Ok(bytes) => Image(bytes),
-            Err(_) => Image(old::converted(bytes)),
-        }
+    pub fn of(bytes: &[u8; BYTES]) -> Image {
+        Image(*bytes)
     }
 
     /// Bytes that may be an image, if there are as many as it has.
@@ -230,13 +226,9 @@ mod tests {
     }
 
     /// The library and this table refuse the same images: every field with the
-    /// numbers around the ends of its ranges, and others. It waits for a library
-    /// whose image is this one.
+    /// numbers around the ends of its ranges, and others.
     #[test]
     fn the_library_has_the_same_images() {
-        if ems::IMAGE_BYTES != BYTES {
-            return;
-        }
         let near = [
             0, 300, 606, 5_000, 9_000, 32_768, 33_374, 65_535, 86_400, 87_300,
         ];
