@@ -10,3 +10,4 @@ pub mod Dawn
 pub mod Refusals
 pub mod NeverSilent
 pub mod OnTheGround
+pub mod ImageFlies

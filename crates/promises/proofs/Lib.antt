@@ -24,4 +24,5 @@ pub mod NeverSilent
 pub mod OnTheGround
 pub mod Numbers
 pub mod Edge
+pub mod ImageFlies
 pub mod Tied

@@ -9,4 +9,6 @@ tied =
       key = λ κs a x. (λ learnt. learnt, λ says. says);
       read = λ κs a x. (λ learnt. learnt, λ says. says);
       write = λ κs a x. (λ learnt. learnt, λ says. says);
+      ems-fresh = λ κs a x. (λ learnt. learnt, λ says. says);
+      ems-step = λ κs a x. (λ learnt. learnt, λ says. says);
     }

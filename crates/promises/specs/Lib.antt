@@ -10,4 +10,5 @@ pub mod Dawn
 pub mod Refusals
 pub mod NeverSilent
 pub mod OnTheGround
+pub mod ImageFlies
 pub mod Tied

@@ -20,6 +20,11 @@ use Rattle.hearing.proofs.reading.read as read
 use Rattle.hearing.proofs.reading.read.Reads as read-reads
 use Rattle.beacon.proofs.writing.write as write
 use Rattle.beacon.proofs.writing.write.Reads as write-reads
+use Rattle.flight.specs.Calls.{imaged, freshImage, stepImage}
+use Rattle.flight.proofs.calls.ems_fresh as ems-fresh
+use Rattle.flight.proofs.calls.ems_fresh.Reads as ems-fresh-reads
+use Rattle.flight.proofs.calls.ems_step as ems-step
+use Rattle.flight.proofs.calls.ems_step.Reads as ems-step-reads
 
 -- a function's contract says of what a call leaves, its result and the last value of what it was lent, just what a
 -- definition says
@@ -47,3 +52,9 @@ pub record Tied : Type 0 where
   pub write :
       Says write.ended write-reads.Learnt
       (λ κs a x. outcome (x .0) (x .1 .1 .1 .0) ≡ beaconOf (a .1 .0) (a .0) (a .1 .1 .0 .now))
+  -- ems_fresh(image) and ems_step(image, frame, room), which C calls
+  pub ems-fresh : Says ems-fresh.ended ems-fresh-reads.Learnt (λ κs a x. imaged (x .0) (x .1 .0) ≡ freshImage (a .0 .now))
+  pub ems-step :
+      Says ems-step.ended ems-step-reads.Learnt
+      (λ κs a x.
+      outcome (imaged (x .0) (x .1 .0)) (x .1 .1 .1 .0) ≡ stepImage (a .0 .now) (a .1 .0 .now) (a .1 .1 .0 .now))
