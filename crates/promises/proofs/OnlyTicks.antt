@@ -58,7 +58,7 @@ module _ {Part : Type 0} (part : State → Part) where
     ticks-leave s c d = by-ticks s c d (turn s c)
 
 -- a frame other than a tick switches nothing
-power-still : (i : ℕ) (f : Frame) → Fits f → isTick (about (Accepted f)) ≡ false → (s : State) → moduleAt i (actOf f s .state) .power ≡ moduleAt i s .power
+pub power-still : (i : ℕ) (f : Frame) → Fits f → isTick (about (Accepted f)) ≡ false → (s : State) → moduleAt i (actOf f s .state) .power ≡ moduleAt i s .power
 power-still i f fits e s =
     act-still (λ t. moduleAt i t .power ≡ moduleAt i s .power)
     (record { tension = λ n r t h. h; antennas = λ d t h. h; serial = λ o t h. h; request = λ which on t e h. asked-power t i which on ∙ h; thresholds = λ a d r t h. h })

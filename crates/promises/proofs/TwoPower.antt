@@ -27,9 +27,9 @@ use Rattle.supervisor.specs.declared.state.Mode.{Mode}
 use Rattle.supervisor.specs.declared.state.Mode.the-variants.{DeployWait, Recovery, Safe}
 use Rattle.supervisor.specs.declared.state.State.{State}
 use Rattle.supervisor.proofs.ModuleLaws.{mission-low, mission-allowed}
-use Rattle.supervisor.proofs.SwitchLaws.{act-power}
 use Rattle.promises.specs.TwoCraft.{shorted, shortsBorne}
 use Rattle.promises.proofs.EachModule.{at-stage, before-power}
+use Rattle.promises.proofs.OnlyTicks.{power-still}
 use Rattle.promises.proofs.TwoModes.{AtMost, even, behind, safe-at-most}
 use Rattle.promises.proofs.TwoControl.{Beside, before-beside}
 
@@ -134,17 +134,15 @@ module _ (i : ℕ) (mission : isMission i ≡ true) where
 
   module _ (n : ℕ) where
     -- a frame other than a tick switches nothing
-    still-lit : (f : Frame) → Fits f → isTick (about (Accepted f)) ≡ false → (a b : State) → Beside i a b → Bright n a b → Bright (n + 0) (actOf f a .state) (actOf f b .state)
-    still-lit f fits e a b h l =
-        let low : i < moduleCount = mission-low i mission in
-        rw (act-power a (h .flown .eight) i low f fits e, act-power b (h .flown .eight′) i low f fits e)
-        (lit-later n (n + 0) (omega arith) (moduleAt i a .power) (moduleAt i b .power) l)
+    still-lit : (f : Frame) → Fits f → isTick (about (Accepted f)) ≡ false → (a b : State) → Bright n a b → Bright (n + 0) (actOf f a .state) (actOf f b .state)
+    still-lit f fits e a b l =
+        rw (power-still i f fits e a, power-still i f fits e b) (lit-later n (n + 0) (omega arith) (moduleAt i a .power) (moduleAt i b .power) l)
 
     pub act-lit :
         (f : Frame) → Fits f → n + oneMore (shorted i (about (Accepted f))) ≤ shortsBorne → (a b : State) → Beside i a b → Bright n a b →
         Bright (n + oneMore (shorted i (about (Accepted f)))) (actOf f a .state) (actOf f b .state)
     unfolding actOf ticked
     act-lit (frame.Tick shorts) fits few a b h l = in-modes n shorts few (a .watch .mode) (b .watch .mode) (h .flown .modes) a b h l
-    act-lit (frame.Battery tension) fits few a b h l = still-lit (frame.Battery tension) fits refl a b h l
-    act-lit (frame.Antennas deployed) fits few a b h l = still-lit (frame.Antennas deployed) fits refl a b h l
-    act-lit (frame.Command sender command) fits few a b h l = still-lit (frame.Command sender command) fits refl a b h l
+    act-lit (frame.Battery tension) fits few a b h l = still-lit (frame.Battery tension) fits refl a b l
+    act-lit (frame.Antennas deployed) fits few a b h l = still-lit (frame.Antennas deployed) fits refl a b l
+    act-lit (frame.Command sender command) fits few a b h l = still-lit (frame.Command sender command) fits refl a b l
