@@ -4,15 +4,16 @@ use mathlib.Core.Path.{_≡_, refl, ap}
 use mathlib.Core.Bool.{Bool, true, false, not, _||_}
 use mathlib.Core.List.{List, [], _∷_}
 use Prim.Native.Nat.{ℕ, _<_, _≤_}
-use lib.Dec.{T}
-use lib.ListN.{getD}
+use lib.Dec.{T, eqb}
+use lib.ListN.{length, getD}
 use Rattle.basics.specs.Choice.{within}
-use Rattle.basics.proofs.ChoiceLaws.{holds, within-low, within-high}
+use Rattle.basics.proofs.ChoiceLaws.{holds, and-left, within-low, within-high}
 use Rattle.basics.specs.Tables.{allBelow}
 use Rattle.basics.proofs.TablesLaws.{upto}
 use Rattle.morse.specs.declared.signs.Sign.{Sign}
 use Rattle.morse.specs.Signs.{Mark, dot, dash, isFigure, isLetter, signs, signOf, signed}
-use Rattle.morse.specs.SignTable.{marksOf, entries, entryByte, sameMarks, noSign, isSign}
+use Rattle.morse.specs.SignTable.{marksOf, lasts, entries, entryByte, sameMarks, noSign, isSign}
+use Rattle.morse.specs.Units.{signUnits}
 use Rattle.morse.proofs.Everywhere.{everywhere}
 
 pub same-marks-eq : (s t : List Mark) → T (sameMarks s t) → s ≡ t
@@ -27,7 +28,10 @@ same-marks-eq (dash ∷ s) (dot ∷ t) h = absurd h
 -- what the rule of the code's table says of an entry
 pub entry-right : (table : List Sign) (k : ℕ) → T (allBelow (isSign table) entries) → k < entries
     → marksOf (getD table k noSign) ≡ signOf (entryByte k)
-entry-right table k t h = same-marks-eq _ _ (upto (isSign table) entries t k h)
+entry-right table k t h =
+    let same = sameMarks (marksOf (getD table k noSign)) (signOf (entryByte k)) in
+    let long = eqb (length (signUnits 0 (signOf (entryByte k)))) (lasts (getD table k noSign)) in
+    same-marks-eq _ _ (and-left same long (upto (isSign table) entries t k h))
 
 -- a byte is a letter or a figure, or has no sign
 abbrev named : ℕ → List Mark → Bool

@@ -1,18 +1,17 @@
 -- Laws of the texts that may be keyed: one byte of a walk through a text, and what no fault tells.
 -- Assumes nothing.
 use mathlib.Core.Path.{_≡_, refl, sym, ap, _∙_}
-use mathlib.Core.Bool.{Bool, true, false, not, _&&_, _||_, or-false, and-false, false≢true}
+use mathlib.Core.Bool.{Bool, true, false, not, _&&_, _||_, or-false, and-false}
 use mathlib.Core.List.{List, [], _∷_}
 use Prim.Native.Nat.{ℕ, zero, suc, _+_, _-_, _<_, _≤_, zero-le, suc-le-suc}
 use native.Mathlib.Numerals.{add-one}
 use native.Mathlib.Omega.{arith}
 use lib.ListN.{length, getD, drop}
 use lib.Seq.{drop-cons}
-use lib.Dec.{ltb, eqb}
+use lib.Dec.{ltb}
 use borrow.Author.Tests.{lt-ltb, le-ltb, ltb-false}
 use Rattle.basics.specs.Choice.{if_then_else_}
 use Rattle.morse.specs.declared.signs.Sign.{Sign}
-use Rattle.morse.specs.declared.texts.Fault.{Fault}
 use Rattle.morse.specs.declared.texts.Fault.the-variants.{Nothing, TextTooLong, NotKeyable, BadSpace}
 use Rattle.morse.specs.declared.texts.Seen.{Seen}
 use Rattle.morse.specs.Signs.{signed}
@@ -82,10 +81,3 @@ fair t e = by-tests (ltb longest (length t)) refl (allKnown t) refl (badlySpaced
     by-tests false p false q c r z = absurd (omega (arith, ap faultNumber z))
     by-tests false p true q true r z = absurd (omega (arith, ap faultNumber z))
     by-tests false p true q false r z = record { short = ltb-false longest (length t) p; known = q; spaced = r }
-
--- the fault whose number is 0
-pub is-fair : (f : Fault) → eqb (faultNumber f) 0 ≡ true → f ≡ Nothing
-is-fair Nothing e = refl
-is-fair TextTooLong e = absurd (false≢true e)
-is-fair NotKeyable e = absurd (false≢true e)
-is-fair BadSpace e = absurd (false≢true e)

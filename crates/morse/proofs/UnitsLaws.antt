@@ -109,7 +109,7 @@ units-after-most (c ∷ d ∷ t) gap =
     simp (length-append (signUnits gap (signOf c)))
     (omega (arith, sign-most gap (signOf c), byte-most c, units-after-most (d ∷ t) (gapAfter c)))
 
--- a text of n bytes has at most 22 n - 3 units
-pub units-most : (t : List ℕ) → length (unitsOf t) ≤ mostOfByte * length t - betweenSigns
+-- the room that the header's EMS_UNITS_BYTES gives holds the units of any text that is not too long
+pub units-fit : (t : List ℕ) → length t ≤ longest → length (unitsOf t) ≤ mostUnits
 unfolding unitsOf
-units-most t = omega (arith, units-after-most t 0)
+units-fit t h = omega (arith, units-after-most t 0)

@@ -1,6 +1,6 @@
 pub mod Answers
 pub mod Signs
-pub mod SignTable
 pub mod Texts
 pub mod Units
+pub mod SignTable
 pub mod Keying

@@ -58,7 +58,7 @@ const SIGNS: [Sign; ENTRIES] = [
     Sign { marks: 15, len: 5 }, // 9
 ];
 
-// The table, each of whose entries is the sign of its byte.
+// The table: each entry is the sign of its byte, and as long as its timing says.
 fn table() -> [Sign; ENTRIES]
     ensures { λ r. ⌜ T (allBelow (isSign r) entries) ⌝ }
 {

@@ -12,12 +12,12 @@ use Rattle.hearing.proofs.decoding.decode.Tie as tie
 
 abbrev Inv-loop : tie.InvT-loop
 Inv-loop units text₀ ear₀ at₀ i₀ text ear at i =
-    (i ≤ length units)
+    Leads units i ear text₀ text at
+    × (i ≤ length units)
     × (at ≤ 2 * i)
     × (ear .down ≤ i)
     × (ear .up ≤ i)
     × (length text ≡ length text₀)
-    × Leads units i ear text₀ text at
 
 abbrev μ-loop : tie.MeasureT-loop
 μ-loop units text₀ ear₀ at₀ i₀ text ear at i = length units - i
@@ -28,7 +28,7 @@ returns c = rw (heard-none (c .before .before .before .args .units .now) (c .if1
 loop-holds : tie.Need-loop-holds Inv-loop μ-loop
 loop-holds c =
     let e = heard-some (c .before .before .before .args .units .now) (c .if1 .left) in
-    (search needs, search needs, search needs, search needs, refl, record { leads = λ count later d. rw e d })
+    (record { leads = λ count later d. rw e d }, search needs, search needs, search needs, search needs, refl)
 
 shared-slice-read-tell : tie.Need-shared-slice-read-tell Inv-loop μ-loop
 shared-slice-read-tell c = search needs
@@ -53,8 +53,8 @@ loop-again c =
     let next = told .told .given .0 .0 in
     let t = sym (tell .tell .ensures) ∙ told .told .given .1 in
     let unit = getD (tell .before .before .before .before .before .before .before .args .units .now) (l .i) 0 in
-    let near = rw t at (told-near (l .ear) unit (l .i) (l .inv .2) (l .inv .3)) in
-    (search needs, search needs, near .0, near .1, search needs, leads-on (omega arith) (l .inv .5) next t)
+    let near = rw t at (told-near (l .ear) unit (l .i) (l .inv .3) (l .inv .4)) in
+    (leads-on (omega arith) (l .inv .0) next t, search needs, search needs, near .0, near .1, search needs)
 
 enum-known-told-2 : tie.Need-enum-known-told-2 Inv-loop μ-loop
 enum-known-told-2 c = search needs
@@ -75,12 +75,12 @@ loop-again-2 c =
     let l = tell .before .before .before .loop in
     let byte = told .told2 .given .0 .0 in
     let t = sym (tell .tell .ensures) ∙ told .told2 .given .1 in (
+      leads-sign (omega arith) (l .inv .0) byte t (c .before .before .put .ensures),
       search needs,
       search needs,
       search needs,
       search needs,
       search needs,
-      leads-sign (omega arith) (l .inv .5) byte t (c .before .before .put .ensures),
     )
 
 enum-known-told-3 : tie.Need-enum-known-told-3 Inv-loop μ-loop
@@ -108,12 +108,12 @@ loop-again-3 c =
     let l = tell .before .before .before .loop in
     let byte = told .told3 .given .0 .0 in
     let t = sym (tell .tell .ensures) ∙ told .told3 .given .1 in (
+      leads-word (omega arith) (l .inv .0) byte t (cc),
       search needs,
       search needs,
       search needs,
       search needs,
       search needs,
-      leads-word (omega arith) (l .inv .5) byte t (cc),
     )
 
 enum-told : tie.Need-enum-told Inv-loop μ-loop
@@ -126,7 +126,7 @@ returns-2 : tie.Need-returns-2 Inv-loop μ-loop
 returns-2 c =
     let tell = c .before .before in
     let t = sym (tell .tell .ensures) ∙ c .enum-told .given .1 in
-    leads-wrong (omega arith) (tell .before .before .before .loop .inv .5) t (longest + 1) (omega arith)
+    leads-wrong (omega arith) (tell .before .before .before .loop .inv .0) t (longest + 1) (omega arith)
 
 last-requires : tie.Need-last-requires Inv-loop μ-loop
 last-requires c κs = search needs
@@ -137,7 +137,7 @@ same-length-2 c = search needs
 returns-3 : tie.Need-returns-3 Inv-loop μ-loop
 returns-3 c =
     let n = sym (c .before .last .ensures) ∙ c .if2 .taken in
-    leads-none (omega arith) (c .before .before .before .loop .inv .5) n (longest + 1) (omega arith)
+    leads-none (omega arith) (c .before .before .before .loop .inv .0) n (longest + 1) (omega arith)
 
 put-requires-4 : tie.Need-put-requires-4 Inv-loop μ-loop
 put-requires-4 c κs = search needs
@@ -152,7 +152,7 @@ returns-4 : tie.Need-returns-4 Inv-loop μ-loop
 returns-4 c =
     let last = c .before .before .before .before .before in
     let known = c .before .before .before .before .if2 .left in
-    leads-last (omega arith) (last .before .before .loop .inv .5) (λ n. known (last .last .ensures ∙ n)) (cc)
+    leads-last (omega arith) (last .before .before .loop .inv .0) (λ n. known (last .last .ensures ∙ n)) (cc)
 
 pub decode-spec : {M : Type 1} → statement M
 decode-spec =
