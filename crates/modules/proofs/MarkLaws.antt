@@ -1,10 +1,10 @@
 -- Laws of a mask with a mark above its eight bits, halved a bit at a time: eight turns, and only the mark is left.
 -- Assumes nothing.
-use Prim.Native.Nat.{ℕ, _+_, _*_, _/_, _^_, _≤_, _<_}
+use Prim.Native.Nat.{ℕ, _+_, _/_, _^_, _≤_, _<_}
 use mathlib.Core.Path.{_≡_, ap, sym, _∙_}
 use mathlib.Core.Logic.{⊎-elim}
 use native.Mathlib.Omega.{arith}
-use native.Mathlib.Nat.{eq-or-lt-of-le, le-div-iff-mul-le, pow-suc}
+use native.Mathlib.Nat.{eq-or-lt-of-le, le-div-iff-mul-le}
 use lib.Pow.{pow-pos, pow-mono, shr-shr}
 
 -- what is left after i turns

@@ -20,23 +20,6 @@ on-switched true (Off tries) e = refl
 on-switched false (Off tries) e = refl
 on-switched wanted (Failed left) e = absurd (true≢false e)
 
--- and is not failed
-pub sound-switched : (wanted : Bool) (p : Power) → isFailed p ≡ false → isFailed (switched wanted false p) ≡ false
-unfolding switched
-sound-switched true On e = refl
-sound-switched false On e = refl
-sound-switched true (Off tries) e = refl
-sound-switched false (Off tries) e = refl
-sound-switched wanted (Failed left) e = absurd (true≢false e)
-
--- what is not wanted is not on after the second
-pub unwanted-switched : (short : Bool) (p : Power) → isOn (switched false short p) ≡ false
-unfolding switched
-unwanted-switched true On = refl
-unwanted-switched false On = refl
-unwanted-switched short (Off tries) = refl
-unwanted-switched short (Failed left) = either (λ (q : Power). isOn q ≡ false) (ltb 0 left) refl refl
-
 attempted-in-range : (wanted short : Bool) → T (powerInRange (attempted wanted short))
 attempted-in-range false short = tt
 attempted-in-range true false = tt

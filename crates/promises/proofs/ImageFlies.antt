@@ -18,7 +18,7 @@ use Rattle.supervisor.proofs.HistoryLaws.{called-in-range, called-eight}
 use Rattle.flight.specs.Calls.{Imaged, imaged, freshImage, steppedTo, stepImage}
 use Rattle.flight.specs.Saving.{saved}
 use Rattle.flight.proofs.Images.{step-image}
-use Rattle.promises.specs.ImageFlies.{imageAfter, FliesFrom, ImageFlies}
+use Rattle.promises.specs.ImageFlies.{imageAfter, ImageFlies}
 
 fresh-written : (image : List ℕ) → length image ≡ 34 → freshImage image ≡ imaged 0 (saved freshState)
 unfolding freshImage

@@ -13,7 +13,6 @@ use Rattle.frames.specs.Answer.{answerNumber}
 use Rattle.frames.specs.Serial.{movedTo}
 use Rattle.frames.specs.About.{about, sameOrigin, serialFrom}
 use Rattle.frames.specs.declared.sender.Origin.{Origin}
-use Rattle.frames.specs.declared.sender.Origin.the-variants.{Ground, Payload}
 use Rattle.frames.specs.declared.sender.Sender.{Sender}
 use Rattle.frames.specs.declared.serial.Class.{Class}
 use Rattle.frames.specs.declared.serial.Class.the-variants.{Repeat, Fresh, Stale}
@@ -76,10 +75,6 @@ pub data Answers (f : Frame) (s : State) (a : Acted) : Type 0 where
       (sender : Sender) →
       ((origin : Origin) → serialFrom origin (about (Accepted f)) ≡ (if sameOrigin origin (sender .origin) then sender .serial ∷ [] else [])) →
       Judged (classIn s sender) sender s a → Answers f s a
-
-pub own-serial : (origin : Origin) (serial : ℕ) → (if sameOrigin origin origin then serial ∷ [] else []) ≡ serial ∷ []
-own-serial Ground serial = refl
-own-serial Payload serial = refl
 
 not-ten : _≡_ {A = ℕ} 0 10 → ⊥
 not-ten e = omega arith

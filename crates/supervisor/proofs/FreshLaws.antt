@@ -9,7 +9,7 @@ use Rattle.basics.specs.Each.{each, eachFrom}
 use Rattle.basics.proofs.ChoiceLaws.{agreed}
 use Rattle.basics.proofs.TablesLaws.{upto}
 use Rattle.modules.specs.Groups.{moduleCount, isMission}
-use Rattle.modules.specs.Power.{isOn, isFailed}
+use Rattle.modules.specs.Power.{isOn}
 use Rattle.modules.specs.Stage.{requestedBy, modulesInRange}
 use Rattle.supervisor.specs.State.{moduleAt}
 use Rattle.supervisor.specs.Fresh.{freshState}
@@ -36,9 +36,3 @@ module _ (i : ℕ) (low : i < moduleCount) where
   fresh-off =
       agreed (isOn (moduleAt i freshState .power)) false
       (upto (λ k. if isOn (moduleAt k freshState .power) then false else true) moduleCount tt i low)
-
-  pub fresh-sound : isFailed (moduleAt i freshState .power) ≡ false
-  unfolding freshState requestedBy each eachFrom
-  fresh-sound =
-      agreed (isFailed (moduleAt i freshState .power)) false
-      (upto (λ k. if isFailed (moduleAt k freshState .power) then false else true) moduleCount tt i low)

@@ -11,6 +11,5 @@ pub mod SerialLaws
 pub mod ReportLaws
 pub mod RangeKept
 pub mod HistoryLaws
-pub mod SwitchLaws
 pub mod Outcomes
 pub mod ShutOut

@@ -2,7 +2,7 @@
 -- Assumes nothing.
 use Prim.Native.Nat.{ℕ, _<_}
 use mathlib.Core.Path.{_≡_}
-use mathlib.Core.Bool.{true, false, _&&_, true≢false}
+use mathlib.Core.Bool.{false, _&&_, true≢false}
 use lib.Dec.{T, ltb, ltb→lt, lt→ltb, eqb→eq}
 use Rattle.basics.proofs.ChoiceLaws.{and-left, and-right, and-both}
 use Rattle.modules.specs.Stage.{modulesInRange}

@@ -11,10 +11,6 @@ use Rattle.supervisor.specs.Report.{reportOf, beaconByte}
 use Rattle.supervisor.specs.declared.acted.Acted.{Acted}
 
 module _ (f : Frame) (a : Acted) (room : List ℕ) where
-  pub report-rest : drop reportBytes (reportOf f a ++ drop reportBytes room) ≡ drop reportBytes room
-  unfolding reportOf
-  report-rest = refl
-
   pub report-due : getD (reportOf f a ++ drop reportBytes room) beaconByte 0 ≡ dueNumber (a .due)
   unfolding reportOf
   report-due = refl

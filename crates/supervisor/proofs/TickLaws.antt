@@ -2,7 +2,7 @@
 -- Assumes nothing.
 use Prim.Native.Nat.{ℕ}
 use mathlib.Core.Path.{_≡_, refl, sym}
-use mathlib.Core.Bool.{true, false, true≢false}
+use mathlib.Core.Bool.{false, true≢false}
 use Rattle.frames.specs.declared.answer.Answer.the-variants.{Done}
 use Rattle.supervisor.specs.State.{isDeployWait, withMode}
 use Rattle.supervisor.specs.Acted.{done}

@@ -1,7 +1,6 @@
 -- One tick.
 -- Assumes nothing.
 use Prim.Native.Nat.{ℕ, _+_}
-use mathlib.Core.Bool.{Bool}
 use Rattle.modules.specs.Groups.{coreFour, missionFour}
 use Rattle.modules.specs.Stage.{stageOf}
 use Rattle.supervisor.specs.State.{withMode, withModules}

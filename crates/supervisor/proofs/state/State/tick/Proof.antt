@@ -5,7 +5,6 @@ use mathlib.Core.Bool.{false}
 use mathlib.Core.List.{[], _∷_}
 use mathlib.Core.Logic.{⊎-elim}
 use native.Mathlib.Omega.{arith}
-use lib.Dec.{T}
 use types.Run.{OneOf}
 use denote.Enum.Declared
 use borrow.Author.Needs.{needs}
