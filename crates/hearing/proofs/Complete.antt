@@ -26,13 +26,13 @@ use Rattle.hearing.specs.Reading.{Keys}
 use Rattle.hearing.proofs.Spacing.{spacedAfter, walk-spaced}
 
 -- the number of a sign that may have one more mark
-abbrev Short : ℕ → Bool
-Short n = within 1 31 n
+abbrev mayGrow : ℕ → Bool
+mayGrow n = within 1 31 n
 
 -- all numbers on the way to a sign's last mark are such
 abbrev rising : ℕ → List Mark → Bool
 rising n [] = true
-rising n (m ∷ ms) = Short n && rising (grown n m) ms
+rising n (m ∷ ms) = mayGrow n && rising (grown n m) ms
 
 -- a sign's number is that of its byte alone, and the way to it is short: a test over the table of signs
 abbrev numbered : ℕ → List Mark → Bool
@@ -67,7 +67,7 @@ heard-if true told rest = refl
 heard-if false told rest = refl
 
 -- a mark is over
-module _ (n : ℕ) (m : Mark) (short : T (Short n)) where
+module _ (n : ℕ) (m : Mark) (short : T (mayGrow n)) where
   after-mark : afterMark n (span m) ≡ grown n m
   unfolding afterMark
   after-mark = rw (lt-leb 32 n (omega (arith, within-high 1 31 n short))) (by-mark m)
@@ -100,21 +100,21 @@ module _ (n : ℕ) (m : Mark) (short : T (Short n)) where
 
 -- the marks of a sign past its first, by what is heard once the last is over
 module _ (us : List ℕ) (said : ℕ → Option (List ℕ))
-    (ends : (n : ℕ) (m : Mark) → T (Short n) → hear (ear n (span m) 0) us ≡ said (grown n m)) where
+    (ends : (n : ℕ) (m : Mark) → T (mayGrow n) → hear (ear n (span m) 0) us ≡ said (grown n m)) where
   hear-marks : (ms : List Mark) (n : ℕ) (m : Mark) → T (rising n (m ∷ ms))
       → hear (ear n (span m) 0) (signUnits 1 ms ++ us) ≡ said (climb n (m ∷ ms))
   unfolding toldBy
-  hear-marks [] n m r = ends n m (and-left (Short n) true r)
+  hear-marks [] n m r = ends n m (and-left (mayGrow n) true r)
   hear-marks (dot ∷ ms) n m r =
-      hear-inside n m (and-left (Short n) (rising (grown n m) (dot ∷ ms)) r) (signUnits 1 ms ++ us)
-      ∙ hear-marks ms (grown n m) dot (and-right (Short n) (rising (grown n m) (dot ∷ ms)) r)
+      hear-inside n m (and-left (mayGrow n) (rising (grown n m) (dot ∷ ms)) r) (signUnits 1 ms ++ us)
+      ∙ hear-marks ms (grown n m) dot (and-right (mayGrow n) (rising (grown n m) (dot ∷ ms)) r)
   hear-marks (dash ∷ ms) n m r =
-      hear-inside n m (and-left (Short n) (rising (grown n m) (dash ∷ ms)) r) (1 ∷ 1 ∷ (signUnits 1 ms ++ us))
-      ∙ hear-marks ms (grown n m) dash (and-right (Short n) (rising (grown n m) (dash ∷ ms)) r)
+      hear-inside n m (and-left (mayGrow n) (rising (grown n m) (dash ∷ ms)) r) (1 ∷ 1 ∷ (signUnits 1 ms ++ us))
+      ∙ hear-marks ms (grown n m) dash (and-right (mayGrow n) (rising (grown n m) (dash ∷ ms)) r)
 
 -- the rest of a text, after a mark and then a sign or a space
 abbrev HearsRest : List ℕ → Type 0
-HearsRest t = (word : Bool) (n : ℕ) (m : Mark) → T (Short n) → T (allKnown t) → T (spacedAfter word t)
+HearsRest t = (word : Bool) (n : ℕ) (m : Mark) → T (mayGrow n) → T (allKnown t) → T (spacedAfter word t)
     → hear (ear n (span m) 0) (unitsAfter (gapOf word) t) ≡ spoken (grown n m) (withSpace word t)
 
 -- a whole sign and the rest of the text, from its first mark on
@@ -131,7 +131,7 @@ hear-sign c t m ms n k s rest =
     ∙ rw (is, some-byte)
 
 -- a sign after a mark and a gap
-hear-next : (word : Bool) (n : ℕ) (m : Mark) → T (Short n) → (m′ : Mark) (ms : List Mark) (us t : List ℕ)
+hear-next : (word : Bool) (n : ℕ) (m : Mark) → T (mayGrow n) → (m′ : Mark) (ms : List Mark) (us t : List ℕ)
     → hear (ear 1 (span m′) 0) (signUnits 1 ms ++ us) ≡ some t
     → hear (ear n (span m) 0) (signUnits (gapOf word) (m′ ∷ ms) ++ us) ≡ spoken (grown n m) (withSpace word t)
 unfolding toldBy
@@ -140,7 +140,7 @@ hear-next true n m h dash ms us t e = hear-gap n m h true (1 ∷ 1 ∷ (signUnit
 hear-next false n m h dot ms us t e = hear-gap n m h false (signUnits 1 ms ++ us) t e
 hear-next false n m h dash ms us t e = hear-gap n m h false (1 ∷ 1 ∷ (signUnits 1 ms ++ us)) t e
 
-hear-byte : (c : ℕ) (t : List ℕ) (word b : Bool) (n : ℕ) (m : Mark) → T (Short n) → isSpace c ≡ b
+hear-byte : (c : ℕ) (t : List ℕ) (word b : Bool) (n : ℕ) (m : Mark) → T (mayGrow n) → isSpace c ≡ b
     → T ((b || signed (signOf c)) && allKnown t) → T (not (word && b) && spacedAfter b t) → HearsRest t
     → hear (ear n (span m) 0) (signUnits (gapOf word) (signOf c) ++ unitsAfter (gapOf b) t)
     ≡ spoken (grown n m) (withSpace word (c ∷ t))

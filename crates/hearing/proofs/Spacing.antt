@@ -38,7 +38,7 @@ walked c (e ∷ t) s =
     let n = is-false (isSpace c && isSpace e) (and-left (not (isSpace c && isSpace e)) (spacedAfter (isSpace e) t) s) in
     (rest .0, rw n (rest .1))
 
--- not badly spaced, and as the walk goes: a text may be followed by what is first in it
+-- a text that is not badly spaced may stand after a space, as the walk goes, and one that may is not badly spaced
 pub walk-spaced : (c : ℕ) (t : List ℕ) → badlySpaced (c ∷ t) ≡ false → T (spacedAfter true (c ∷ t))
 walk-spaced c t b =
     let last = isSpace (getD (c ∷ t) (length t) 0) in
