@@ -60,7 +60,9 @@ count-within text room h l =
     either (λ (o : Outcome ℕ). o .result ≤ length room) (leb longest (length room)) (omega arith) (omega arith)
 
 module _ (log : Log) (room : List ℕ) (fits : longest ≤ length room) where
-  printed-within : (answer : Answer) (s : State) (report frame : List ℕ) (bytes : ℕ) → 0 < length frame → length frame ≤ bytes → Within (printed answer s report log frame room .result .entry) bytes (length room)
+  printed-within :
+      (answer : Answer) (s : State) (report frame : List ℕ) (bytes : ℕ) → 0 < length frame → length frame ≤ bytes →
+      Within (printed answer s report log frame room .result .entry) bytes (length room)
   printed-within answer s report frame bytes some h =
       either (λ (o : Outcome Entered). Within (o .result .entry) bytes (length room)) (isReported answer)
       {x = goesOn (placed (lineOf (log .n) report) room) (length frame) s log}
@@ -74,7 +76,9 @@ module _ (log : Log) (room : List ℕ) (fits : longest ≤ length room) where
       let step = stepOf (log .state) frame (replicate reportBytes 0) in
       printed-within (step .result .answer) (step .result .state) (step .room) frame bytes some h
 
-  entered-within : (f : Front) (bytes : List ℕ) (ended : Bool) → FrontWithin f (length bytes) → Within (enteredAt f log bytes ended room .result .entry) (length bytes) (length room)
+  entered-within :
+      (f : Front) (bytes : List ℕ) (ended : Bool) → FrontWithin f (length bytes) →
+      Within (enteredAt f log bytes ended room .result .entry) (length bytes) (length room)
   entered-within (front.Frame total) bytes ended h =
       let e : length (take total bytes) ≡ total = length-take-le total bytes (h .1) in
       worked-within (take total bytes) (length bytes) (rw e (h .0)) (rw e (h .1))
@@ -125,17 +129,23 @@ enter-length log bytes ended room =
 
 -- what a step leaves is printed: a line, or a refusal
 module _ (answer : Answer) (s : State) (report : List ℕ) (log : Log) (frame room : List ℕ) (count : ℕ) (later : List ℕ) where
-  pub printed-line : (n : ℕ) → isReported answer ≡ true → outcome count later ≡ placed (lineOf (log .n) report) room → n ≡ (log .n + 1) % 2 ^ 64 → outcome (record { entry = Line (length frame) count; log = record { state = s; n = n } }) later ≡ printed answer s report log frame room
+  pub printed-line :
+      (n : ℕ) → isReported answer ≡ true → outcome count later ≡ placed (lineOf (log .n) report) room → n ≡ (log .n + 1) % 2 ^ 64 →
+      outcome (record { entry = Line (length frame) count; log = record { state = s; n = n } }) later ≡ printed answer s report log frame room
   printed-line n t w e = rw (t, ← w, e)
 
-  pub printed-refusal : isReported answer ≡ false → outcome count later ≡ placed (refusedLine (log .n) answer) room → outcome (record { entry = Last count; log = log }) later ≡ printed answer s report log frame room
+  pub printed-refusal :
+      isReported answer ≡ false → outcome count later ≡ placed (refusedLine (log .n) answer) room →
+      outcome (record { entry = Last count; log = log }) later ≡ printed answer s report log frame room
   printed-refusal t w = rw (t, ← w)
 
 -- a whole frame at the front
 pub frame-within : (bytes : List ℕ) (total : ℕ) → cutOf bytes ≡ front.Frame total → total ≤ length bytes
 frame-within bytes total e = rw e at (cut-within bytes) .1
 
-pub enter-frame : (log : Log) (bytes : List ℕ) (ended : Bool) (room : List ℕ) (total : ℕ) → longest ≤ length room → cutOf bytes ≡ front.Frame total → worked log (take (total - 0) bytes) room ≡ enterOf log bytes ended room
+pub enter-frame :
+    (log : Log) (bytes : List ℕ) (ended : Bool) (room : List ℕ) (total : ℕ) → longest ≤ length room → cutOf bytes ≡ front.Frame total →
+    worked log (take (total - 0) bytes) room ≡ enterOf log bytes ended room
 unfolding enterOf
 enter-frame log bytes ended room total h e =
     let z : total - 0 ≡ total = omega arith in
@@ -143,7 +153,9 @@ enter-frame log bytes ended room total h e =
 
 -- what an entry counts, where the stream and the room are parts
 module _ (log : Log) (bytes : List ℕ) (ended : Bool) (room : List ℕ) {entered : Entered} {later : List ℕ} where
-  pub line-within : {frame line : ℕ} → outcome entered later ≡ enterOf log bytes ended room → entered .entry ≡ Line frame line → (0 < frame) × (frame ≤ length bytes) × (line ≤ length room)
+  pub line-within :
+      {frame line : ℕ} → outcome entered later ≡ enterOf log bytes ended room → entered .entry ≡ Line frame line →
+      (0 < frame) × (frame ≤ length bytes) × (line ≤ length room)
   line-within k e = rw e at (rw (← k) at (enter-within log bytes ended room))
 
   pub last-within : {line : ℕ} → outcome entered later ≡ enterOf log bytes ended room → entered .entry ≡ Last line → line ≤ length room

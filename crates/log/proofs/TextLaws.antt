@@ -101,7 +101,9 @@ module _ {at next : ℕ} {room later : List ℕ} where
       }
 
   -- a text, then another
-  pub put-both : {text other between : List ℕ} {most more middle : ℕ} → Put text most at room middle between → Put other more middle between next later → Put (text ++ other) (most + more) at room next later
+  pub put-both :
+      {text other between : List ℕ} {most more middle : ℕ} → Put text most at room middle between → Put other more middle between next later →
+      Put (text ++ other) (most + more) at room next later
   put-both {text} {other} p q =
       record {
         after = rw length-append (omega (arith, p .after, q .after));
@@ -117,7 +119,10 @@ pub put-one : (byte at : ℕ) (room : List ℕ) → Put (byte ∷ []) 1 at room 
 put-one byte at room = record { after = refl; near = omega arith; stored = refl }
 
 -- bytes copied to the front of what a room has from a place on
-pub put-part : (text room part : List ℕ) (at : ℕ) → at + length text ≤ length room → part ≡ take (length text) text ++ drop (length text) (take (length room - at) (drop at room)) → Put text (length text) at room (at + length text) (take at room ++ (part ++ drop (length room - at) (drop at room)))
+pub put-part :
+    (text room part : List ℕ) (at : ℕ) → at + length text ≤ length room →
+    part ≡ take (length text) text ++ drop (length text) (take (length room - at) (drop at room)) →
+    Put text (length text) at room (at + length text) (take at room ++ (part ++ drop (length room - at) (drop at room)))
 put-part text room part at h e =
     let whole : take (length room - at) (drop at room) ≡ drop at room = take-all (length room - at) (drop at room) (rw length-drop (le-refl (length room - at))) in
     let end : at + (length room - at) ≡ length room = omega arith in

@@ -23,15 +23,20 @@ use Rattle.stream.specs.Piece.{ending, following, continued, fillUpTo, f
 use Rattle.stream.specs.declared.piece.Filled.{Filled}
 
 -- two stretches are one
-following-both : (used lines frame line : ℕ) (room later : List ℕ) (rest : Outcome Filled) → lines ≤ length room → following used lines room (following frame line later rest) ≡ following (used + frame) (lines + line) (take lines room ++ later) rest
+following-both :
+    (used lines frame line : ℕ) (room later : List ℕ) (rest : Outcome Filled) → lines ≤ length room →
+    following used lines room (following frame line later rest) ≡ following (used + frame) (lines + line) (take lines room ++ later) rest
 following-both used lines frame line room later rest h =
     let front : length (take lines room) ≡ lines = length-take-le lines room h in
     let both : take (lines + line) (take lines room ++ later) ≡ take lines room ++ take line later = rw front at (take-append-add (take lines room) later line) in
     rw (both, append-assoc, add-assoc used frame, add-assoc lines line)
 
 -- an entry, and what follows it
-module _ (entries : ℕ) (log : Log) (bytes : List ℕ) (ended : Bool) (room : List ℕ) {entered : Entered} {later : List ℕ} (k : enterOf log bytes ended room ≡ outcome entered later) where
-  upTo-line : {frame line : ℕ} → entered .entry ≡ Line frame line → fillUpTo (suc entries) log bytes ended room ≡ following frame line later (fillUpTo entries (entered .log) (drop frame bytes) ended (drop line later))
+module _ (entries : ℕ) (log : Log) (bytes : List ℕ) (ended : Bool) (room : List ℕ) {entered : Entered} {later : List ℕ}
+    (k : enterOf log bytes ended room ≡ outcome entered later) where
+  upTo-line :
+      {frame line : ℕ} → entered .entry ≡ Line frame line →
+      fillUpTo (suc entries) log bytes ended room ≡ following frame line later (fillUpTo entries (entered .log) (drop frame bytes) ended (drop line later))
   unfolding fillUpTo
   upTo-line e = rw (k, e)
 
@@ -80,7 +85,9 @@ abbrev lentBack : (room : List ℕ) (from : ℕ) (later : List ℕ) → List ℕ
 lentBack room from later = take from room ++ (later ++ drop (length room - from) (drop from room))
 
 -- one entry: the bytes and the room are parts, and the room's part comes back as it was left
-module _ {log₀ : Log} {bytes : List ℕ} {ended : Bool} {room₀ : List ℕ} {log : Log} {room : List ℕ} {used lines : ℕ} (u : Underway log₀ bytes ended room₀ log room used lines) (entered : Entered) (later : List ℕ) (k : outcome entered later ≡ enterOf log (partFrom bytes used) ended (partFrom room lines)) where
+module _ {log₀ : Log} {bytes : List ℕ} {ended : Bool} {room₀ : List ℕ} {log : Log} {room : List ℕ} {used lines : ℕ}
+    (u : Underway log₀ bytes ended room₀ log room used lines) (entered : Entered) (later : List ℕ)
+    (k : outcome entered later ≡ enterOf log (partFrom bytes used) ended (partFrom room lines)) where
   whole : (xs : List ℕ) (from : ℕ) → partFrom xs from ≡ drop from xs
   whole xs from = take-all (length xs - from) (drop from xs) (rw length-drop (le-refl (length xs - from)))
 
@@ -91,7 +98,8 @@ module _ {log₀ : Log} {bytes : List ℕ} {ended : Bool} {room₀ : List ℕ} {
   -- the room after it
   room-after : lentBack room lines later ≡ take lines room ++ later
   room-after =
-      let end : drop (length room - lines) (drop lines room) ≡ [] = drop-of-length-le (drop lines room) {i = length room - lines} (rw length-drop (le-refl (length room - lines))) in
+      let end : drop (length room - lines) (drop lines room) ≡ [] =
+      drop-of-length-le (drop lines room) {i = length room - lines} (rw length-drop (le-refl (length room - lines))) in
       rw (end, append-nil)
 
   length-later : length later ≡ length room - lines
@@ -122,18 +130,25 @@ module _ {log₀ : Log} {bytes : List ℕ} {ended : Bool} {room₀ : List ℕ} {
       })
 
   -- a last line: the piece ends with it
-  pub underway-last : (line : ℕ) → entered .entry ≡ Last line → outcome (record { entry = Last line; log = entered .log; used = used; lines = lines + line }) (lentBack room lines later) ≡ fillOf log₀ bytes ended room₀
+  pub underway-last :
+      (line : ℕ) → entered .entry ≡ Last line →
+      outcome (record { entry = Last line; log = entered .log; used = used; lines = lines + line }) (lentBack room lines later) ≡ fillOf log₀ bytes ended room₀
   underway-last line e = rw room-after (simp (upTo-last (u .entries) log (drop used bytes) ended (drop lines room) entry-left e, add-zero) at (u .rest))
 
   -- no line: the piece ends there
-  pub underway-stop : OneOf (2 ∷ 3 ∷ []) (tagOf the-type (entered .entry)) → outcome (record { entry = entered .entry; log = entered .log; used = used; lines = lines }) (lentBack room lines later) ≡ fillOf log₀ bytes ended room₀
+  pub underway-stop :
+      OneOf (2 ∷ 3 ∷ []) (tagOf the-type (entered .entry)) →
+      outcome (record { entry = entered .entry; log = entered .log; used = used; lines = lines }) (lentBack room lines later) ≡ fillOf log₀ bytes ended room₀
   underway-stop t = rw room-after (simp (upTo-stop (u .entries) log (drop used bytes) ended (drop lines room) entry-left (stops (entered .entry) t), add-zero) at (u .rest))
 
 -- what is used and what the lines have lie within the bytes and the room
 abbrev FilledWithin : Outcome Filled → (bytes room : ℕ) → Type 0
 FilledWithin o bytes room = (o .result .used ≤ bytes) × (o .result .lines ≤ room)
 
-continued-within : (e : Entry) (log : Log) (bytes : ℕ) (later : List ℕ) (rest : (frame line : ℕ) → Outcome Filled) → Within e bytes (length later) → ((frame line : ℕ) → FilledWithin (rest frame line) (bytes - frame) (length later - line)) → FilledWithin (continued e log later rest) bytes (length later)
+continued-within :
+    (e : Entry) (log : Log) (bytes : ℕ) (later : List ℕ) (rest : (frame line : ℕ) → Outcome Filled) → Within e bytes (length later) →
+    ((frame line : ℕ) → FilledWithin (rest frame line) (bytes - frame) (length later - line)) →
+    FilledWithin (continued e log later rest) bytes (length later)
 continued-within (Line frame line) log bytes later rest w r = let h = r frame line in (omega arith, omega arith)
 continued-within (Last line) log bytes later rest w r = (omega arith, w)
 continued-within More log bytes later rest w r = (omega arith, omega arith)
@@ -149,8 +164,11 @@ upTo-within (suc entries) log bytes ended room =
     (continued-within (entered .result .entry) (entered .result .log) (length bytes) (entered .room)
     (λ frame line. fillUpTo entries (entered .result .log) (drop frame bytes) ended (drop line (entered .room)))
     (rw long (enter-within log bytes ended room))
-    (λ frame line. rw (← length-drop frame bytes, ← length-drop line (entered .room)) (upTo-within entries (entered .result .log) (drop frame bytes) ended (drop line (entered .room)))))
+    (λ frame line. rw (← length-drop frame bytes, ← length-drop line (entered .room))
+    (upTo-within entries (entered .result .log) (drop frame bytes) ended (drop line (entered .room)))))
 
-pub fill-within : (log : Log) (bytes : List ℕ) (ended : Bool) (room : List ℕ) {filled : Filled} {later : List ℕ} → outcome filled later ≡ fillOf log bytes ended room → (filled .used ≤ length bytes) × (filled .lines ≤ length room)
+pub fill-within :
+    (log : Log) (bytes : List ℕ) (ended : Bool) (room : List ℕ) {filled : Filled} {later : List ℕ} →
+    outcome filled later ≡ fillOf log bytes ended room → (filled .used ≤ length bytes) × (filled .lines ≤ length room)
 unfolding fillOf
 fill-within log bytes ended room e = rw (← e) at (upTo-within (suc (length bytes)) log bytes ended room)

@@ -27,7 +27,9 @@ moved-getD bytes from kept h =
     ∙ ap (λ (k : ℕ). getD bytes k 0) (sym e)
     ∙ sym (getD-drop from bytes kept 0)
 
-pub moved-turn : (bytes : List ℕ) (from kept i : ℕ) (now : List ℕ) → now ≡ moved bytes from kept → from + kept ≡ i → i < length bytes → set now kept (getD now i 0) ≡ moved bytes from (kept + 1)
+pub moved-turn :
+    (bytes : List ℕ) (from kept i : ℕ) (now : List ℕ) → now ≡ moved bytes from kept → from + kept ≡ i → i < length bytes →
+    set now kept (getD now i 0) ≡ moved bytes from (kept + 1)
 moved-turn bytes from kept i now same e h =
     let l : from + kept < length bytes = omega arith in
     let s : kept < length (drop from bytes) = rw length-drop (omega arith) in

@@ -1,3 +1,5 @@
+-- `order` meets its contract.
+-- Assumes nothing.
 use Rattle.frames.specs.Reading.{orderFields}
 use borrow.Author.Needs.{needs}
 use Rattle.frames.proofs.reading.order.Statement.{statement}

@@ -1,3 +1,5 @@
+-- `sender_from` meets its contract.
+-- Assumes nothing.
 use borrow.Author.Needs.{needs}
 use Rattle.frames.proofs.reading.sender_from.Statement.{statement}
 use Rattle.frames.proofs.reading.sender_from.Tie as tie

@@ -1,3 +1,5 @@
+-- `thresholds` meets its contract.
+-- Assumes nothing.
 use borrow.Author.Tests.{eq-eqb, ne-eqb}
 use Rattle.frames.specs.Reading.{thresholdsFields}
 use borrow.Author.Needs.{needs}
@@ -38,7 +40,12 @@ returns : tie.Need-returns
 unfolding thresholdsFields
 returns c =
     simp (
-      rw (c .before .before .are-thresholds .ensures, c .before .before .before .is-origin .ensures, c .before .before .before .before .word2 .ensures, c .before .before .before .before .before .before .before .word .ensures) at (c .before .if1 .taken),
+      rw (
+        c .before .before .are-thresholds .ensures,
+        c .before .before .before .is-origin .ensures,
+        c .before .before .before .before .word2 .ensures,
+        c .before .before .before .before .before .before .before .word .ensures,
+      ) at (c .before .if1 .taken),
       eq-eqb _ _ (c .if2 .taken),
     )
 
@@ -61,7 +68,12 @@ returns-2 c =
 returns-3 : tie.Need-returns-3
 unfolding thresholdsFields
 returns-3 c =
-    simp (rw (c .before .are-thresholds .ensures, c .before .before .is-origin .ensures, c .before .before .before .word2 .ensures, c .before .before .before .before .before .before .word .ensures) at (c .if1 .left))
+    simp (rw (
+      c .before .are-thresholds .ensures,
+      c .before .before .is-origin .ensures,
+      c .before .before .before .word2 .ensures,
+      c .before .before .before .before .before .before .word .ensures,
+    ) at (c .if1 .left))
 
 pub thresholds-spec : {M : Type 1} → statement M
 thresholds-spec =

@@ -32,7 +32,8 @@ returns c =
     let a = asked .before .before .before .before .before .before .args in
     rw (← step .ensures)
     (printed-line (step .result .answer) (step .result .state) (step .last .1 .1 .0) (a .log) (now (a .frame)) (now (a .room)) _ _ _
-    (rw (asked .is-reported .ensures) at (c .before .before .before .before .before .before .before .if1 .taken)) (c .before .before .before .line .ensures) (c .wrapping-add-u64 .ensures))
+    (rw (asked .is-reported .ensures) at (c .before .before .before .before .before .before .before .if1 .taken))
+    (c .before .before .before .line .ensures) (c .wrapping-add-u64 .ensures))
 
 refused-requires : tie.Need-refused-requires
 refused-requires c κs = search needs

@@ -1,3 +1,5 @@
+-- `Frame::head` meets its contract.
+-- Assumes nothing.
 use borrow.Author.Needs.{needs}
 use Rattle.frames.proofs.frame.Frame.head.Statement.{statement}
 use Rattle.frames.proofs.frame.Frame.head.Tie as tie
