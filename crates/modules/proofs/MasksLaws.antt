@@ -47,8 +47,10 @@ packedWith m all = 2 * all + powerBits (m .power) + below (m .requested) 0
 pub packed-step : (m : Module) (ms : List Module) → packed (m ∷ ms) ≡ packedWith m (packed ms)
 unfolding packed maskOf
 packed-step m ms =
-    omega
-    (arith, below-shift (m .requested) (maskOf (λ m. m .requested) ms), below-shift (isOn (m .power)) (maskOf (λ m. isOn (m .power)) ms), below-shift (isFailed (m .power)) (maskOf (λ m. isFailed (m .power)) ms))
+    let r = below-shift (m .requested) (maskOf (λ m. m .requested) ms) in
+    let o = below-shift (isOn (m .power)) (maskOf (λ m. isOn (m .power)) ms) in
+    let f = below-shift (isFailed (m .power)) (maskOf (λ m. isFailed (m .power)) ms) in
+    omega (arith, r, o, f)
 
 pub packed-none : packed [] ≡ 0
 unfolding packed maskOf

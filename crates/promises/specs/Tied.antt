@@ -53,7 +53,8 @@ pub record Tied : Type 0 where
       Says write.ended write-reads.Learnt
       (λ κs a x. outcome (x .0) (x .1 .1 .1 .0) ≡ beaconOf (a .1 .0) (a .0) (a .1 .1 .0 .now))
   -- ems_fresh(image) and ems_step(image, frame, room), which C calls
-  pub ems-fresh : Says ems-fresh.ended ems-fresh-reads.Learnt (λ κs a x. imaged (x .0) (x .1 .0) ≡ freshImage (a .0 .now))
+  pub ems-fresh :
+      Says ems-fresh.ended ems-fresh-reads.Learnt (λ κs a x. imaged (x .0) (x .1 .0) ≡ freshImage (a .0 .now))
   pub ems-step :
       Says ems-step.ended ems-step-reads.Learnt
       (λ κs a x.

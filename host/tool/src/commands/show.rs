@@ -82,7 +82,7 @@ fn repeats(bytes: &[u8], piece: &[u8]) -> usize {
 }
 
 /// The board's word on a piece: whether it would refuse it, and for what. The
-/// checks 4 to 7 look at nothing but the frame, so a fresh board knows.
+/// checks 3 to 7 look at nothing but the frame, so a fresh board knows.
 fn refusal(piece: &[u8]) -> Option<u8> {
     Board::fresh().step(piece).outcome.err()
 }

@@ -54,8 +54,9 @@ request-bit-requires c κs = search needs
 add-all-2 : tie.Need-add-all-2 Inv-loop μ-loop
 add-all-2 c =
     let here : tie.At-loop Inv-loop μ-loop = c .before .before .before .before in
-    omega
-    (arith, room here (search needs), rw (← c .before .power-bits .ensures) at (power-bits-small (taken here .power)), rw (← c .request-bit .ensures) at (request-bit-small (taken here .requested)))
+    let p = rw (← c .before .power-bits .ensures) at (power-bits-small (taken here .power)) in
+    let r = rw (← c .request-bit .ensures) at (request-bit-small (taken here .requested)) in
+    omega (arith, room here (search needs), p, r)
 
 loop-less : tie.Need-loop-less Inv-loop μ-loop
 loop-less c = search needs

@@ -27,7 +27,9 @@ array-set-from-asked : tie.Need-array-set-from-asked
 array-set-from-asked c = search needs
 
 returns : tie.Need-returns
-returns c = simp (c .with-request .ensures) (request-stored (c .before .before .before .args .which) (c .before .before .before .args .on) (c .before .before .before .args .modules) _)
+returns c =
+    let start : tie.Start = c .before .before .before in
+    simp (c .with-request .ensures) (request-stored (start .args .which) (start .args .on) (start .args .modules) _)
 
 returns-2 : tie.Need-returns-2
 returns-2 c =

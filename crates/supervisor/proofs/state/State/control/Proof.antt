@@ -49,8 +49,13 @@ returns-3 : tie.Need-returns-3
 unfolding controlled
 returns-3 c =
     let judged : tie.After-crossing = c .before .before .before in
-    simp
-    (eq-eqb _ _ (judged .before .before .before .if1 .left), c .crossed .ensures, c .before .is-upward .ensures, rw (judged .crossing .ensures) at (crosses (judged .crossing .result) (c .before .before .match .keys2)), judged .crossing .ensures)
+    simp (
+      eq-eqb _ _ (judged .before .before .before .if1 .left),
+      c .crossed .ensures,
+      c .before .is-upward .ensures,
+      rw (judged .crossing .ensures) at (crosses (judged .crossing .result) (c .before .before .match .keys2)),
+      judged .crossing .ensures,
+    )
 
 pub control-spec : {M : Type 1} → statement M
 control-spec =
