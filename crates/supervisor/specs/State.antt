@@ -60,7 +60,11 @@ endAt i s = endOf i (s .ends)
 abbrev pub withWatch : Watch → State → State
 withWatch watch s =
     record {
-      watch = watch; antennas = s .antennas; battery = s .battery; serials = s .serials; ends = s .ends;
+      watch = watch;
+      antennas = s .antennas;
+      battery = s .battery;
+      serials = s .serials;
+      ends = s .ends;
       modules = s .modules;
     }
 
@@ -68,7 +72,11 @@ withWatch watch s =
 abbrev pub withAntennas : Bool → State → State
 withAntennas deployed s =
     record {
-      watch = s .watch; antennas = deployed; battery = s .battery; serials = s .serials; ends = s .ends;
+      watch = s .watch;
+      antennas = deployed;
+      battery = s .battery;
+      serials = s .serials;
+      ends = s .ends;
       modules = s .modules;
     }
 
@@ -76,7 +84,11 @@ withAntennas deployed s =
 abbrev pub withBattery : Battery → State → State
 withBattery battery s =
     record {
-      watch = s .watch; antennas = s .antennas; battery = battery; serials = s .serials; ends = s .ends;
+      watch = s .watch;
+      antennas = s .antennas;
+      battery = battery;
+      serials = s .serials;
+      ends = s .ends;
       modules = s .modules;
     }
 
@@ -84,7 +96,11 @@ withBattery battery s =
 abbrev pub withSerials : Serials → State → State
 withSerials serials s =
     record {
-      watch = s .watch; antennas = s .antennas; battery = s .battery; serials = serials; ends = s .ends;
+      watch = s .watch;
+      antennas = s .antennas;
+      battery = s .battery;
+      serials = serials;
+      ends = s .ends;
       modules = s .modules;
     }
 
@@ -92,7 +108,11 @@ withSerials serials s =
 abbrev pub withEnds : Ends → State → State
 withEnds ends s =
     record {
-      watch = s .watch; antennas = s .antennas; battery = s .battery; serials = s .serials; ends = ends;
+      watch = s .watch;
+      antennas = s .antennas;
+      battery = s .battery;
+      serials = s .serials;
+      ends = ends;
       modules = s .modules;
     }
 
@@ -100,7 +120,11 @@ withEnds ends s =
 abbrev pub withModules : List Module → State → State
 withModules modules s =
     record {
-      watch = s .watch; antennas = s .antennas; battery = s .battery; serials = s .serials; ends = s .ends;
+      watch = s .watch;
+      antennas = s .antennas;
+      battery = s .battery;
+      serials = s .serials;
+      ends = s .ends;
       modules = modules;
     }
 
