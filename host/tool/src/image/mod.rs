@@ -6,8 +6,8 @@ pub use layout::{fields, Field, Power, BYTES};
 
 use ems::{Mode, Module};
 use layout::{
-    of_module, Supply, Watch, ANTENNAS, ASCEND, BEACON, CONTROL, DESCEND, GROUND, MODE, PAYLOAD,
-    TENSION,
+    of_end, of_module, Supply, Watch, ANTENNAS, ASCEND, BEACON, CONTROL, DESCEND, GROUND, MODE,
+    PAYLOAD, TENSION,
 };
 
 /// What a board in DEPLOY_WAIT does.
@@ -121,6 +121,11 @@ impl Image {
 
     fn supply(&self, module: Module) -> Option<Supply> {
         Supply::of(self.number(&of_module(module)))
+    }
+
+    /// The seconds until a module's request goes off; 0 where no end is running.
+    pub fn end(&self, module: Module) -> u32 {
+        of_end(module).map_or(0, |field| self.number(&field))
     }
 
     /// The modules that are requested on, as a mask.
