@@ -36,7 +36,7 @@ imaged number image = record { number = number; image = image }
 abbrev pub badState : ℕ
 badState = answerNumber answer.BadState
 
--- the image of the fresh start, into 34 bytes
+-- the image of the fresh start, into 50 bytes
 unfoldable pub freshImage : (image : List ℕ) → Imaged
 freshImage image =
     if eqb (length image) imageBytes then imaged (answerNumber answer.Done) (saved freshState)

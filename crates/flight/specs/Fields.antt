@@ -18,6 +18,10 @@ pairBytes n = n % 256 ∷ n / 256 ∷ []
 abbrev pub tripleBytes : ℕ → List ℕ
 tripleBytes n = n % 256 ∷ n / 256 % 256 ∷ n / 65536 ∷ []
 
+-- a number as four bytes
+abbrev pub quadBytes : ℕ → List ℕ
+quadBytes n = n % 256 ∷ n / 256 % 256 ∷ n / 65536 % 256 ∷ n / 16777216 ∷ []
+
 -- the number whose two bytes stand from i on
 abbrev pub pairAt : ℕ → List ℕ → ℕ
 pairAt i bytes = byteAt i bytes + byteAt (i + 1) bytes * 256
@@ -25,3 +29,7 @@ pairAt i bytes = byteAt i bytes + byteAt (i + 1) bytes * 256
 -- the number whose three bytes stand from i on
 abbrev pub tripleAt : ℕ → List ℕ → ℕ
 tripleAt i bytes = pairAt i bytes + byteAt (i + 2) bytes * 65536
+
+-- the number whose four bytes stand from i on
+abbrev pub quadAt : ℕ → List ℕ → ℕ
+quadAt i bytes = pairAt i bytes + pairAt (i + 2) bytes * 65536

@@ -14,7 +14,7 @@ use Rattle.modules.specs.declared.power.Module.{Module}
 use Rattle.frames.specs.Reading.{byteAt}
 use Rattle.supervisor.specs.Range.{inRange}
 use Rattle.supervisor.specs.declared.state.State.{State}
-use Rattle.flight.specs.Fields.{pairAt, tripleAt}
+use Rattle.flight.specs.Fields.{pairAt, tripleAt, quadAt}
 use Rattle.flight.specs.Codes.{modeFrom, moduleFrom}
 use Rattle.flight.specs.Saving.{imageBytes, layoutVersion, modulesPlace}
 
@@ -27,7 +27,7 @@ hasLayout bytes =
 abbrev pub blank : Module
 blank = record { power = On; requested = false }
 
--- module i stands at 18 + 2 i
+-- module i stands at 34 + 2 i
 unfoldable pub modulesIn : List ℕ → List Module
 modulesIn bytes = each (λ i m. moduleFrom (pairAt (modulesPlace + 2 * i) bytes)) (replicate moduleCount blank)
 
@@ -40,6 +40,13 @@ decoded bytes =
       antennas = eqb (byteAt 7 bytes) 1;
       battery = record { tension = pairAt 8 bytes; ascend = pairAt 10 bytes; descend = pairAt 12 bytes };
       serials = record { ground = pairAt 14 bytes; payload = pairAt 16 bytes };
+      ends =
+          record {
+            adcs = quadAt 18 bytes;
+            payload = quadAt 22 bytes;
+            sband1 = quadAt 26 bytes;
+            sband2 = quadAt 30 bytes;
+          };
       modules = modulesIn bytes;
     }
 

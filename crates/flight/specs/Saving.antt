@@ -1,23 +1,23 @@
--- The state as an image of 34 bytes.
+-- The state as an image of 50 bytes.
 -- Assumes nothing.
 use Prim.Native.Nat.{ℕ}
 use mathlib.Core.List.{List, [], _∷_, _++_}
 use Rattle.modules.specs.declared.power.Module.{Module}
 use Rattle.supervisor.specs.declared.state.State.{State}
-use Rattle.flight.specs.Fields.{flag, pairBytes, tripleBytes}
+use Rattle.flight.specs.Fields.{flag, pairBytes, tripleBytes, quadBytes}
 use Rattle.flight.specs.Codes.{modeCode, moduleCode}
 
 -- byte 0: the version of the layout
 abbrev pub layoutVersion : ℕ
-layoutVersion = 2
+layoutVersion = 3
 
 -- the bytes of an image
 abbrev pub imageBytes : ℕ
-imageBytes = 34
+imageBytes = 50
 
 -- the modules stand from here on, two bytes each
 abbrev pub modulesPlace : ℕ
-modulesPlace = 18
+modulesPlace = 34
 
 -- the modules, one after another
 unfoldable pub modulesBytes : List Module → List ℕ
@@ -25,7 +25,7 @@ modulesBytes [] = []
 modulesBytes (m ∷ ms) = pairBytes (moduleCode m) ++ modulesBytes ms
 
 -- version, mode with its phase (3), control count, beacon count (2), antennas, tension (2), ascend (2), descend (2),
--- the ground's last serial (2), the payload's (2)
+-- the ground's last serial (2), the payload's (2), the ends of ADCS, PAYLOAD, SBAND1, SBAND2 (4 each)
 unfoldable pub headBytes : State → List ℕ
 headBytes s =
     (layoutVersion ∷ tripleBytes (modeCode (s .watch .mode)))
@@ -33,6 +33,8 @@ headBytes s =
     ++ (flag (s .antennas) ∷ pairBytes (s .battery .tension))
     ++ pairBytes (s .battery .ascend) ++ pairBytes (s .battery .descend)
     ++ pairBytes (s .serials .ground) ++ pairBytes (s .serials .payload)
+    ++ quadBytes (s .ends .adcs) ++ quadBytes (s .ends .payload)
+    ++ quadBytes (s .ends .sband1) ++ quadBytes (s .ends .sband2)
 
 -- the image of a state
 unfoldable pub saved : State → List ℕ

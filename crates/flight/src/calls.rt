@@ -1,4 +1,4 @@
-// What C and Rust call. An image is the caller's: 34 bytes, the whole state.
+// What C and Rust call. An image is the caller's: 50 bytes, the whole state.
 // A slice passes as a pointer and a length, a count through a pointer; each call answers the page's number.
 ghost use mathlib.Core.Path.{_≡_};
 ghost use Rattle.basics.specs.Outcome.{outcome, reply};

@@ -7,11 +7,13 @@ ghost use Rattle.flight.specs.Loading.{hasLayout, modulesIn, decoded};
 use crate::codes::mode_from;
 use crate::codes::module_from;
 use crate::fields::pair_at;
+use crate::fields::quad_at;
 use crate::saving::IMAGE_BYTES;
 use crate::saving::MODULE_COUNT;
 use crate::saving::MODULES_PLACE;
 use crate::saving::VERSION;
 use frames::serial::Serials;
+use modules::ends::Ends;
 use modules::power::Module;
 use modules::power::Power;
 use supervisor::state::Battery;
@@ -69,6 +71,12 @@ pub(crate) fn decode(image: &[u8]) -> State
         serials: Serials {
             ground: pair_at(image, 14),
             payload: pair_at(image, 16),
+        },
+        ends: Ends {
+            adcs: quad_at(image, 18),
+            payload: quad_at(image, 22),
+            sband1: quad_at(image, 26),
+            sband2: quad_at(image, 30),
         },
         modules,
     }

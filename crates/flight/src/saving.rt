@@ -1,4 +1,4 @@
-// The state as an image of 34 bytes: saved.
+// The state as an image of 50 bytes: saved.
 ghost use mathlib.Core.Path.{_≡_};
 ghost use mathlib.Core.Bool.{true};
 ghost use Prim.Native.Nat.{_+_, _≤_};
@@ -15,13 +15,13 @@ use modules::power::Module;
 use supervisor::state::State;
 
 // The version of the layout: an image of other software has another.
-pub(crate) const VERSION: u8 = 2;
+pub(crate) const VERSION: u8 = 3;
 
 // The bytes of an image.
-pub(crate) const IMAGE_BYTES: usize = 34;
+pub(crate) const IMAGE_BYTES: usize = 50;
 
 // The modules stand from here on, two bytes each.
-pub(crate) const MODULES_PLACE: usize = 18;
+pub(crate) const MODULES_PLACE: usize = 34;
 
 // How many modules there are.
 pub(crate) const MODULE_COUNT: usize = 8;
@@ -36,6 +36,7 @@ fn head(state: State) -> [u8; MODULES_PLACE]
     let code = mode_code(mode);
     let battery = state.battery;
     let serials = state.serials;
+    let ends = state.ends;
     [
         VERSION,
         (code % 256) as u8,
@@ -55,6 +56,22 @@ fn head(state: State) -> [u8; MODULES_PLACE]
         (serials.ground / 256) as u8,
         (serials.payload % 256) as u8,
         (serials.payload / 256) as u8,
+        (ends.adcs % 256) as u8,
+        (ends.adcs / 256 % 256) as u8,
+        (ends.adcs / 65536 % 256) as u8,
+        (ends.adcs / 16777216) as u8,
+        (ends.payload % 256) as u8,
+        (ends.payload / 256 % 256) as u8,
+        (ends.payload / 65536 % 256) as u8,
+        (ends.payload / 16777216) as u8,
+        (ends.sband1 % 256) as u8,
+        (ends.sband1 / 256 % 256) as u8,
+        (ends.sband1 / 65536 % 256) as u8,
+        (ends.sband1 / 16777216) as u8,
+        (ends.sband2 % 256) as u8,
+        (ends.sband2 / 256 % 256) as u8,
+        (ends.sband2 / 65536 % 256) as u8,
+        (ends.sband2 / 16777216) as u8,
     ]
 }
 

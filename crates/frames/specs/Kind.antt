@@ -24,6 +24,10 @@ orderKind = 4
 abbrev pub thresholdsKind : ℕ
 thresholdsKind = 5
 
+-- 06 timed order: origin, serial, module, minutes
+abbrev pub timedKind : ℕ
+timedKind = 6
+
 -- 81 report, which is only written
 abbrev pub reportKind : ℕ
 reportKind = 0x81
@@ -39,4 +43,5 @@ totalOf kind =
     if eqb kind batteryKind then 3 else
     if eqb kind antennasKind then 2 else
     if eqb kind orderKind then 6 else
-    if eqb kind thresholdsKind then 8 else 0
+    if eqb kind thresholdsKind then 8 else
+    if eqb kind timedKind then 7 else 0

@@ -6,12 +6,13 @@ use mathlib.Core.List.{List}
 use lib.ListN.{length, getD}
 use lib.Dec.{eqb, leb}
 use Rattle.basics.specs.Choice.{if_then_else_, within, word}
-use Rattle.frames.specs.Kind.{tickKind, batteryKind, antennasKind, orderKind, totalOf}
+use Rattle.modules.specs.Groups.{payloadModule, isMission}
+use Rattle.frames.specs.Kind.{tickKind, batteryKind, antennasKind, orderKind, thresholdsKind, totalOf}
 use Rattle.frames.specs.Sender.{payloadOrigin, isOrigin, originFrom}
 use Rattle.frames.specs.declared.answer.Answer.the-variants.{NoInput, UnknownKind, BadLength}
 use Rattle.frames.specs.declared.answer.Answer.the-variants.{BadField, NotPermitted}
 use Rattle.frames.specs.declared.sender.Sender.{Sender}
-use Rattle.frames.specs.declared.command.Command.the-variants.{Order, Thresholds}
+use Rattle.frames.specs.declared.command.Command.the-variants.{Order, Timed, Thresholds}
 use Rattle.frames.specs.declared.frame.Frame.the-variants.{Tick, Battery, Antennas, Command}
 use Rattle.frames.specs.declared.reading.Reading.{Reading}
 use Rattle.frames.specs.declared.reading.Reading.the-variants.{Refused, Accepted}
@@ -28,9 +29,9 @@ wordAt i bytes = word (byteAt i bytes) (byteAt (i + 1) bytes)
 abbrev pub lastModule : ℕ
 lastModule = 7
 
--- the payload's own
-abbrev pub payloadModule : ℕ
-payloadModule = 4
+-- the most minutes of a timed order
+abbrev pub mostMinutes : ℕ
+mostMinutes = 1440
 
 -- the lowest millivolts of a battery
 abbrev pub lowestReading : ℕ
@@ -47,6 +48,10 @@ isReading millivolts = within lowestReading highestReading millivolts
 -- thresholds lie in 5,000 to 9,000 with descend at most ascend
 abbrev pub areThresholds : (ascend descend : ℕ) → Bool
 areThresholds ascend descend = isReading ascend && isReading descend && leb descend ascend
+
+-- minutes, 1 to 1,440
+abbrev pub areMinutes : ℕ → Bool
+areMinutes minutes = within 1 mostMinutes minutes
 
 -- what each kind's fields say; a field outside its range is 6, what the payload may not ask is 7
 
@@ -84,6 +89,14 @@ thresholdsFields bytes =
     Accepted (Command (senderFrom bytes) (Thresholds (wordAt 4 bytes) (wordAt 6 bytes))))
     else Refused BadField
 
+-- then one of the mission four, minutes (2); origin 2 orders module 4 alone
+unfoldable pub timedFields : List ℕ → Reading
+timedFields bytes =
+    if isOrigin (byteAt 1 bytes) && isMission (byteAt 4 bytes) && areMinutes (wordAt 5 bytes) then
+    (if eqb (byteAt 1 bytes) payloadOrigin && not (eqb (byteAt 4 bytes) payloadModule) then Refused NotPermitted else
+    Accepted (Command (senderFrom bytes) (Timed (byteAt 4 bytes) (wordAt 5 bytes))))
+    else Refused BadField
+
 -- by kind, one of those that have a total
 abbrev pub fieldsOf : ℕ → List ℕ → Reading
 fieldsOf kind bytes =
@@ -91,9 +104,10 @@ fieldsOf kind bytes =
     if eqb kind batteryKind then batteryFields bytes else
     if eqb kind antennasKind then antennasFields bytes else
     if eqb kind orderKind then orderFields bytes else
-    thresholdsFields bytes
+    if eqb kind thresholdsKind then thresholdsFields bytes else
+    timedFields bytes
 
--- no input bytes; kind not 01 to 05; input length not the kind's total; then the fields
+-- no input bytes; kind not 01 to 06; input length not the kind's total; then the fields
 unfoldable pub readFrame : List ℕ → Reading
 readFrame bytes =
     if eqb (length bytes) 0 then Refused NoInput else

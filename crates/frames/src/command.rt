@@ -3,11 +3,14 @@ ghost use mathlib.Core.Path.{_≡_};
 ghost use Rattle.frames.specs.Command.{commandKind};
 use crate::kind::ORDER;
 use crate::kind::THRESHOLDS;
+use crate::kind::TIMED;
 
 // A command that passed checks 3 to 7.
 pub enum Command {
     // a module, by its number, is to be requested on or off
     Order { which: u8, on: bool },
+    // one of the mission four is to be requested on, and off again after so many minutes
+    Timed { which: u8, minutes: u16 },
     // both thresholds, in millivolts; read from ground alone
     Thresholds { ascend: u16, descend: u16 },
 }
@@ -19,6 +22,10 @@ impl Command {
     {
         match self {
             Command::Order { which: _, on: _ } => ORDER,
+            Command::Timed {
+                which: _,
+                minutes: _,
+            } => TIMED,
             Command::Thresholds {
                 ascend: _,
                 descend: _,

@@ -17,6 +17,9 @@ pub const ORDER: u8 = 4;
 // Both thresholds.
 pub const THRESHOLDS: u8 = 5;
 
+// A module is to be requested on for so many minutes.
+pub const TIMED: u8 = 6;
+
 // A report, which is only written.
 pub const REPORT: u8 = 0x81;
 
@@ -33,6 +36,7 @@ pub fn total(kind: u8) -> usize
         ANTENNAS => 2,
         ORDER => 6,
         THRESHOLDS => 8,
+        TIMED => 7,
         _ => 0,
     }
 }

@@ -3,20 +3,23 @@ ghost use mathlib.Core.Path.{_≡_};
 ghost use Prim.Native.Nat.{_≤_};
 ghost use lib.ListN.{length};
 ghost use Rattle.basics.specs.Choice.{word};
-ghost use Rattle.frames.specs.Reading.{isReading, areThresholds, senderFrom};
-ghost use Rattle.frames.specs.Reading.{batteryFields, antennasFields, orderFields, thresholdsFields, readFrame};
+ghost use Rattle.frames.specs.Reading.{isReading, areThresholds, areMinutes, senderFrom};
+ghost use Rattle.frames.specs.Reading.{batteryFields, antennasFields, orderFields, timedFields};
+ghost use Rattle.frames.specs.Reading.{thresholdsFields, readFrame};
 use crate::answer::Answer;
 use crate::command::Command;
 use crate::frame::Frame;
 use crate::kind::ANTENNAS;
 use crate::kind::BATTERY;
 use crate::kind::ORDER;
+use crate::kind::THRESHOLDS;
 use crate::kind::TICK;
 use crate::kind::total;
 use crate::sender::PAYLOAD;
 use crate::sender::Sender;
 use crate::sender::is_origin;
 use crate::sender::origin_from;
+use modules::groups::MISSION;
 
 // What reading gives: the number of a refusal, or a frame.
 pub enum Reading {
@@ -33,8 +36,8 @@ const HIGHEST_READING: u16 = 9000;
 // Modules are 0 to 7.
 const LAST_MODULE: u8 = 7;
 
-// The payload's own module.
-const PAYLOAD_MODULE: u8 = 4;
+// The most minutes of a timed order.
+const MOST_MINUTES: u16 = 1440;
 
 // Whether a number of millivolts is a battery's.
 pub fn is_reading(millivolts: u16) -> bool
@@ -48,6 +51,13 @@ pub fn are_thresholds(ascend: u16, descend: u16) -> bool
     ensures { λ r. ⌜ r ≡ areThresholds ascend descend ⌝ }
 {
     is_reading(ascend) & is_reading(descend) & (descend <= ascend)
+}
+
+// Whether a number of minutes is a timed order's.
+fn are_minutes(minutes: u16) -> bool
+    ensures { λ r. ⌜ r ≡ areMinutes minutes ⌝ }
+{
+    (1 <= minutes) & (minutes <= MOST_MINUTES)
 }
 
 // A two-byte number, the high byte first.
@@ -103,7 +113,7 @@ fn order(bytes: &[u8]) -> Reading
     let which = bytes[4];
     let wanted = bytes[5];
     if is_origin(origin) & (which <= LAST_MODULE) & (wanted <= 1) {
-        if (origin == PAYLOAD) & (which != PAYLOAD_MODULE) {
+        if (origin == PAYLOAD) & (which != modules::groups::PAYLOAD) {
             Reading::Refused(Answer::NotPermitted)
         } else {
             Reading::Accepted(Frame::Command {
@@ -112,6 +122,28 @@ fn order(bytes: &[u8]) -> Reading
                     which,
                     on: wanted == 1,
                 },
+            })
+        }
+    } else {
+        Reading::Refused(Answer::BadField)
+    }
+}
+
+// A timed order, for one of the mission four; the payload may give it for its own module alone.
+fn timed(bytes: &[u8]) -> Reading
+    requires { ⌜ length (now bytes) ≡ 7 ⌝ }
+    ensures { λ r. ⌜ r ≡ timedFields (now (bytes .entry)) ⌝ }
+{
+    let origin = bytes[1];
+    let which = bytes[4];
+    let minutes = word(bytes[5], bytes[6]);
+    if is_origin(origin) & modules::stage::has(MISSION, which as usize) & are_minutes(minutes) {
+        if (origin == PAYLOAD) & (which != modules::groups::PAYLOAD) {
+            Reading::Refused(Answer::NotPermitted)
+        } else {
+            Reading::Accepted(Frame::Command {
+                sender: sender_from(bytes),
+                command: Command::Timed { which, minutes },
             })
         }
     } else {
@@ -161,6 +193,7 @@ pub fn read(bytes: &[u8]) -> Reading
         BATTERY => battery(bytes),
         ANTENNAS => antennas(bytes),
         ORDER => order(bytes),
-        _ => thresholds(bytes),
+        THRESHOLDS => thresholds(bytes),
+        _ => timed(bytes),
     }
 }

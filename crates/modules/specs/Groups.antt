@@ -16,6 +16,22 @@ coreFour = 0x27
 abbrev pub missionFour : ℕ
 missionFour = 0xD8
 
+-- ADCS
+abbrev pub adcsModule : ℕ
+adcsModule = 3
+
+-- PAYLOAD, the payload's own
+abbrev pub payloadModule : ℕ
+payloadModule = 4
+
+-- SBAND1
+abbrev pub sband1Module : ℕ
+sband1Module = 6
+
+-- SBAND2
+abbrev pub sband2Module : ℕ
+sband2Module = 7
+
 -- one of the mission four; the others of the eight are the core four
 abbrev pub isMission : ℕ → Bool
 isMission i = bit i missionFour

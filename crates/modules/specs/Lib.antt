@@ -1,4 +1,5 @@
 pub mod Groups
+pub mod Ends
 pub mod Power
 pub mod Stage
 pub mod Masks

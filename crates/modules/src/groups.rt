@@ -1,7 +1,19 @@
-// The two groups of modules, as masks.
+// The two groups of modules as masks, and the mission four by their numbers.
 
 // The core four: 0 MCS, 1 COMM1, 2 COMM2, 5 I2C.
 pub const CORE: u8 = 0x27;
 
 // The mission four: 3 ADCS, 4 PAYLOAD, 6 SBAND1, 7 SBAND2.
 pub const MISSION: u8 = 0xD8;
+
+// ADCS, of the mission four.
+pub const ADCS: u8 = 3;
+
+// PAYLOAD, of the mission four.
+pub const PAYLOAD: u8 = 4;
+
+// SBAND1, of the mission four.
+pub const SBAND1: u8 = 6;
+
+// SBAND2, of the mission four.
+pub const SBAND2: u8 = 7;

@@ -1,9 +1,10 @@
 -- Commands: their serials, judged once for all, and what each does once it is taken.
 -- Assumes nothing.
-use Prim.Native.Nat.{ℕ}
-use mathlib.Core.Bool.{Bool, not, _&&_}
+use Prim.Native.Nat.{ℕ, _*_}
+use mathlib.Core.Bool.{Bool, true, not, _&&_}
 use Rattle.basics.specs.Choice.{if_then_else_}
 use Rattle.modules.specs.Groups.{isMission}
+use Rattle.modules.specs.Ends.{withEnd}
 use Rattle.modules.specs.Stage.{requestedOne}
 use Rattle.frames.specs.Serial.{classOf, lastOf, movedTo}
 use Rattle.frames.specs.declared.answer.Answer.the-variants as answer
@@ -11,8 +12,8 @@ use Rattle.frames.specs.declared.sender.Sender.{Sender}
 use Rattle.frames.specs.declared.serial.Class.{Class}
 use Rattle.frames.specs.declared.serial.Class.the-variants.{Repeat, Fresh, Stale}
 use Rattle.frames.specs.declared.command.Command.{Command}
-use Rattle.frames.specs.declared.command.Command.the-variants.{Order, Thresholds}
-use Rattle.supervisor.specs.State.{isSafe, withModules, withSerials, withThresholds}
+use Rattle.frames.specs.declared.command.Command.the-variants.{Order, Timed, Thresholds}
+use Rattle.supervisor.specs.State.{isSafe, withEnds, withModules, withSerials, withThresholds}
 use Rattle.supervisor.specs.Acted.{silent, done}
 use Rattle.supervisor.specs.declared.state.Mode.{Mode}
 use Rattle.supervisor.specs.declared.state.State.{State}
@@ -22,22 +23,29 @@ use Rattle.supervisor.specs.declared.acted.Acted.{Acted}
 unfoldable pub isIllTimed : (which : ℕ) (on : Bool) → Mode → Bool
 isIllTimed which on mode = on && isMission which && not (isSafe mode)
 
--- an order sets the module's request
-unfoldable pub requestSet : (which : ℕ) (on : Bool) → State → State
-requestSet which on s = withModules (requestedOne which on (s .modules)) s
+-- an order sets the module's request and its end, in seconds: 0, none, if it is a plain one
+unfoldable pub requestSet : (which : ℕ) (on : Bool) (end : ℕ) → State → State
+requestSet which on end s =
+    withModules (requestedOne which on (s .modules)) (withEnds (withEnd which end (s .ends)) s)
 
 -- an order: ill-timed, or done
-abbrev pub orderTaken : (which : ℕ) (on : Bool) → State → Acted
-orderTaken which on s =
-    if isIllTimed which on (s .watch .mode) then silent answer.NotNow s else done (requestSet which on s)
+abbrev pub orderTaken : (which : ℕ) (on : Bool) (end : ℕ) → State → Acted
+orderTaken which on end s =
+    if isIllTimed which on (s .watch .mode) then silent answer.NotNow s else done (requestSet which on end s)
+
+-- the seconds of a minute
+abbrev pub minuteSeconds : ℕ
+minuteSeconds = 60
 
 -- a thresholds frame stores both
 abbrev pub thresholdsTaken : (ascend descend : ℕ) → State → Acted
 thresholdsTaken ascend descend s = done (withThresholds ascend descend s)
 
--- a command, by what it is; thresholds of the payload are never read
+-- a command, by what it is: a timed order acts as an "on" order, and starts the module's seconds; thresholds of the
+-- payload are never read
 abbrev pub taken : Command → State → Acted
-taken (Order which on) s = orderTaken which on s
+taken (Order which on) s = orderTaken which on 0 s
+taken (Timed which minutes) s = orderTaken which true (minuteSeconds * minutes) s
 taken (Thresholds ascend descend) s = thresholdsTaken ascend descend s
 
 -- the last serial of the sender's origin is the sender's

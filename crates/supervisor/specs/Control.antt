@@ -5,8 +5,9 @@ use mathlib.Core.Bool.{Bool, true, false}
 use lib.Dec.{ltb, eqb}
 use Rattle.basics.specs.Choice.{if_then_else_}
 use Rattle.modules.specs.Groups.{coreFour, missionFour}
+use Rattle.modules.specs.Ends.{noEnds}
 use Rattle.modules.specs.Stage.{requestedBy}
-use Rattle.supervisor.specs.State.{withMode, withControl, withModules}
+use Rattle.supervisor.specs.State.{withMode, withControl, withEnds, withModules}
 use Rattle.supervisor.specs.Range.{judgeTicks}
 use Rattle.supervisor.specs.declared.state.Mode.{Mode}
 use Rattle.supervisor.specs.declared.state.Mode.the-variants.{DeployWait, Recovery, Safe}
@@ -32,11 +33,12 @@ isUpward Downward = false
 abbrev pub crossedTo : Mode → (mask : ℕ) → (on : Bool) → State → State
 crossedTo mode mask on s = withModules (requestedBy mask on (s .modules)) (withMode mode s)
 
--- upward: SAFE, and the core four are requested on; downward: RECOVERY, and the mission four are requested off
+-- upward: SAFE, and the core four are requested on; downward: RECOVERY, the mission four are requested off, and their
+-- ends are dropped
 abbrev pub crossed : Crossing → State → State
 crossed Level s = s
 crossed Upward s = crossedTo Safe coreFour true s
-crossed Downward s = crossedTo Recovery missionFour false s
+crossed Downward s = crossedTo Recovery missionFour false (withEnds noEnds s)
 
 -- at 30 the count returns to 0 and the mode is judged
 abbrev pub controlledAt : ℕ → State → State

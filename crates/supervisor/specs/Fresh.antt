@@ -5,6 +5,7 @@ use mathlib.Core.Bool.{true, false}
 use mathlib.Core.List.{List}
 use lib.ListN.{replicate}
 use Rattle.modules.specs.Groups.{moduleCount, coreFour}
+use Rattle.modules.specs.Ends.{noEnds}
 use Rattle.modules.specs.Stage.{requestedBy}
 use Rattle.modules.specs.declared.power.Module.{Module}
 use Rattle.supervisor.specs.State.{offModule}
@@ -25,7 +26,7 @@ abbrev pub freshDescend : ℕ
 freshDescend = 7000
 
 -- DEPLOY_WAIT, waited 0 seconds, antennas folded, tension 0, ascend 7,400, descend 7,000, both counts 0,
--- both last serials 0
+-- both last serials 0, no end
 unfoldable pub freshState : State
 freshState =
     record {
@@ -33,5 +34,6 @@ freshState =
       antennas = false;
       battery = record { tension = 0; ascend = freshAscend; descend = freshDescend };
       serials = record { ground = 0; payload = 0 };
+      ends = noEnds;
       modules = freshModules;
     }

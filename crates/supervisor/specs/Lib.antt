@@ -3,6 +3,7 @@ pub mod Fresh
 pub mod Range
 pub mod Acted
 pub mod Deploy
+pub mod Ending
 pub mod Control
 pub mod Due
 pub mod Tick

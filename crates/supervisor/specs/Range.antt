@@ -5,6 +5,7 @@ use mathlib.Core.Bool.{Bool, _&&_, _||_}
 use lib.Dec.{ltb, eqb}
 use Rattle.basics.specs.Choice.{within}
 use Rattle.frames.specs.Reading.{isReading, areThresholds}
+use Rattle.modules.specs.Ends.{endsInRange}
 use Rattle.modules.specs.Stage.{modulesInRange}
 use Rattle.supervisor.specs.declared.state.Phase.{Phase}
 use Rattle.supervisor.specs.declared.state.Phase.the-variants.{Waiting, Settling}
@@ -52,4 +53,4 @@ watchInRange Safe control beacon = ltb control judgeTicks && ltb beacon basicTic
 unfoldable pub inRange : State → Bool
 inRange s =
     watchInRange (s .watch .mode) (s .watch .control) (s .watch .beacon)
-    && batteryInRange (s .battery) && modulesInRange (s .modules)
+    && batteryInRange (s .battery) && endsInRange (s .ends) && modulesInRange (s .modules)

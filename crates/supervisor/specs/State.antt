@@ -5,8 +5,10 @@ use mathlib.Core.Bool.{Bool, true, false}
 use mathlib.Core.List.{List}
 use lib.ListN.{getD}
 use Rattle.modules.specs.Power.{fullTries}
+use Rattle.modules.specs.Ends.{endOf}
 use Rattle.modules.specs.declared.power.Power.the-variants.{Off}
 use Rattle.modules.specs.declared.power.Module.{Module}
+use Rattle.modules.specs.declared.ends.Ends.{Ends}
 use Rattle.supervisor.specs.declared.state.Mode.{Mode}
 use Rattle.supervisor.specs.declared.state.Mode.the-variants.{DeployWait, Recovery, Safe}
 use Rattle.supervisor.specs.declared.state.Watch.{Watch}
@@ -50,30 +52,81 @@ offModule = record { power = Off fullTries; requested = false }
 abbrev pub moduleAt : ℕ → State → Module
 moduleAt i s = getD (s .modules) i offModule
 
+-- the end of module i: seconds until its request goes off, 0 where none is running
+abbrev pub endAt : ℕ → State → ℕ
+endAt i s = endOf i (s .ends)
+
 -- the state with another watch
 abbrev pub withWatch : Watch → State → State
 withWatch watch s =
-    record { watch = watch; antennas = s .antennas; battery = s .battery; serials = s .serials; modules = s .modules }
+    record {
+      watch = watch;
+      antennas = s .antennas;
+      battery = s .battery;
+      serials = s .serials;
+      ends = s .ends;
+      modules = s .modules;
+    }
 
 -- with another report of the antennas
 abbrev pub withAntennas : Bool → State → State
 withAntennas deployed s =
-    record { watch = s .watch; antennas = deployed; battery = s .battery; serials = s .serials; modules = s .modules }
+    record {
+      watch = s .watch;
+      antennas = deployed;
+      battery = s .battery;
+      serials = s .serials;
+      ends = s .ends;
+      modules = s .modules;
+    }
 
 -- with another battery
 abbrev pub withBattery : Battery → State → State
 withBattery battery s =
-    record { watch = s .watch; antennas = s .antennas; battery = battery; serials = s .serials; modules = s .modules }
+    record {
+      watch = s .watch;
+      antennas = s .antennas;
+      battery = battery;
+      serials = s .serials;
+      ends = s .ends;
+      modules = s .modules;
+    }
 
 -- with other last serials
 abbrev pub withSerials : Serials → State → State
 withSerials serials s =
-    record { watch = s .watch; antennas = s .antennas; battery = s .battery; serials = serials; modules = s .modules }
+    record {
+      watch = s .watch;
+      antennas = s .antennas;
+      battery = s .battery;
+      serials = serials;
+      ends = s .ends;
+      modules = s .modules;
+    }
+
+-- with other ends
+abbrev pub withEnds : Ends → State → State
+withEnds ends s =
+    record {
+      watch = s .watch;
+      antennas = s .antennas;
+      battery = s .battery;
+      serials = s .serials;
+      ends = ends;
+      modules = s .modules;
+    }
 
 -- with other modules
 abbrev pub withModules : List Module → State → State
 withModules modules s =
-    record { watch = s .watch; antennas = s .antennas; battery = s .battery; serials = s .serials; modules = modules }
+    record {
+      watch = s .watch;
+      antennas = s .antennas;
+      battery = s .battery;
+      serials = s .serials;
+      ends = s .ends;
+      modules = modules;
+    }
 
 -- with another mode
 abbrev pub withMode : Mode → State → State

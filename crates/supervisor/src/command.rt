@@ -12,6 +12,9 @@ use frames::sender::Sender;
 use frames::serial::Class;
 use modules::groups::MISSION;
 
+// The seconds of a minute.
+const MINUTE: u32 = 60;
+
 impl Mode {
     // "On" for one of the mission four while not in SAFE.
     fn is_ill_timed(self, which: u8, on: bool) -> bool
@@ -22,9 +25,9 @@ impl Mode {
 }
 
 impl State {
-    // An order: 10, or the module's request is set.
-    fn order(mut self, which: u8, on: bool) -> Acted
-        ensures { λ r. ⌜ r ≡ orderTaken which on self ⌝ }
+    // An order: 10, or the module's request is set, and its end.
+    fn order(mut self, which: u8, on: bool, seconds: u32) -> Acted
+        ensures { λ r. ⌜ r ≡ orderTaken which on seconds self ⌝ }
     {
         let watch = self.watch;
         let mode = watch.mode;
@@ -33,6 +36,7 @@ impl State {
         let mut answer = Answer::NotNow;
         if !mode.is_ill_timed(which, on) {
             asked = modules::stage::request_one(modules, which, on);
+            self.ends = self.ends.with_end(which, seconds);
             answer = Answer::Done;
         }
         silent(answer, self.with_modules(asked))
@@ -52,7 +56,8 @@ impl State {
         ensures { λ r. ⌜ r ≡ taken command self ⌝ }
     {
         match command {
-            Command::Order { which, on } => self.order(which, on),
+            Command::Order { which, on } => self.order(which, on, 0),
+            Command::Timed { which, minutes } => self.order(which, true, MINUTE * (minutes as u32)),
             Command::Thresholds { ascend, descend } => self.thresholds(ascend, descend),
         }
     }

@@ -58,7 +58,7 @@ impl Crossing {
 
 impl State {
     // The state after a crossing, upward or downward: one walk over the modules for both.
-    fn crossed(self, up: bool) -> State
+    fn crossed(mut self, up: bool) -> State
         ensures { λ r. ⌜ r ≡ crossed (if up then Upward else Downward) self ⌝ }
     {
         let mut mode = Mode::Recovery;
@@ -66,6 +66,8 @@ impl State {
         if up {
             mode = Mode::Safe;
             mask = CORE;
+        } else {
+            self.ends = modules::ends::none();
         }
         let modules = self.modules;
         let asked = modules::stage::request(modules, mask, up);

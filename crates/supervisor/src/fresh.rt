@@ -44,6 +44,7 @@ pub fn fresh() -> State
             ground: 0,
             payload: 0,
         },
+        ends: modules::ends::none(),
         modules,
     }
 }

@@ -67,6 +67,9 @@ impl State {
         ensures { λ r. ⌜ r ≡ inRange self ⌝ }
     {
         let modules = self.modules;
-        self.watch.in_range() & self.battery.in_range() & modules::stage::in_range(modules)
+        self.watch.in_range()
+            & self.battery.in_range()
+            & self.ends.in_range()
+            & modules::stage::in_range(modules)
     }
 }

@@ -2,6 +2,7 @@
 ghost use mathlib.Core.Path.{_≡_};
 ghost use Rattle.supervisor.specs.State.{modeNumber, isSafe, withMode, withModules};
 use frames::serial::Serials;
+use modules::ends::Ends;
 use modules::power::Module;
 
 // The deploy phase, had in DEPLOY_WAIT and in no other mode.
@@ -40,6 +41,7 @@ pub struct State {
     pub antennas: bool,
     pub battery: Battery,
     pub serials: Serials,
+    pub ends: Ends,
     pub modules: [Module; 8],
 }
 

@@ -1,4 +1,4 @@
-// One tick: the deploy phase, or the stages control, modules and beacon.
+// One tick: the deploy phase, or the stages ends, control, modules and beacon.
 ghost use mathlib.Core.Path.{_≡_};
 ghost use mathlib.Core.Bool.{true};
 ghost use Prim.Native.Nat.{_<_};
@@ -26,12 +26,12 @@ impl Mode {
 }
 
 impl State {
-    // The state as the module stage finds it: after control.
+    // The state as the module stage finds it: after ends and control.
     fn before_modules(self) -> State
         requires { ⌜ self .watch .control < judgeTicks ⌝ }
         ensures { λ r. ⌜ r ≡ beforeModules self ⌝ }
     {
-        self.control()
+        self.end_stage().control()
     }
 
     // Modules.

@@ -1,0 +1,19 @@
+// The ends stage of a tick: a timed order's time runs out.
+ghost use mathlib.Core.Path.{_≡_};
+ghost use Rattle.supervisor.specs.Ending.{ended};
+use crate::state::State;
+
+impl State {
+    // Ends.
+    pub(crate) fn end_stage(mut self) -> State
+        ensures { λ r. ⌜ r ≡ ended self ⌝ }
+    {
+        let over = self.ends.over();
+        self.ends = self.ends.fall();
+        if over != 0 {
+            let modules = self.modules;
+            self.modules = modules::stage::request(modules, over, false);
+        }
+        self
+    }
+}
