@@ -1,9 +1,9 @@
-//! The state as 46 bytes, as `include/ems.h` lays them out.
+//! The state as 50 bytes, as `include/ems.h` lays them out.
 
 use crate::state::{Last, Mode, Module, Power, State, TRIES};
 
 /// The bytes of an image.
-pub const BYTES: usize = 46;
+pub const BYTES: usize = 50;
 /// The layout's version, an image's first byte.
 pub const VERSION: u8 = 3;
 
@@ -29,10 +29,10 @@ pub mod at {
     pub const GROUND: usize = 14;
     /// The payload's last serial: 2 bytes.
     pub const PAYLOAD: usize = 16;
-    /// The ends of the mission four, 3 bytes each.
+    /// The ends of the mission four, 4 bytes each.
     pub const ENDS: usize = 18;
     /// The modules, 2 bytes each.
-    pub const MODULES: usize = 30;
+    pub const MODULES: usize = 34;
 }
 
 /// The numbers of modes and modules.
@@ -51,7 +51,7 @@ pub mod code {
 
 /// Where each end begins.
 fn ends() -> impl Iterator<Item = usize> {
-    (at::ENDS..at::MODULES).step_by(3)
+    (at::ENDS..at::MODULES).step_by(4)
 }
 
 /// Where each module begins.
@@ -80,7 +80,7 @@ pub fn save(state: &State) -> [u8; BYTES] {
     put(at::GROUND, &state.last.ground.to_le_bytes());
     put(at::PAYLOAD, &state.last.payload.to_le_bytes());
     for (begin, end) in ends().zip(&state.ends) {
-        put(begin, &end.to_le_bytes()[..3]);
+        put(begin, &end.to_le_bytes());
     }
     for (begin, module) in modules().zip(&state.modules) {
         let power = match module.power {
@@ -130,7 +130,7 @@ fn guess(image: &[u8; BYTES]) -> State {
         ..State::fresh()
     };
     for (begin, end) in ends().zip(&mut state.ends) {
-        *end = number(begin, 3);
+        *end = number(begin, 4);
     }
     for (begin, module) in modules().zip(&mut state.modules) {
         let requested = code::REQUESTED <= two(begin);

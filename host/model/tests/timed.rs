@@ -276,10 +276,14 @@ fn the_longest_end_and_one_more() {
         assert_eq!(image::load(&saved), Some(state.clone()));
         state.ends[place] = 86_401;
         assert_eq!(answer(&mut state, &[0x01, 0]), 1);
-        let begin = image::at::ENDS + 3 * place;
-        assert_eq!(saved[begin..begin + 3], [0x80, 0x51, 0x01]);
-        saved[begin] += 1;
-        assert_eq!(image::load(&saved), None);
+        let begin = image::at::ENDS + 4 * place;
+        assert_eq!(saved[begin..begin + 4], [0x80, 0x51, 0x01, 0]);
+        for (byte, value) in [(0, 0x81), (2, 0x02), (3, 0x01)] {
+            let kept = saved[begin + byte];
+            saved[begin + byte] = value;
+            assert_eq!(image::load(&saved), None);
+            saved[begin + byte] = kept;
+        }
     }
 }
 
