@@ -130,7 +130,7 @@ fn a_number_past_the_last_is_found() {
         step: takes_601_seconds,
         ..MODEL
     };
-    let told = told("every number of a mode and a module", faulty);
+    let told = told("every number of a mode, an end and a module", faulty);
     assert_eq!(frames(&told), 1, "{told}");
 }
 

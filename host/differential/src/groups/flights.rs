@@ -16,7 +16,11 @@ use model::State;
 pub fn of(sides: &[Calls; 2], rng: &mut Rng, maker: Maker, calls: u64) -> Verdict {
     let mut made = 0;
     while made < calls {
+        let state = images::state(rng);
         let mut stream = Stream::new(maker);
+        if rng.once_in(2) {
+            stream = stream.after(state.last);
+        }
         let frames = rng.pick(&[1, 10, 100, 2_000]);
         let mut shots: Vec<Shot> = (0..frames).map(|_| stream.next(rng)).collect();
         let start = if rng.once_in(3) {
@@ -26,7 +30,7 @@ pub fn of(sides: &[Calls; 2], rng: &mut Rng, maker: Maker, calls: u64) -> Verdic
             }
             image::save(&State::fresh()).to_vec()
         } else {
-            images::good(rng)
+            image::save(&state).to_vec()
         };
         let (steps, end) = fly(sides, &start, shots)?;
         made += steps + beacons(sides, rng, &end)?;

@@ -42,8 +42,8 @@ pub fn image_bytes(sides: &[Calls; 2], rng: &mut Rng) -> Verdict {
     Ok(made)
 }
 
-/// Every number of a mode up to some beyond the last, then others, and every
-/// number of a module: a tick's step.
+/// Every number of a mode and of an end up to some beyond the last, then others,
+/// and every number of a module: a tick's step.
 pub fn codes(sides: &[Calls; 2], rng: &mut Rng) -> Verdict {
     let mut made = 0;
     let mut step = |bytes: &[u8], shorts: u8| -> Result<(), String> {
@@ -53,6 +53,8 @@ pub fn codes(sides: &[Calls; 2], rng: &mut Rng) -> Verdict {
     let beyond = (100_000..1 << 24).step_by(997);
     for number in (0..100_000).chain(beyond) {
         let mut bytes = images::good(rng);
+        images::set_end(&mut bytes, rng.below(4), number);
+        step(&bytes, rng.byte())?;
         images::set_mode(&mut bytes, number);
         images::clear_counts(&mut bytes);
         step(&bytes, 0)?;
