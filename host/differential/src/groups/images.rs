@@ -42,7 +42,7 @@ pub fn image_bytes(sides: &[Calls; 2], rng: &mut Rng) -> Verdict {
     Ok(made)
 }
 
-/// Every number of a mode and of an end up to some beyond the last, then others,
+/// Every number of a mode and of each end up to some beyond the last, then others,
 /// and every number of a module: a tick's step.
 pub fn codes(sides: &[Calls; 2], rng: &mut Rng) -> Verdict {
     let mut made = 0;
@@ -52,9 +52,12 @@ pub fn codes(sides: &[Calls; 2], rng: &mut Rng) -> Verdict {
     };
     let beyond = (100_000..1 << 24).step_by(997);
     for number in (0..100_000).chain(beyond) {
+        for place in 0..4 {
+            let mut bytes = images::good(rng);
+            images::set_end(&mut bytes, place, number);
+            step(&bytes, rng.byte())?;
+        }
         let mut bytes = images::good(rng);
-        images::set_end(&mut bytes, rng.below(4), number);
-        step(&bytes, rng.byte())?;
         images::set_mode(&mut bytes, number);
         images::clear_counts(&mut bytes);
         step(&bytes, 0)?;

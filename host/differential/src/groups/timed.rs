@@ -31,7 +31,7 @@ fn timed(origin: u8, serial: u16, module: u8, minutes: u16) -> Shot {
 /// with each, in every mode; then every number of minutes.
 pub fn timed_orders(sides: &[Calls; 2], rng: &mut Rng) -> Verdict {
     let mut made = 0;
-    for _ in 0..45 {
+    for _ in 0..180 {
         for mode in MODES {
             let state = images::state_in(rng, mode);
             let start = image::save(&state);
