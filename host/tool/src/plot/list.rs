@@ -53,7 +53,7 @@ impl Entry {
         let time = 30.0;
         let sent = time + widest(|event| clock(event.second)) + 8.0;
         let answer = room - widest(|event| said(event.answer));
-        let free = sent + widest(|event| event.sent.clone()) + 6.0;
+        let free = sent + widest(|event| event.sent.clone()) + 7.0;
         Entry {
             time,
             sent,
