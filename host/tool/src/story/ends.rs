@@ -34,28 +34,30 @@ impl Ends {
 
     fn look_at(&mut self, step: &Step, module: Module) {
         let (before, after) = (step.before.end(module), step.after.end(module));
-        let changed = (step.before.requests() ^ step.after.requests()) & module.bit() != 0;
-        let time = || minutes(after);
+        // Nothing is said where only its seconds ran.
+        if before == after || step.is_tick() && after > 0 {
+            return;
+        }
+        let changed = (step.before.requests() ^ step.after.requests()) & module.bit();
+        let time = minutes(after);
         match (before, after) {
             // Its last second has passed.
-            (1, 0) if step.is_tick() && changed => {
-                self.told |= module.bit();
+            (1, 0) if step.is_tick() && changed != 0 => {
+                self.told |= changed;
                 self.came.push(over(module, step.times.of(module)));
             }
-            (0, 0) => {}
-            (0, _) if changed => {
-                self.told |= module.bit();
-                self.others
-                    .push(format!("{module} requested on for {}", time()));
+            (_, 0) => self.dropped.push(module.to_string()),
+            (0, _) if changed != 0 => {
+                self.told |= changed;
+                let said = format!("{module} requested on for {time}");
+                self.others.push(said);
             }
             (0, _) => self
                 .others
-                .push(format!("{module}'s end is set: in {}", time())),
-            (_, 0) => self.dropped.push(module.to_string()),
-            _ if step.is_tick() || before == after => {}
+                .push(format!("{module}'s end is set: in {time}")),
             _ => self
                 .others
-                .push(format!("{module}'s end is moved: in {}", time())),
+                .push(format!("{module}'s end is moved: in {time}")),
         }
     }
 }
