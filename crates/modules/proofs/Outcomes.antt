@@ -2,6 +2,8 @@
 -- Assumes nothing.
 use mathlib.Core.Path.{sym, _∙_}
 use Rattle.basics.specs.OneOutcome.{OneOutcome}
+use Rattle.modules.proofs.groups.is_mission as is-mission
+use Rattle.modules.proofs.groups.is_mission.Reads as is-mission-reads
 use Rattle.modules.proofs.power.Power.second as second
 use Rattle.modules.proofs.power.Power.second.Reads as second-reads
 use Rattle.modules.proofs.power.Power.in_range as power-in-range
@@ -22,6 +24,19 @@ use Rattle.modules.proofs.stage.in_range as in-range
 use Rattle.modules.proofs.stage.in_range.Reads as in-range-reads
 use Rattle.modules.proofs.masks.masks_of as masks-of
 use Rattle.modules.proofs.masks.masks_of.Reads as masks-of-reads
+use Rattle.modules.proofs.ends.none as none
+use Rattle.modules.proofs.ends.none.Reads as none-reads
+use Rattle.modules.proofs.ends.Ends.fall as fall
+use Rattle.modules.proofs.ends.Ends.fall.Reads as fall-reads
+use Rattle.modules.proofs.ends.Ends.over as over
+use Rattle.modules.proofs.ends.Ends.over.Reads as over-reads
+use Rattle.modules.proofs.ends.Ends.with_end as with-end
+use Rattle.modules.proofs.ends.Ends.with_end.Reads as with-end-reads
+use Rattle.modules.proofs.ends.Ends.in_range as ends-in-range
+use Rattle.modules.proofs.ends.Ends.in_range.Reads as ends-in-range-reads
+
+pub is-mission-one : OneOutcome is-mission.ended is-mission-reads.Asked is-mission-reads.Learnt
+is-mission-one = record { taken = λ κs a. tt; one = λ κs a x y p q i. ((p ∙ sym q) i, (tt, tt)) }
 
 pub second-one : OneOutcome second.ended second-reads.Asked second-reads.Learnt
 second-one = record { taken = λ κs a. tt; one = λ κs a x y p q i. ((p ∙ sym q) i, (tt, (tt, (tt, tt)))) }
@@ -52,3 +67,18 @@ in-range-one = record { taken = λ κs a. tt; one = λ κs a x y p q i. ((p ∙ 
 
 pub masks-of-one : OneOutcome masks-of.ended masks-of-reads.Asked masks-of-reads.Learnt
 masks-of-one = record { taken = λ κs a. tt; one = λ κs a x y p q i. ((p ∙ sym q) i, (tt, tt)) }
+
+pub none-one : OneOutcome none.ended none-reads.Asked none-reads.Learnt
+none-one = record { taken = λ κs a. tt; one = λ κs a x y p q i. ((p ∙ sym q) i, tt) }
+
+pub fall-one : OneOutcome fall.ended fall-reads.Asked fall-reads.Learnt
+fall-one = record { taken = λ κs a. tt; one = λ κs a x y p q i. ((p ∙ sym q) i, (tt, tt)) }
+
+pub over-one : OneOutcome over.ended over-reads.Asked over-reads.Learnt
+over-one = record { taken = λ κs a. tt; one = λ κs a x y p q i. ((p ∙ sym q) i, (tt, tt)) }
+
+pub with-end-one : OneOutcome with-end.ended with-end-reads.Asked with-end-reads.Learnt
+with-end-one = record { taken = λ κs a. tt; one = λ κs a x y p q i. ((p ∙ sym q) i, (tt, (tt, (tt, tt)))) }
+
+pub ends-in-range-one : OneOutcome ends-in-range.ended ends-in-range-reads.Asked ends-in-range-reads.Learnt
+ends-in-range-one = record { taken = λ κs a. tt; one = λ κs a x y p q i. ((p ∙ sym q) i, (tt, tt)) }

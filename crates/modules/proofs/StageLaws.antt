@@ -7,14 +7,15 @@ use mathlib.Core.Bool.{Bool, true, false, _&&_}
 use mathlib.Core.List.{List, [], _∷_}
 use native.Mathlib.Omega.{arith}
 use native.Mathlib.Nat.{le-of-suc-le-suc}
-use lib.Dec.{T}
+use lib.Dec.{T, lit<}
 use lib.ListN.{length, getD, set}
 use lib.Seq.{set-out, set-getD}
 use borrow.Author.Tests.{ne-eqb, eq-eqb}
 use Rattle.basics.specs.Choice.{bit}
 use Rattle.basics.specs.Each.{each, eachFrom}
 use Rattle.basics.proofs.ChoiceLaws.{and-left, and-right, and-both}
-use Rattle.basics.proofs.EachLaws.{each-one, worked, worked-turn}
+use Rattle.basics.proofs.BitLaws.{bit-past}
+use Rattle.basics.proofs.EachLaws.{each-kept, each-one, worked, worked-turn}
 use Rattle.modules.specs.Power.{powerInRange, withRequest}
 use Rattle.modules.specs.Stage.{isWanted, moduleSecond, stageOf, moduleRequested, requestedBy, moduleAsked, requestedOne, modulesInRange}
 use Rattle.modules.proofs.PowerLaws.{switched-in-range}
@@ -46,6 +47,11 @@ module _ (mask : ℕ) (on : Bool) (i : ℕ) (ms : List Module) (d : Module) wher
 
   pub not-in-mask : bit i mask ≡ false → before ≡ worked (moduleRequested mask on) (i + 1) ms
   not-in-mask out = sym (set-getD before i d) ∙ rw out at (worked-turn (moduleRequested mask on) i ms d)
+
+-- a mask of none sets no request
+pub requested-none : (on : Bool) (ms : List Module) → requestedBy 0 on ms ≡ ms
+unfolding requestedBy
+requested-none on ms = each-kept (moduleRequested 0 on) ms (λ i m. rw (bit-past 0 0 i (lit< tt) (omega arith)))
 
 -- one module out of range
 and-false : (a : Bool) → a && false ≡ false

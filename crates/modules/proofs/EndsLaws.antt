@@ -1,0 +1,172 @@
+-- Laws of the ends: what becomes of module i's when all fall, when one is set, and which are over; and their ranges.
+-- Assumes nothing.
+use Prim.Native.Nat.{ℕ, _-_, _+_, _≤_, _<_}
+use native.Mathlib.Omega.{arith}
+use mathlib.Core.Path.{_≡_, refl, sym, _∙_}
+use mathlib.Core.Bool.{Bool, true, false, not, _&&_, true≢false, false≢true}
+use lib.Dec.{T, eqb, leb, ltb, lit<, leb→le, le→leb}
+use borrow.Author.Tests.{eqb-true, eqb-false, ne-eqb, ltb-true, ltb-false, leb-true, le-leb}
+use Rattle.basics.specs.Choice.{if_then_else_, bit}
+use Rattle.basics.specs.Tables.{allBelow}
+use Rattle.basics.proofs.BitLaws.{bit-past}
+use Rattle.basics.proofs.ChoiceLaws.{agreed, and-left, and-right, and-both, holds, is-true, either}
+use Rattle.basics.proofs.TablesLaws.{upto}
+use Rattle.modules.specs.Groups.{moduleCount, missionFour, isMission, adcsModule, payloadModule, sband1Module, sband2Module}
+use Rattle.modules.specs.Ends.{longestEnd, noEnds, endOf, endsFallen, endsOver, withEnd, endsInRange}
+use Rattle.modules.specs.declared.ends.Ends.{Ends}
+
+-- a module number is that of one of the four, or of none
+pub data Place (i : ℕ) : Type 0 where
+  adcs : i ≡ adcsModule → Place i
+  payload : i ≡ payloadModule → Place i
+  sband1 : i ≡ sband1Module → Place i
+  sband2 : i ≡ sband2Module → Place i
+  nowhere : eqb i adcsModule ≡ false → eqb i payloadModule ≡ false → eqb i sband1Module ≡ false → eqb i sband2Module ≡ false → Place i
+
+pub place : (i : ℕ) → Place i
+place i = by (eqb i adcsModule) (eqb i payloadModule) (eqb i sband1Module) (eqb i sband2Module) refl refl refl refl
+  where
+    by : (a b c d : Bool) → eqb i adcsModule ≡ a → eqb i payloadModule ≡ b → eqb i sband1Module ≡ c → eqb i sband2Module ≡ d → Place i
+    by true b c d e f g h = adcs (eqb-true i adcsModule e)
+    by false true c d e f g h = payload (eqb-true i payloadModule f)
+    by false false true d e f g h = sband1 (eqb-true i sband1Module g)
+    by false false false true e f g h = sband2 (eqb-true i sband2Module h)
+    by false false false false e f g h = nowhere e f g h
+
+abbrev oneOfFour : ℕ → Bool
+oneOfFour i = if eqb i adcsModule then true else if eqb i payloadModule then true else if eqb i sband1Module then true else eqb i sband2Module
+
+mission-four : (i : ℕ) → i < moduleCount → isMission i ≡ oneOfFour i
+mission-four i low =
+    agreed (isMission i) (oneOfFour i) (upto (λ k. if isMission k then oneOfFour k else not (oneOfFour k)) moduleCount tt i low)
+
+-- a module that is none of the four is not of the mission: of the eight by one test, and no mask has a module from 8 on
+outside : (i : ℕ) → eqb i adcsModule ≡ false → eqb i payloadModule ≡ false → eqb i sband1Module ≡ false → eqb i sband2Module ≡ false → isMission i ≡ false
+outside i a b c d = by (ltb i moduleCount) refl
+  where
+    by : (low : Bool) → ltb i moduleCount ≡ low → isMission i ≡ false
+    by true e = mission-four i (ltb-true i moduleCount e) ∙ rw (a, b, c, d)
+    by false e = bit-past moduleCount missionFour i (lit< tt) (ltb-false i moduleCount e)
+
+-- a core module has no end
+pub core-none : (i : ℕ) (ends : Ends) → isMission i ≡ false → endOf i ends ≡ 0
+unfolding endOf
+core-none i ends core = by (place i)
+  where
+    by : Place i → endOf i ends ≡ 0
+    by (adcs e) = absurd (true≢false (rw e at core))
+    by (payload e) = absurd (true≢false (rw e at core))
+    by (sband1 e) = absurd (true≢false (rw e at core))
+    by (sband2 e) = absurd (true≢false (rw e at core))
+    by (nowhere a b c d) = rw (a, b, c, d)
+
+-- no module has one where none is running
+pub none-at : (i : ℕ) → endOf i noEnds ≡ 0
+unfolding endOf
+none-at i = by (place i)
+  where
+    by : Place i → endOf i noEnds ≡ 0
+    by (adcs e) = rw e
+    by (payload e) = rw e
+    by (sband1 e) = rw e
+    by (sband2 e) = rw e
+    by (nowhere a b c d) = rw (a, b, c, d)
+
+-- a second takes one off each
+pub fallen-at : (i : ℕ) (ends : Ends) → endOf i (endsFallen ends) ≡ endOf i ends - 1
+unfolding endOf endsFallen
+fallen-at i ends = by (place i)
+  where
+    by : Place i → endOf i (endsFallen ends) ≡ endOf i ends - 1
+    by (adcs e) = rw e
+    by (payload e) = rw e
+    by (sband1 e) = rw e
+    by (sband2 e) = rw e
+    by (nowhere a b c d) = rw (a, b, c, d)
+
+-- the end that is set
+pub set-at : (which seconds : ℕ) (ends : Ends) → isMission which ≡ true → endOf which (withEnd which seconds ends) ≡ seconds
+unfolding endOf withEnd
+set-at which seconds ends mission = by (place which)
+  where
+    by : Place which → endOf which (withEnd which seconds ends) ≡ seconds
+    by (adcs e) = rw e
+    by (payload e) = rw e
+    by (sband1 e) = rw e
+    by (sband2 e) = rw e
+    by (nowhere a b c d) = absurd (true≢false (sym mission ∙ outside which a b c d))
+
+-- and every other
+pub others-at : (i which seconds : ℕ) (ends : Ends) → (i ≡ which → ⊥) → endOf i (withEnd which seconds ends) ≡ endOf i ends
+unfolding endOf withEnd
+others-at i which seconds ends other = by (place i)
+  where
+    no : (k : ℕ) → i ≡ k → eqb which k ≡ false
+    no k e = ne-eqb which k (λ w. other (e ∙ sym w))
+
+    by : Place i → endOf i (withEnd which seconds ends) ≡ endOf i ends
+    by (adcs e) = rw (no adcsModule e, e)
+    by (payload e) = rw (no payloadModule e, e)
+    by (sband1 e) = rw (no sband1Module e, e)
+    by (sband2 e) = rw (no sband2Module e, e)
+    by (nowhere a b c d) = rw (a, b, c, d)
+
+-- the mask of four tests, and the test of module i among them
+abbrev fourBits : (a b c d : Bool) → ℕ
+fourBits a b c d = (if a then 8 else 0) + (if b then 16 else 0) + (if c then 64 else 0) + (if d then 128 else 0)
+
+abbrev testOf : ℕ → (a b c d : Bool) → Bool
+testOf i a b c d = if eqb i adcsModule then a else if eqb i payloadModule then b else if eqb i sband1Module then c else if eqb i sband2Module then d else false
+
+-- they agree: one test over the eight modules and the sixteen masks
+abbrev agrees : (i : ℕ) (a b c d : Bool) → Bool
+agrees i a b c d = if bit i (fourBits a b c d) then testOf i a b c d else not (testOf i a b c d)
+
+abbrev inBoth : (Bool → Bool) → Bool
+inBoth f = f true && f false
+
+in-both : (f : Bool → Bool) → T (inBoth f) → (b : Bool) → T (f b)
+in-both f h true = and-left (f true) (f false) h
+in-both f h false = and-right (f true) (f false) h
+
+four-bits : (i : ℕ) → i < moduleCount → (a b c d : Bool) → bit i (fourBits a b c d) ≡ testOf i a b c d
+four-bits i low a b c d =
+    let all : T (inBoth (λ a. inBoth (λ b. inBoth (λ c. inBoth (agrees i a b c))))) =
+    upto (λ k. inBoth (λ a. inBoth (λ b. inBoth (λ c. inBoth (agrees k a b c))))) moduleCount tt i low in
+    agreed (bit i (fourBits a b c d)) (testOf i a b c d)
+    (in-both (agrees i a b c)
+    (in-both (λ c. inBoth (agrees i a b c))
+    (in-both (λ b. inBoth (λ c. inBoth (agrees i a b c))) (in-both (λ a. inBoth (λ b. inBoth (λ c. inBoth (agrees i a b c)))) all a) b) c) d)
+
+-- the modules that are over are those whose end is 1
+pub over-at : (i : ℕ) → i < moduleCount → (ends : Ends) → bit i (endsOver ends) ≡ eqb (endOf i ends) 1
+unfolding endOf endsOver
+over-at i low ends =
+    four-bits i low (eqb (ends .adcs) 1) (eqb (ends .payload) 1) (eqb (ends .sband1) 1) (eqb (ends .sband2) 1) ∙ by (place i)
+  where
+    by :
+        Place i →
+        testOf i (eqb (ends .adcs) 1) (eqb (ends .payload) 1) (eqb (ends .sband1) 1) (eqb (ends .sband2) 1) ≡ eqb (endOf i ends) 1
+    by (adcs e) = rw e
+    by (payload e) = rw e
+    by (sband1 e) = rw e
+    by (sband2 e) = rw e
+    by (nowhere a b c d) = rw (a, b, c, d)
+
+-- all in range by each, and each by all
+abbrev short : ℕ → Bool
+short end = leb end longestEnd
+
+shorter : (end : ℕ) → T (short end) → T (short (end - 1))
+shorter end h = le→leb (end - 1) longestEnd (omega (arith, leb→le end longestEnd h))
+
+pub fallen-in-range : (ends : Ends) → T (endsInRange ends) → T (endsInRange (endsFallen ends))
+unfolding endsInRange endsFallen
+fallen-in-range ends h = search (h, shorter, and-left, and-right, and-both)
+
+pub set-in-range : (which seconds : ℕ) (ends : Ends) → seconds ≤ longestEnd → T (endsInRange ends) → T (endsInRange (withEnd which seconds ends))
+unfolding endsInRange withEnd
+set-in-range which seconds ends low h =
+    let p : T (short seconds) = le→leb seconds longestEnd low in
+    let kept : (k end : ℕ) → T (short end) → T (short (if eqb which k then seconds else end)) = λ k end q. either (λ n. T (short n)) (eqb which k) p q in
+    search (h, kept, and-left, and-right, and-both)
