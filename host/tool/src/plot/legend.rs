@@ -2,10 +2,10 @@
 
 use super::marks::{mark, SHAPES};
 use super::modes::fill;
-use super::modules::{any_end, arrow, wedge, State};
+use super::modules::{arrow, State};
 use super::svg::{width, Align, Svg};
 use super::view::View;
-use super::{beacons, LEFT, WIDTH};
+use super::{beacons, ends, LEFT, WIDTH};
 use crate::tables;
 use ems::{answer, Beacon, Mode};
 
@@ -96,9 +96,9 @@ fn modules(view: &View) -> Vec<(Sign, String)> {
         bars(&[State::Requested, State::Failed], "requested and failed"),
         bars(&[State::Failed], "failed"),
     ];
-    if any_end(view) {
+    if ends::any(view) {
         let left = |svg: &mut Svg, x: f64, y: f64| {
-            svg.path(&wedge(x, y + 5.0, 20.0, 10.0, 0.0), "box", "");
+            svg.path(&ends::wedge(x, y + 5.0, 20.0, 10.0, 0.0), "box", "");
         };
         signs.push(sign(left, "time left"));
     }

@@ -3,6 +3,7 @@
 
 mod axis;
 mod beacons;
+mod ends;
 mod events;
 mod layout;
 mod legend;

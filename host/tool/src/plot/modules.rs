@@ -1,23 +1,19 @@
 //! A lane for each module: requested, on or failed, and under that the time left to
 //! its end, the shorts it saw and the tries it has left.
 
+use super::ends;
 use super::layout::groups;
 use super::record::Stretch;
 use super::svg::{polygon, Align, Svg};
 use super::view::{span, Bar, View};
 use super::{LEFT, RIGHT};
-use crate::words::{clock, count, list};
+use crate::words::{count, list};
 use ems::Module;
 
 /// A lane without shorts, its outer bar, and how much smaller the inner one is.
 const LANE: f64 = 25.0;
 const BAR: f64 = 17.0;
 const INSET: f64 = 3.5;
-
-/// A row of wedges, how tall one is, and how narrow at least.
-const WEDGES: f64 = 11.0;
-const WEDGE: f64 = 8.0;
-const NARROW: f64 = 4.0;
 
 /// A row of arrowheads, and from one to the next.
 const ARROWS: f64 = 8.0;
@@ -49,7 +45,7 @@ fn lane(svg: &mut Svg, view: &View, module: Module, top: f64) -> f64 {
         }
     }
     let mut bottom = top + LANE;
-    bottom = ends(svg, view, module, bottom);
+    bottom = ends::draw(svg, view, module, bottom);
     bottom = shorts(svg, view, module, bottom);
     bottom = tries(svg, view, module, bottom);
     svg.line(LEFT, bottom, RIGHT, bottom, "faint");
@@ -94,67 +90,6 @@ fn said(module: Module, state: State, bar: &Bar) -> String {
         state.name(),
         span(bar.from, bar.to)
     )
-}
-
-/// The stretches in which a module's end is running, each with the second it comes.
-fn running(view: &View, module: Module) -> Vec<Stretch<u64>> {
-    let track = &view.record.ends[usize::from(module.number())];
-    let mut running = Vec::new();
-    for Stretch { from, to, value } in view.stretches(track) {
-        running.extend(value.map(|value| Stretch { from, to, value }));
-    }
-    running
-}
-
-/// Whether an end is running in what is seen.
-pub fn any_end(view: &View) -> bool {
-    let mut all = Module::ALL.into_iter();
-    all.any(|module| !running(view, module).is_empty())
-}
-
-/// Wedges for the time left to the ends, if some are running; gives where they end.
-/// What begins too close to tell apart is one wedge, down to the last one's end.
-fn ends(svg: &mut Svg, view: &View, module: Module, y: f64) -> f64 {
-    let running = running(view, module);
-    for group in groups(&running, |one| view.x(one.from), NARROW) {
-        let (Some(first), Some(last)) = (group.first(), group.last()) else {
-            continue;
-        };
-        let end = clock(last.value);
-        let set = match group.len() as u64 {
-            1 => format!("{module}'s end at {end}"),
-            times => format!(
-                "{module}'s end set {}, the last at {end}",
-                count(times, "time")
-            ),
-        };
-        let about = format!("{set}, running {}", span(first.from, last.to));
-        let height = |second: u64| {
-            let second = second
-                .clamp(view.from, view.to)
-                .clamp(first.from, last.value);
-            WEDGE * (last.value - second) as f64 / (last.value - first.from).max(1) as f64
-        };
-        let x = view.x(first.from).min(RIGHT - NARROW);
-        let width = (view.x(last.to) - x).max(NARROW);
-        let wedge = wedge(x, y + WEDGE, width, height(first.from), height(last.to));
-        svg.path(&wedge, "box", &about);
-    }
-    if running.is_empty() {
-        y
-    } else {
-        y + WEDGES
-    }
-}
-
-/// A wedge on a place: as tall as the time that is left at its begin and at its end.
-pub fn wedge(x: f64, bottom: f64, width: f64, begin: f64, end: f64) -> String {
-    polygon(&[
-        (x, bottom),
-        (x, bottom - begin),
-        (x + width, bottom - end),
-        (x + width, bottom),
-    ])
 }
 
 /// Arrowheads for the shorts, if there were any; gives where they end.
