@@ -154,8 +154,8 @@ pub fn clear_counts(bytes: &mut [u8]) {
     bytes[at::CONTROL..at::ANTENNAS].fill(0);
 }
 
-/// Bytes that often are no image: a number of a mode, of ends or of modules at an edge, a
-/// tag beside the right ones, a byte or two changed, another length, noise.
+/// Bytes that often are no image: a number of a mode, of ends or of modules at an
+/// edge, a tag beside the right ones, a byte or two changed, another length, noise.
 pub fn damaged(rng: &mut Rng) -> Vec<u8> {
     let mut bytes = good(rng);
     match rng.below(11) {
