@@ -64,10 +64,10 @@ fn fly(seed: u64, met: &mut BTreeSet<Met>) {
         if frame.first() == Some(&TIMED) {
             met.insert(Met::TimedAnswer { mode: from, answer });
         }
-        for place in 0..4 {
-            let (old, new) = (before.ends[place], state.ends[place]);
-            let module = &state.modules[usize::from(MISSION[place])];
-            let failed = matches!(module.power, Power::Failed(_));
+        let ends = before.ends.into_iter().zip(state.ends);
+        for ((old, new), module) in ends.zip(MISSION) {
+            let power = state.modules[usize::from(module)].power;
+            let failed = matches!(power, Power::Failed(_));
             let fate = fate(&frame, old, new, failed, from > to);
             met.extend(fate.map(Met::End));
         }
