@@ -10,11 +10,12 @@ use lib.ListN.{length}
 use borrow.Author.Tests.{eq-eqb, ne-eqb, eqb-false}
 use Rattle.basics.specs.Choice.{within, word}
 use Rattle.basics.proofs.ChoiceLaws.{is-true, holds, either, decided, and-left, and-right, within-low, within-high}
-use Rattle.modules.specs.Groups.{payloadModule, isMission}
+use Rattle.modules.specs.Groups.{isMission}
 use Rattle.frames.specs.Answer.{answerNumber}
 use Rattle.frames.specs.Kind.{totalOf, tickKind, batteryKind, antennasKind, orderKind, thresholdsKind, timedKind}
 use Rattle.frames.specs.Sender.{groundOrigin, payloadOrigin, isOrigin, originFrom}
-use Rattle.frames.specs.Reading.{byteAt, wordAt, lastModule, isReading, areThresholds, areMinutes, fieldsOf, readFrame}
+use Rattle.frames.specs.Reading.{byteAt, wordAt, lastModule, isReading, areThresholds, areMinutes, isForeign}
+use Rattle.frames.specs.Reading.{fieldsOf, readFrame}
 use Rattle.frames.specs.Reading.{batteryFields, antennasFields, orderFields, timedFields, thresholdsFields}
 use Rattle.frames.specs.declared.sender.Sender.{Sender}
 use Rattle.frames.specs.declared.sender.Origin.the-variants.{Ground}
@@ -74,7 +75,7 @@ order-sound : (bytes : List ℕ) → Sound (orderFields bytes)
 unfolding orderFields
 order-sound bytes =
     either Sound (isOrigin (byteAt 1 bytes) && leb (byteAt 4 bytes) lastModule && leb (byteAt 5 bytes) 1)
-    (either Sound (eqb (byteAt 1 bytes) payloadOrigin && not (eqb (byteAt 4 bytes) payloadModule)) tt tt) tt
+    (either Sound (isForeign (byteAt 1 bytes) (byteAt 4 bytes)) tt tt) tt
 
 timed-sound : (bytes : List ℕ) → Sound (timedFields bytes)
 unfolding timedFields
@@ -83,7 +84,7 @@ timed-sound bytes =
     let mission : Bool = isMission (byteAt 4 bytes) in
     let fair : Bool = areMinutes (wordAt 5 bytes) in
     decided Sound (origin && mission && fair)
-    (λ e. either Sound (eqb (byteAt 1 bytes) payloadOrigin && not (eqb (byteAt 4 bytes) payloadModule)) tt
+    (λ e. either Sound (isForeign (byteAt 1 bytes) (byteAt 4 bytes)) tt
     (record {
       mission = and-right origin mission (and-left (origin && mission) fair (holds (origin && mission && fair) e));
       minutes = and-right (origin && mission) fair (holds (origin && mission && fair) e);

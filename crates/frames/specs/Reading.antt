@@ -53,6 +53,10 @@ areThresholds ascend descend = isReading ascend && isReading descend && leb desc
 abbrev pub areMinutes : ℕ → Bool
 areMinutes minutes = within 1 mostMinutes minutes
 
+-- what an origin may not order: origin 2 orders module 4 alone
+abbrev pub isForeign : (origin which : ℕ) → Bool
+isForeign origin which = eqb origin payloadOrigin && not (eqb which payloadModule)
+
 -- what each kind's fields say; a field outside its range is 6, what the payload may not ask is 7
 
 -- a tick's mask may hold any value
@@ -73,11 +77,11 @@ antennasFields bytes =
 abbrev pub senderFrom : List ℕ → Sender
 senderFrom bytes = record { origin = originFrom (byteAt 1 bytes); serial = wordAt 2 bytes }
 
--- then module 0 to 7, wanted 0 off or 1 on; origin 2 orders module 4 alone
+-- then module 0 to 7, wanted 0 off or 1 on
 unfoldable pub orderFields : List ℕ → Reading
 orderFields bytes =
     if isOrigin (byteAt 1 bytes) && leb (byteAt 4 bytes) lastModule && leb (byteAt 5 bytes) 1 then
-    (if eqb (byteAt 1 bytes) payloadOrigin && not (eqb (byteAt 4 bytes) payloadModule) then Refused NotPermitted else
+    (if isForeign (byteAt 1 bytes) (byteAt 4 bytes) then Refused NotPermitted else
     Accepted (Command (senderFrom bytes) (Order (byteAt 4 bytes) (eqb (byteAt 5 bytes) 1))))
     else Refused BadField
 
@@ -89,11 +93,11 @@ thresholdsFields bytes =
     Accepted (Command (senderFrom bytes) (Thresholds (wordAt 4 bytes) (wordAt 6 bytes))))
     else Refused BadField
 
--- then one of the mission four, minutes (2); origin 2 orders module 4 alone
+-- then one of the mission four, minutes (2)
 unfoldable pub timedFields : List ℕ → Reading
 timedFields bytes =
     if isOrigin (byteAt 1 bytes) && isMission (byteAt 4 bytes) && areMinutes (wordAt 5 bytes) then
-    (if eqb (byteAt 1 bytes) payloadOrigin && not (eqb (byteAt 4 bytes) payloadModule) then Refused NotPermitted else
+    (if isForeign (byteAt 1 bytes) (byteAt 4 bytes) then Refused NotPermitted else
     Accepted (Command (senderFrom bytes) (Timed (byteAt 4 bytes) (wordAt 5 bytes))))
     else Refused BadField
 

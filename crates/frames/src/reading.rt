@@ -3,7 +3,7 @@ ghost use mathlib.Core.Path.{_≡_};
 ghost use Prim.Native.Nat.{_≤_};
 ghost use lib.ListN.{length};
 ghost use Rattle.basics.specs.Choice.{word};
-ghost use Rattle.frames.specs.Reading.{isReading, areThresholds, areMinutes, senderFrom};
+ghost use Rattle.frames.specs.Reading.{isReading, areThresholds, areMinutes, isForeign, senderFrom};
 ghost use Rattle.frames.specs.Reading.{batteryFields, antennasFields, orderFields, timedFields};
 ghost use Rattle.frames.specs.Reading.{thresholdsFields, readFrame};
 use crate::answer::Answer;
@@ -60,6 +60,13 @@ fn are_minutes(minutes: u16) -> bool
     (1 <= minutes) & (minutes <= MOST_MINUTES)
 }
 
+// Whether an origin may not order a module: the payload orders its own alone.
+fn is_foreign(origin: u8, which: u8) -> bool
+    ensures { λ r. ⌜ r ≡ isForeign origin which ⌝ }
+{
+    (origin == PAYLOAD) & (which != modules::groups::PAYLOAD)
+}
+
 // A two-byte number, the high byte first.
 fn word(high: u8, low: u8) -> u16
     ensures { λ r. ⌜ r ≡ word high low ⌝ }
@@ -104,7 +111,7 @@ fn sender_from(bytes: &[u8]) -> Sender
     }
 }
 
-// An order, which the payload may give for its own module alone.
+// An order.
 fn order(bytes: &[u8]) -> Reading
     requires { ⌜ length (now bytes) ≡ 6 ⌝ }
     ensures { λ r. ⌜ r ≡ orderFields (now (bytes .entry)) ⌝ }
@@ -113,7 +120,7 @@ fn order(bytes: &[u8]) -> Reading
     let which = bytes[4];
     let wanted = bytes[5];
     if is_origin(origin) & (which <= LAST_MODULE) & (wanted <= 1) {
-        if (origin == PAYLOAD) & (which != modules::groups::PAYLOAD) {
+        if is_foreign(origin, which) {
             Reading::Refused(Answer::NotPermitted)
         } else {
             Reading::Accepted(Frame::Command {
@@ -129,7 +136,7 @@ fn order(bytes: &[u8]) -> Reading
     }
 }
 
-// A timed order, for one of the mission four; the payload may give it for its own module alone.
+// A timed order, for one of the mission four.
 fn timed(bytes: &[u8]) -> Reading
     requires { ⌜ length (now bytes) ≡ 7 ⌝ }
     ensures { λ r. ⌜ r ≡ timedFields (now (bytes .entry)) ⌝ }
@@ -138,7 +145,7 @@ fn timed(bytes: &[u8]) -> Reading
     let which = bytes[4];
     let minutes = word(bytes[5], bytes[6]);
     if is_origin(origin) & is_mission(which) & are_minutes(minutes) {
-        if (origin == PAYLOAD) & (which != modules::groups::PAYLOAD) {
+        if is_foreign(origin, which) {
             Reading::Refused(Answer::NotPermitted)
         } else {
             Reading::Accepted(Frame::Command {

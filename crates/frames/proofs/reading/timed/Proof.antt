@@ -29,6 +29,9 @@ is-mission-requires c κs = search needs
 are-minutes-requires : tie.Need-are-minutes-requires
 are-minutes-requires c κs = search needs
 
+is-foreign-requires : tie.Need-is-foreign-requires
+is-foreign-requires c κs = search needs
+
 sender-from-requires : tie.Need-sender-from-requires
 sender-from-requires c κs = search needs
 
@@ -37,27 +40,29 @@ unfolding timedFields
 returns c =
     simp (
       rw (
-        c .before .before .are-minutes .ensures,
-        c .before .before .before .is-mission .ensures,
-        c .before .before .before .before .is-origin .ensures,
-        c .before .before .before .before .before .word .ensures,
-      ) at (c .before .if1 .taken),
-      c .if2 .taken,
-    )
-
-returns-2 : tie.Need-returns-2
-unfolding timedFields
-returns-2 c =
-    simp (
-      rw (
         c .before .before .before .are-minutes .ensures,
         c .before .before .before .before .is-mission .ensures,
         c .before .before .before .before .before .is-origin .ensures,
         c .before .before .before .before .before .before .word .ensures,
       ) at (c .before .before .if1 .taken),
-      c .before .if2 .left,
+      rw (c .before .is-foreign .ensures) at (c .if2 .taken),
+    )
+
+returns-2 : tie.Need-returns-2
+unfolding timedFields
+returns-2 c =
+    let minutes = c .before .before .before .before in
+    let number = minutes .before .before .before in
+    simp (
+      rw (
+        minutes .are-minutes .ensures,
+        minutes .before .is-mission .ensures,
+        minutes .before .before .is-origin .ensures,
+        number .word .ensures,
+      ) at (c .before .before .before .if1 .taken),
+      rw (c .before .before .is-foreign .ensures) at (c .before .if2 .left),
       c .sender-from .ensures,
-      c .before .before .before .before .before .before .word .ensures,
+      number .word .ensures,
     )
 
 returns-3 : tie.Need-returns-3
@@ -82,6 +87,7 @@ timed-spec =
     is-origin-requires
     is-mission-requires
     are-minutes-requires
+    is-foreign-requires
     sender-from-requires
     returns
     returns-2
