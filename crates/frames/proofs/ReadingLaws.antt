@@ -10,29 +10,30 @@ use lib.ListN.{length}
 use borrow.Author.Tests.{eq-eqb, ne-eqb, eqb-false}
 use Rattle.basics.specs.Choice.{within, word}
 use Rattle.basics.proofs.ChoiceLaws.{is-true, holds, either, decided, and-left, and-right, within-low, within-high}
+use Rattle.modules.specs.Groups.{payloadModule, isMission}
 use Rattle.frames.specs.Answer.{answerNumber}
-use Rattle.frames.specs.Kind.{totalOf, tickKind, batteryKind, antennasKind, orderKind, thresholdsKind}
+use Rattle.frames.specs.Kind.{totalOf, tickKind, batteryKind, antennasKind, orderKind, thresholdsKind, timedKind}
 use Rattle.frames.specs.Sender.{groundOrigin, payloadOrigin, isOrigin, originFrom}
-use Rattle.frames.specs.Reading.{byteAt, wordAt, lastModule, payloadModule, isReading, areThresholds, fieldsOf, readFrame}
-use Rattle.frames.specs.Reading.{batteryFields, antennasFields, orderFields, thresholdsFields}
+use Rattle.frames.specs.Reading.{byteAt, wordAt, lastModule, isReading, areThresholds, areMinutes, fieldsOf, readFrame}
+use Rattle.frames.specs.Reading.{batteryFields, antennasFields, orderFields, timedFields, thresholdsFields}
 use Rattle.frames.specs.declared.sender.Sender.{Sender}
 use Rattle.frames.specs.declared.sender.Origin.the-variants.{Ground}
 use Rattle.frames.specs.declared.command.Command.{Command}
-use Rattle.frames.specs.declared.command.Command.the-variants.{Order, Thresholds}
+use Rattle.frames.specs.declared.command.Command.the-variants.{Order, Timed, Thresholds}
 use Rattle.frames.specs.declared.frame.Frame.{Frame}
 use Rattle.frames.specs.declared.frame.Frame.the-variants as frame
 use Rattle.frames.specs.declared.reading.Reading.{Reading}
 use Rattle.frames.specs.declared.reading.Reading.the-variants.{Refused, Accepted}
 
--- a kind that has a total and is none of the first four is the fifth
+-- a kind that has a total and is none of the first five is the sixth
 pub last-total :
     (kind : ℕ) → (kind ≡ tickKind → ⊥) → (kind ≡ batteryKind → ⊥) → (kind ≡ antennasKind → ⊥) → (kind ≡ orderKind → ⊥) →
-    (totalOf kind ≡ 0 → ⊥) → totalOf kind ≡ totalOf thresholdsKind
+    (kind ≡ thresholdsKind → ⊥) → (totalOf kind ≡ 0 → ⊥) → totalOf kind ≡ totalOf timedKind
 unfolding totalOf
-last-total kind a b c d known =
-    simp (ne-eqb kind tickKind a, ne-eqb kind batteryKind b, ne-eqb kind antennasKind c, ne-eqb kind orderKind d)
-    (decided (λ (n : ℕ). n ≡ 8) (eqb kind thresholdsKind) (λ e. refl)
-    (λ e. absurd (known (simp (ne-eqb kind tickKind a, ne-eqb kind batteryKind b, ne-eqb kind antennasKind c, ne-eqb kind orderKind d, e)))))
+last-total kind a b c d e known =
+    simp (ne-eqb kind tickKind a, ne-eqb kind batteryKind b, ne-eqb kind antennasKind c, ne-eqb kind orderKind d, ne-eqb kind thresholdsKind e)
+    (decided (λ (n : ℕ). n ≡ 7) (eqb kind timedKind) (λ t. refl)
+    (λ t. absurd (known (simp (ne-eqb kind tickKind a, ne-eqb kind batteryKind b, ne-eqb kind antennasKind c, ne-eqb kind orderKind d, ne-eqb kind thresholdsKind e, t)))))
 
 -- bytes that pass checks 3 to 5 are read by their kind's fields
 pub read-fields :
@@ -42,9 +43,11 @@ unfolding readFrame
 read-fields bytes some known whole =
     simp (ne-eqb (length bytes) 0 some, ne-eqb (totalOf (byteAt 0 bytes)) 0 known, eq-eqb (length bytes) (totalOf (byteAt 0 bytes)) whole)
 
--- the fields of a command are in their ranges, and thresholds are ground's: those of the payload are never read
+-- the fields of a command are in their ranges; a timed order is for one of the mission four, and thresholds are ground's:
+-- those of the payload are never read
 abbrev pub FitsCommand : Sender → Command → Type 0
 FitsCommand sender (Order which on) = Unit {0}
+FitsCommand sender (Timed which minutes) = record { mission : T (isMission which); minutes : T (areMinutes minutes) }
 FitsCommand sender (Thresholds ascend descend) = record { fair : T (areThresholds ascend descend); ground : sender .origin ≡ Ground }
 
 -- the fields of a frame
@@ -73,6 +76,20 @@ order-sound bytes =
     either Sound (isOrigin (byteAt 1 bytes) && leb (byteAt 4 bytes) lastModule && leb (byteAt 5 bytes) 1)
     (either Sound (eqb (byteAt 1 bytes) payloadOrigin && not (eqb (byteAt 4 bytes) payloadModule)) tt tt) tt
 
+timed-sound : (bytes : List ℕ) → Sound (timedFields bytes)
+unfolding timedFields
+timed-sound bytes =
+    let origin : Bool = isOrigin (byteAt 1 bytes) in
+    let mission : Bool = isMission (byteAt 4 bytes) in
+    let fair : Bool = areMinutes (wordAt 5 bytes) in
+    decided Sound (origin && mission && fair)
+    (λ e. either Sound (eqb (byteAt 1 bytes) payloadOrigin && not (eqb (byteAt 4 bytes) payloadModule)) tt
+    (record {
+      mission = and-right origin mission (and-left (origin && mission) fair (holds (origin && mission && fair) e));
+      minutes = and-right (origin && mission) fair (holds (origin && mission && fair) e);
+    }))
+    (λ e. tt)
+
 -- an origin that is not the payload's is ground's
 origin-ground : (byte : ℕ) → T (isOrigin byte) → eqb byte payloadOrigin ≡ false → originFrom byte ≡ Ground
 origin-ground byte h e =
@@ -98,7 +115,8 @@ fields-sound kind bytes =
     either Sound (eqb kind tickKind) tt
     (either Sound (eqb kind batteryKind) (battery-sound bytes)
     (either Sound (eqb kind antennasKind) (antennas-sound bytes)
-    (either Sound (eqb kind orderKind) (order-sound bytes) (thresholds-sound bytes))))
+    (either Sound (eqb kind orderKind) (order-sound bytes)
+    (either Sound (eqb kind thresholdsKind) (thresholds-sound bytes) (timed-sound bytes)))))
 
 pub read-sound : (bytes : List ℕ) → Sound (readFrame bytes)
 unfolding readFrame

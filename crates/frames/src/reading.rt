@@ -19,7 +19,7 @@ use crate::sender::PAYLOAD;
 use crate::sender::Sender;
 use crate::sender::is_origin;
 use crate::sender::origin_from;
-use modules::groups::MISSION;
+use modules::groups::is_mission;
 
 // What reading gives: the number of a refusal, or a frame.
 pub enum Reading {
@@ -137,7 +137,7 @@ fn timed(bytes: &[u8]) -> Reading
     let origin = bytes[1];
     let which = bytes[4];
     let minutes = word(bytes[5], bytes[6]);
-    if is_origin(origin) & modules::stage::has(MISSION, which as usize) & are_minutes(minutes) {
+    if is_origin(origin) & is_mission(which) & are_minutes(minutes) {
         if (origin == PAYLOAD) & (which != modules::groups::PAYLOAD) {
             Reading::Refused(Answer::NotPermitted)
         } else {

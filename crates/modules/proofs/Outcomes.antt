@@ -2,6 +2,8 @@
 -- Assumes nothing.
 use mathlib.Core.Path.{sym, _∙_}
 use Rattle.basics.specs.OneOutcome.{OneOutcome}
+use Rattle.modules.proofs.groups.is_mission as is-mission
+use Rattle.modules.proofs.groups.is_mission.Reads as is-mission-reads
 use Rattle.modules.proofs.power.Power.second as second
 use Rattle.modules.proofs.power.Power.second.Reads as second-reads
 use Rattle.modules.proofs.power.Power.in_range as power-in-range
@@ -32,6 +34,9 @@ use Rattle.modules.proofs.ends.Ends.with_end as with-end
 use Rattle.modules.proofs.ends.Ends.with_end.Reads as with-end-reads
 use Rattle.modules.proofs.ends.Ends.in_range as ends-in-range
 use Rattle.modules.proofs.ends.Ends.in_range.Reads as ends-in-range-reads
+
+pub is-mission-one : OneOutcome is-mission.ended is-mission-reads.Asked is-mission-reads.Learnt
+is-mission-one = record { taken = λ κs a. tt; one = λ κs a x y p q i. ((p ∙ sym q) i, (tt, tt)) }
 
 pub second-one : OneOutcome second.ended second-reads.Asked second-reads.Learnt
 second-one = record { taken = λ κs a. tt; one = λ κs a x y p q i. ((p ∙ sym q) i, (tt, (tt, (tt, tt)))) }

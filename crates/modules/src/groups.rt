@@ -1,4 +1,7 @@
 // The two groups of modules as masks, and the mission four by their numbers.
+ghost use mathlib.Core.Path.{_≡_};
+ghost use Rattle.modules.specs.Groups.{isMission};
+use crate::stage::has;
 
 // The core four: 0 MCS, 1 COMM1, 2 COMM2, 5 I2C.
 pub const CORE: u8 = 0x27;
@@ -17,3 +20,10 @@ pub const SBAND1: u8 = 6;
 
 // SBAND2, of the mission four.
 pub const SBAND2: u8 = 7;
+
+// Whether a module is one of the mission four.
+pub fn is_mission(which: u8) -> bool
+    ensures { λ r. ⌜ r ≡ isMission which ⌝ }
+{
+    has(MISSION, which as usize)
+}

@@ -10,7 +10,7 @@ use frames::answer::Answer;
 use frames::command::Command;
 use frames::sender::Sender;
 use frames::serial::Class;
-use modules::groups::MISSION;
+use modules::groups::is_mission;
 
 // The seconds of a minute.
 const MINUTE: u32 = 60;
@@ -20,7 +20,7 @@ impl Mode {
     fn is_ill_timed(self, which: u8, on: bool) -> bool
         ensures { λ r. ⌜ r ≡ isIllTimed which on self ⌝ }
     {
-        on & modules::stage::has(MISSION, which as usize) & !self.is_safe()
+        on & is_mission(which) & !self.is_safe()
     }
 }
 

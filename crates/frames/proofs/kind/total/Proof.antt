@@ -27,12 +27,17 @@ returns-5 c = simp (c .match .keys5)
 
 returns-6 : tie.Need-returns-6
 unfolding totalOf
-returns-6 c =
-    let (known, fifth) = c .match .rest in
+returns-6 c = simp (c .match .keys6)
+
+returns-7 : tie.Need-returns-7
+unfolding totalOf
+returns-7 c =
+    let (all, sixth) = c .match .rest in
+    let (known, fifth) = all in
     let (three, fourth) = known in
     let (two, third) = three in
     let (one, second) = two in
-    simp (ne-eqb _ _ (one .1), ne-eqb _ _ second, ne-eqb _ _ third, ne-eqb _ _ fourth, ne-eqb _ _ fifth)
+    simp (ne-eqb _ _ (one .1), ne-eqb _ _ second, ne-eqb _ _ third, ne-eqb _ _ fourth, ne-eqb _ _ fifth, ne-eqb _ _ sixth)
 
 pub total-spec : {M : Type 1} → statement M
-total-spec = tie.close (tie.spec returns returns-2 returns-3 returns-4 returns-5 returns-6)
+total-spec = tie.close (tie.spec returns returns-2 returns-3 returns-4 returns-5 returns-6 returns-7)

@@ -66,9 +66,14 @@ order-requires c κs = told (c .before) ∙ ap totalOf (c .match .keys4)
 
 thresholds-requires : tie.Need-thresholds-requires
 unfolding totalOf
-thresholds-requires c κs =
+thresholds-requires c κs = told (c .before) ∙ ap totalOf (c .match .keys5)
+
+timed-requires : tie.Need-timed-requires
+unfolding totalOf
+timed-requires c κs =
+    let (known, fifth) = c .match .rest in
     told (c .before)
-    ∙ last-total _ (c .match .rest .0 .0 .0 .1) (c .match .rest .0 .0 .1) (c .match .rest .0 .1) (c .match .rest .1)
+    ∙ last-total _ (known .0 .0 .0 .1) (known .0 .0 .1) (known .0 .1) (known .1) fifth
     (rw (c .before .before .before .total .ensures) at (c .before .before .if2 .left))
 
 returns-4 : tie.Need-returns-4
@@ -84,11 +89,14 @@ returns-7 : tie.Need-returns-7
 returns-7 c = c .order .ensures ∙ sym (by-kind (c .before .before) _ (c .before .match .keys4))
 
 returns-8 : tie.Need-returns-8
-returns-8 c =
-    let rest : tie.At-match-rest = c .before in
-    c .thresholds .ensures
+returns-8 c = c .thresholds .ensures ∙ sym (by-kind (c .before .before) _ (c .before .match .keys5))
+
+returns-9 : tie.Need-returns-9
+returns-9 c =
+    let (known, fifth) = c .before .match .rest in
+    c .timed .ensures
     ∙ sym (by-kind (c .before .before) _ refl
-    ∙ simp (ne-eqb _ _ (rest .match .rest .0 .0 .0 .1), ne-eqb _ _ (rest .match .rest .0 .0 .1), ne-eqb _ _ (rest .match .rest .0 .1), ne-eqb _ _ (rest .match .rest .1)))
+    ∙ simp (ne-eqb _ _ (known .0 .0 .0 .1), ne-eqb _ _ (known .0 .0 .1), ne-eqb _ _ (known .0 .1), ne-eqb _ _ (known .1), ne-eqb _ _ fifth))
 
 pub read-spec : {M : Type 1} → statement M
 read-spec =
@@ -104,8 +112,10 @@ read-spec =
     antennas-requires
     order-requires
     thresholds-requires
+    timed-requires
     returns-4
     returns-5
     returns-6
     returns-7
-    returns-8)
+    returns-8
+    returns-9)
