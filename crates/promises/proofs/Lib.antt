@@ -15,6 +15,7 @@ pub mod TwoFrames
 pub mod TwoPower
 pub mod TwoCraft
 pub mod Serials
+pub mod WordLaws
 pub mod Requests
 pub mod AsTold
 pub mod Late
