@@ -32,6 +32,11 @@ aged-says (timed minutes ticks) =
     (λ e. sym (le-ltb (ticks + 1) n (omega (arith, eqb-true (n - ticks) 1 e))))
     (λ e. one-more ticks n (ltb ticks n) refl (eqb-false (n - ticks) 1 e))
 
+-- what is not "on" is not a tick later either
+pub aged-off : (word : Word) → says word ≡ false → says (aged word) ≡ false
+aged-off (plain on) e = e
+aged-off (timed minutes ticks) e = le-ltb (ticks + 1) (60 * minutes) (omega (arith, ltb-false ticks (60 * minutes) e))
+
 pub aged-left : (word : Word) → leftOf word - 1 ≡ leftOf (aged word)
 aged-left (plain on) = refl
 aged-left (timed minutes ticks) = omega arith

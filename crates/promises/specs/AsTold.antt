@@ -54,18 +54,18 @@ SaysOff i frame = says (orders i frame (plain true)) ≡ false
 abbrev pub ordered : ℕ → State → Call → (word : Word) → Word
 ordered i s c word = if isDone (answered s c) then orders i (aboutOf c) word else word
 
--- a done tick outside DEPLOY_WAIT, by the mode before it
-abbrev pub runningTick : State → Call → Bool
-runningTick s c = doneTick s c && deployed s
-
 -- a word a tick later
 abbrev pub aged : (word : Word) → Word
 aged (plain on) = plain on
 aged (timed minutes ticks) = timed minutes (ticks + 1)
 
--- what a call makes of a word, whatever the mode
-abbrev pub told : ℕ → State → Call → (word : Word) → Word
-told i s c word = if runningTick s c then aged word else ordered i s c word
+-- a done tick outside DEPLOY_WAIT, by the mode before it
+abbrev pub runningTick : State → Call → Bool
+runningTick s c = doneTick s c && deployed s
+
+-- a word after a call that says nothing: a tick later, if the call is such a tick
+abbrev pub later : State → Call → (word : Word) → Word
+later s c word = if runningTick s c then aged word else word
 
 -- what a change of the mode says to a mission module, and to a core module, given the word before
 abbrev pub Saying : Type 0
@@ -80,7 +80,7 @@ crossing false before after word = if isRecovery before && isSafe after then pla
 -- what a call says to module i
 abbrev pub said : Saying → ℕ → State → Call → (word : Word) → Word
 said crosses i s c word =
-    crosses (isMission i) (s .watch .mode) (called s c .result .state .watch .mode) (told i s c word)
+    crosses (isMission i) (s .watch .mode) (called s c .result .state .watch .mode) (ordered i s c (later s c word))
 
 -- the last word on it after a history, given the word before
 abbrev pub lastWord : Saying → ℕ → (word : Word) → State → List Call → Word
