@@ -1,101 +1,120 @@
 -- Laws of the state that the module stage finds: what the stages before it leave, and what they may change.
 -- Assumes nothing.
 use Prim.Native.Nat.{ℕ, _<_}
-use mathlib.Core.Path.{_≡_, refl, ap}
+use mathlib.Core.Path.{_≡_, refl, ap, _∙_}
 use mathlib.Core.Bool.{true, false}
 use lib.Dec.{T, lit<}
 use Rattle.modules.specs.Groups.{moduleCount, coreFour, missionFour}
+use Rattle.modules.specs.Ends.{noEnds, endsOver, endsInRange}
 use Rattle.modules.specs.Stage.{modulesInRange}
+use Rattle.modules.proofs.EndsLaws.{fallen-in-range}
 use Rattle.modules.proofs.StageLaws.{requested-in-range}
 use Rattle.supervisor.specs.Range.{judgeTicks}
-use Rattle.supervisor.specs.State.{isDeployWait, moduleAt, withControl}
+use Rattle.supervisor.specs.State.{isDeployWait, moduleAt, withControl, withEnds}
+use Rattle.supervisor.specs.Ending.{ended}
 use Rattle.supervisor.specs.Control.{controlled}
 use Rattle.supervisor.specs.Tick.{beforeModules}
 use Rattle.supervisor.specs.declared.state.Mode.the-variants.{Recovery, Safe}
 use Rattle.supervisor.specs.declared.state.State.{State}
 use Rattle.supervisor.proofs.ControlLaws.{Controls, level, upward, downward, controls}
-use Rattle.supervisor.proofs.ModuleLaws.{Eight, crossed-eight, at-crossed}
+use Rattle.supervisor.proofs.ModuleLaws.{Eight, crossed-eight, at-crossed, ended-eight, at-ended}
 
--- what control leaves, and so what the module stage finds
+-- what control leaves
 module _ (s : State) where
   serials-by : Controls s → controlled s .serials ≡ s .serials
   serials-by (level count low none w) = rw w
   serials-by (upward j e t w) = rw w
   serials-by (downward j e t w) = rw w
 
-  -- the serials
-  pub before-serials : beforeModules s .serials ≡ s .serials
-  unfolding beforeModules
-  before-serials = serials-by (controls s)
-
   beacon-by : Controls s → controlled s .watch .beacon ≡ s .watch .beacon
   beacon-by (level count low none w) = rw w
   beacon-by (upward j e t w) = rw w
   beacon-by (downward j e t w) = rw w
-
-  -- the beacon count
-  pub before-beacon : beforeModules s .watch .beacon ≡ s .watch .beacon
-  unfolding beforeModules
-  before-beacon = beacon-by (controls s)
 
   flies-by : isDeployWait (s .watch .mode) ≡ false → Controls s → isDeployWait (controlled s .watch .mode) ≡ false
   flies-by e (level count low none w) = rw w e
   flies-by e (upward j m t w) = rw w refl
   flies-by e (downward j m t w) = rw w refl
 
-  -- outside DEPLOY_WAIT it stays outside
-  pub before-flies : isDeployWait (s .watch .mode) ≡ false → isDeployWait (beforeModules s .watch .mode) ≡ false
-  unfolding beforeModules
-  before-flies e = flies-by e (controls s)
-
   battery-by : Controls s → controlled s .battery ≡ s .battery
   battery-by (level count low none w) = rw w
   battery-by (upward j e t w) = rw w
   battery-by (downward j e t w) = rw w
-
-  -- the battery
-  pub before-battery : beforeModules s .battery ≡ s .battery
-  unfolding beforeModules
-  before-battery = battery-by (controls s)
 
   control-by : s .watch .control < judgeTicks → Controls s → controlled s .watch .control < judgeTicks
   control-by h (level count low none w) = rw w (low h)
   control-by h (upward j e t w) = rw w (lit< tt)
   control-by h (downward j e t w) = rw w (lit< tt)
 
-  -- the control count stays low
-  pub before-control : s .watch .control < judgeTicks → beforeModules s .watch .control < judgeTicks
-  unfolding beforeModules
-  before-control h = control-by h (controls s)
-
   modules-by : T (modulesInRange (s .modules)) → Controls s → T (modulesInRange (controlled s .modules))
   modules-by h (level count low none w) = rw w h
   modules-by h (upward j e t w) = rw w (requested-in-range coreFour true (s .modules) h)
   modules-by h (downward j e t w) = rw w (requested-in-range missionFour false (s .modules) h)
 
-  -- the modules stay in range
-  pub before-modules-in-range : T (modulesInRange (s .modules)) → T (modulesInRange (beforeModules s .modules))
-  unfolding beforeModules
-  before-modules-in-range h = modules-by h (controls s)
+  ends-by : T (endsInRange (s .ends)) → Controls s → T (endsInRange (controlled s .ends))
+  unfolding endsInRange
+  ends-by h (level count low none w) = rw w h
+  ends-by h (upward j e t w) = rw w h
+  ends-by h (downward j e t w) = rw w tt
 
   module _ (eight : Eight s) where
     eight-by : Controls s → Eight (controlled s)
     eight-by (level count low none w) = rw w eight
     eight-by (upward j e t w) = rw w (crossed-eight (withControl 0 s) eight Safe coreFour true)
-    eight-by (downward j e t w) = rw w (crossed-eight (withControl 0 s) eight Recovery missionFour false)
-
-    -- eight modules
-    pub before-eight : Eight (beforeModules s)
-    unfolding beforeModules
-    before-eight = eight-by (controls s)
+    eight-by (downward j e t w) = rw w (crossed-eight (withEnds noEnds (withControl 0 s)) eight Recovery missionFour false)
 
     module _ (i : ℕ) (low : i < moduleCount) where
       power-by : Controls s → moduleAt i (controlled s) .power ≡ moduleAt i s .power
       power-by (level count below none w) = rw w
       power-by (upward j e t w) = rw w (ap (λ m. m .power) (at-crossed (withControl 0 s) eight i low Safe coreFour true))
-      power-by (downward j e t w) = rw w (ap (λ m. m .power) (at-crossed (withControl 0 s) eight i low Recovery missionFour false))
+      power-by (downward j e t w) = rw w (ap (λ m. m .power) (at-crossed (withEnds noEnds (withControl 0 s)) eight i low Recovery missionFour false))
 
-      -- each module's power
-      pub before-power : moduleAt i (beforeModules s) .power ≡ moduleAt i s .power
-      unfolding beforeModules
-      before-power = power-by (controls s)
+-- what the module stage finds, after ends and control
+module _ (s : State) where
+  -- the serials
+  pub before-serials : beforeModules s .serials ≡ s .serials
+  unfolding beforeModules ended
+  before-serials = serials-by (ended s) (controls (ended s))
+
+  -- the beacon count
+  pub before-beacon : beforeModules s .watch .beacon ≡ s .watch .beacon
+  unfolding beforeModules ended
+  before-beacon = beacon-by (ended s) (controls (ended s))
+
+  -- outside DEPLOY_WAIT it stays outside
+  pub before-flies : isDeployWait (s .watch .mode) ≡ false → isDeployWait (beforeModules s .watch .mode) ≡ false
+  unfolding beforeModules ended
+  before-flies e = flies-by (ended s) e (controls (ended s))
+
+  -- the battery
+  pub before-battery : beforeModules s .battery ≡ s .battery
+  unfolding beforeModules ended
+  before-battery = battery-by (ended s) (controls (ended s))
+
+  -- the control count stays low
+  pub before-control : s .watch .control < judgeTicks → beforeModules s .watch .control < judgeTicks
+  unfolding beforeModules ended
+  before-control h = control-by (ended s) h (controls (ended s))
+
+  -- the ends stay in range
+  pub before-ends-in-range : T (endsInRange (s .ends)) → T (endsInRange (beforeModules s .ends))
+  unfolding beforeModules ended
+  before-ends-in-range h = ends-by (ended s) (fallen-in-range (s .ends) h) (controls (ended s))
+
+  -- the modules stay in range
+  pub before-modules-in-range : T (modulesInRange (s .modules)) → T (modulesInRange (beforeModules s .modules))
+  unfolding beforeModules ended
+  before-modules-in-range h =
+      modules-by (ended s) (requested-in-range (endsOver (s .ends)) false (s .modules) h) (controls (ended s))
+
+  module _ (eight : Eight s) where
+    -- eight modules
+    pub before-eight : Eight (beforeModules s)
+    unfolding beforeModules
+    before-eight = eight-by (ended s) (ended-eight s eight) (controls (ended s))
+
+    -- each module's power
+    pub before-power : (i : ℕ) → i < moduleCount → moduleAt i (beforeModules s) .power ≡ moduleAt i s .power
+    unfolding beforeModules
+    before-power i low =
+        power-by (ended s) (ended-eight s eight) i low (controls (ended s)) ∙ ap (λ m. m .power) (at-ended s eight i low)

@@ -1,6 +1,6 @@
 -- Laws of commands: a frame is news, and done; or a command that is a repeat, stale or taken, by its origin's last serial.
 -- Assumes nothing.
-use Prim.Native.Nat.{ℕ}
+use Prim.Native.Nat.{ℕ, _*_}
 use native.Mathlib.Omega.{arith}
 use mathlib.Core.Path.{_≡_, refl, ap, subst}
 use mathlib.Core.Bool.{Bool, true, false, _||_}
@@ -17,13 +17,13 @@ use Rattle.frames.specs.declared.sender.Sender.{Sender}
 use Rattle.frames.specs.declared.serial.Class.{Class}
 use Rattle.frames.specs.declared.serial.Class.the-variants.{Repeat, Fresh, Stale}
 use Rattle.frames.specs.declared.command.Command.{Command}
-use Rattle.frames.specs.declared.command.Command.the-variants.{Order, Thresholds}
+use Rattle.frames.specs.declared.command.Command.the-variants.{Order, Timed, Thresholds}
 use Rattle.frames.specs.declared.frame.Frame.{Frame}
 use Rattle.frames.specs.declared.reading.Reading.the-variants.{Accepted}
 use Rattle.frames.specs.declared.answer.Answer.the-variants as answer
 use Rattle.frames.specs.declared.frame.Frame.the-variants as frame
 use Rattle.supervisor.specs.Acted.{silent, done}
-use Rattle.supervisor.specs.Command.{isIllTimed, requestSet, taken, serialUsed, byClass, classIn, bySerial}
+use Rattle.supervisor.specs.Command.{isIllTimed, requestSet, orderTaken, minuteSeconds, taken, serialUsed, byClass, classIn, bySerial}
 use Rattle.supervisor.specs.Act.{actOf}
 use Rattle.supervisor.specs.History.{isTaken}
 use Rattle.supervisor.specs.declared.acted.Acted.{Acted}
@@ -80,12 +80,17 @@ not-ten : _≡_ {A = ℕ} 0 10 → ⊥
 not-ten e = omega arith
 
 -- what a fresh serial leads to, command by command
-taken-judged : (command : Command) (sender : Sender) (s t : State) → t ≡ serialUsed sender s → Judged Fresh sender s (taken command t)
+order-judged :
+    (which : ℕ) (on : Bool) (end : ℕ) (sender : Sender) (s t : State) → t ≡ serialUsed sender s → Judged Fresh sender s (orderTaken which on end t)
 unfolding requestSet
-taken-judged (Order which on) sender s t e =
-    either (Judged Fresh sender s) (isIllTimed which on (t .watch .mode)) {x = silent answer.NotNow t} {y = done (requestSet which on t)}
+order-judged which on end sender s t e =
+    either (Judged Fresh sender s) (isIllTimed which on (t .watch .mode)) {x = silent answer.NotNow t} {y = done (requestSet which on end t)}
     (record { taken = tt; serials = ap (λ r. r .serials) e; ill = λ ten. e })
     (record { taken = tt; serials = ap (λ r. r .serials) e; ill = λ ten. absurd (not-ten ten) })
+
+taken-judged : (command : Command) (sender : Sender) (s t : State) → t ≡ serialUsed sender s → Judged Fresh sender s (taken command t)
+taken-judged (Order which on) sender s t e = order-judged which on 0 sender s t e
+taken-judged (Timed which minutes) sender s t e = order-judged which true (minuteSeconds * minutes) sender s t e
 taken-judged (Thresholds ascend descend) sender s t e = record { taken = tt; serials = ap (λ r. r .serials) e; ill = λ ten. absurd (not-ten ten) }
 
 pub act-answers : (f : Frame) (s : State) → Answers f s (actOf f s)

@@ -7,7 +7,8 @@ use mathlib.Core.Bool.{Bool, true, false}
 use lib.Dec.{eqb, ltb, lit<}
 use borrow.Author.Tests.{eqb-true, eqb-false, ltb-true}
 use Rattle.modules.specs.Groups.{coreFour, missionFour}
-use Rattle.supervisor.specs.State.{withControl}
+use Rattle.modules.specs.Ends.{noEnds}
+use Rattle.supervisor.specs.State.{withControl, withEnds}
 use Rattle.supervisor.specs.Range.{judgeTicks}
 use Rattle.supervisor.specs.Control.{crossingOf, crossedTo, controlled}
 use Rattle.supervisor.specs.declared.state.Mode.{Mode}
@@ -30,7 +31,7 @@ pub data Controls (s : State) : Type 0 where
       controlled s ≡ crossedTo Safe coreFour true (withControl 0 s) → Controls s
   downward :
       IsJudged s → s .watch .mode ≡ Safe → s .battery .tension < s .battery .descend →
-      controlled s ≡ crossedTo Recovery missionFour false (withControl 0 s) → Controls s
+      controlled s ≡ crossedTo Recovery missionFour false (withEnds noEnds (withControl 0 s)) → Controls s
 
 module _ (s : State) where
   at-thirty :

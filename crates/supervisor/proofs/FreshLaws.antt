@@ -10,6 +10,7 @@ use Rattle.basics.proofs.ChoiceLaws.{agreed}
 use Rattle.basics.proofs.TablesLaws.{upto}
 use Rattle.modules.specs.Groups.{moduleCount, isMission}
 use Rattle.modules.specs.Power.{isOn}
+use Rattle.modules.specs.Ends.{endsInRange}
 use Rattle.modules.specs.Stage.{requestedBy, modulesInRange}
 use Rattle.supervisor.specs.State.{moduleAt}
 use Rattle.supervisor.specs.Fresh.{freshState}
@@ -17,7 +18,7 @@ use Rattle.supervisor.specs.Range.{inRange}
 use Rattle.supervisor.proofs.ModuleLaws.{Eight}
 
 pub fresh-in-range : T (inRange freshState)
-unfolding inRange freshState requestedBy each eachFrom modulesInRange
+unfolding inRange freshState requestedBy each eachFrom modulesInRange endsInRange
 fresh-in-range = tt
 
 pub fresh-eight : Eight freshState

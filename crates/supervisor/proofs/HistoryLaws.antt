@@ -137,7 +137,7 @@ after-in-range = after-keeps InRange (λ shorts s v h. ticked-in-range shorts s 
 act-eight : (f : Frame) → Fits f → isTick (about (Accepted f)) ≡ false → (s : State) → Eight s → Eight (actOf f s .state)
 act-eight f fits e s n =
     act-still Eight
-    (record { tension = λ v r t h. h; antennas = λ d t h. h; serial = λ o t h. h; request = λ which on t i h. asked-eight t h which on; thresholds = λ a d r t h. h })
+    (record { tension = λ v r t h. h; antennas = λ d t h. h; serial = λ o t h. h; request = λ which on end low t i h. asked-eight t h which on end; thresholds = λ a d r t h. h })
     f fits e s n
 
 pub called-eight : (s : State) (c : Call) → Eight s → Eight (called s c .result .state)

@@ -1,11 +1,12 @@
--- Laws of module i of a state: what the module stage, a crossing and an order make of it; the mission four by their number.
+-- Laws of module i of a state, and of its end: what the stages, a crossing and an order make of it; the mission four by
+-- their number.
 -- Assumes nothing.
-use Prim.Native.Nat.{ℕ, _+_, _<_}
+use Prim.Native.Nat.{ℕ, _+_, _-_, _<_}
 use native.Mathlib.Omega.{arith}
-use mathlib.Core.Path.{_≡_, refl, sym, _∙_}
+use mathlib.Core.Path.{_≡_, refl, sym, ap, _∙_}
 use mathlib.Core.Bool.{Bool, true, false, not, true≢false}
 use lib.ListN.{length}
-use lib.Dec.{lit<, leb}
+use lib.Dec.{lit<, leb, eqb}
 use borrow.Author.Tests.{leb-true, leb-false}
 use Rattle.basics.specs.Choice.{if_then_else_, bit}
 use Rattle.basics.proofs.ChoiceLaws.{is-true, agreed}
@@ -14,7 +15,11 @@ use Rattle.basics.proofs.BitLaws.{bit-past}
 use Rattle.basics.proofs.TablesLaws.{upto}
 use Rattle.modules.specs.Groups.{moduleCount, coreFour, missionFour, isMission}
 use Rattle.modules.specs.Stage.{stageOf, requestedBy, requestedOne, moduleSecond, moduleRequested, moduleAsked}
-use Rattle.supervisor.specs.State.{isSafe, moduleAt}
+use Rattle.modules.specs.Power.{withRequest}
+use Rattle.modules.specs.Ends.{endsOver}
+use Rattle.modules.proofs.EndsLaws.{fallen-at, set-at, others-at, over-at}
+use Rattle.supervisor.specs.State.{isSafe, moduleAt, endAt}
+use Rattle.supervisor.specs.Ending.{ended}
 use Rattle.supervisor.specs.Control.{crossedTo}
 use Rattle.supervisor.specs.Tick.{moduleStage, allowedIn}
 use Rattle.supervisor.specs.Command.{requestSet}
@@ -35,11 +40,15 @@ module _ (s : State) (eight : Eight s) where
   unfolding requestedBy
   crossed-eight mode mask on = length-each _ (s .modules) ∙ eight
 
-  pub asked-eight : (which : ℕ) (on : Bool) → Eight (requestSet which on s)
+  pub asked-eight : (which : ℕ) (on : Bool) (end : ℕ) → Eight (requestSet which on end s)
   unfolding requestSet requestedOne
-  asked-eight which on = length-each _ (s .modules) ∙ eight
+  asked-eight which on end = length-each _ (s .modules) ∙ eight
 
-  -- module i after the stage, a crossing, an order
+  pub ended-eight : Eight (ended s)
+  unfolding ended requestedBy
+  ended-eight = length-each _ (s .modules) ∙ eight
+
+  -- module i after the stage, a crossing, an order, the end stage
   module _ (i : ℕ) (low : i < moduleCount) where
     pub at-stage : (shorts : ℕ) → moduleAt i (moduleStage shorts s) ≡ moduleSecond (allowedIn (s .watch .mode)) shorts i (moduleAt i s)
     unfolding moduleStage stageOf
@@ -49,9 +58,29 @@ module _ (s : State) (eight : Eight s) where
     unfolding requestedBy
     at-crossed mode mask on = at-each (moduleRequested mask on) (s .modules) i _ (omega arith)
 
-    pub at-asked : (which : ℕ) (on : Bool) → moduleAt i (requestSet which on s) ≡ moduleAsked which on i (moduleAt i s)
+    pub at-asked : (which : ℕ) (on : Bool) (end : ℕ) → moduleAt i (requestSet which on end s) ≡ moduleAsked which on i (moduleAt i s)
     unfolding requestSet requestedOne
-    at-asked which on = at-each (moduleAsked which on) (s .modules) i _ (omega arith)
+    at-asked which on end = at-each (moduleAsked which on) (s .modules) i _ (omega arith)
+
+    -- as its end reaches zero, its request goes off
+    pub at-ended : moduleAt i (ended s) ≡ withRequest (if eqb (endAt i s) 1 then false else moduleAt i s .requested) (moduleAt i s)
+    unfolding ended requestedBy
+    at-ended =
+        at-each (moduleRequested (endsOver (s .ends)) false) (s .modules) i _ (omega arith)
+        ∙ ap (λ (t : Bool). withRequest (if t then false else moduleAt i s .requested) (moduleAt i s)) (over-at i low (s .ends))
+
+-- the end of module i after the end stage, and after an order for it and for another
+pub ended-end : (i : ℕ) (s : State) → endAt i (ended s) ≡ endAt i s - 1
+unfolding ended
+ended-end i s = fallen-at i (s .ends)
+
+pub asked-end : (which : ℕ) (on : Bool) (end : ℕ) (s : State) → isMission which ≡ true → endAt which (requestSet which on end s) ≡ end
+unfolding requestSet
+asked-end which on end s mission = set-at which end (s .ends) mission
+
+pub other-end : (i which : ℕ) (on : Bool) (end : ℕ) (s : State) → (i ≡ which → ⊥) → endAt i (requestSet which on end s) ≡ endAt i s
+unfolding requestSet
+other-end i which on end s other = others-at i which end (s .ends) other
 
 -- the mission four are among the eight
 pub mission-low : (i : ℕ) → isMission i ≡ true → i < moduleCount

@@ -7,6 +7,8 @@ use mathlib.Core.Bool.{Bool, true, false, _||_, true≢false}
 use lib.Dec.{T, eqb, ltb→lt, lt→ltb}
 use borrow.Author.Tests.{eqb-false}
 use Rattle.basics.proofs.ChoiceLaws.{and-left, and-right, and-both, or-right, within-high, within-of, decided}
+use Rattle.modules.specs.Ends.{endsInRange}
+use Rattle.modules.proofs.EndsLaws.{set-in-range}
 use Rattle.modules.specs.Stage.{modulesInRange}
 use Rattle.modules.proofs.StageLaws.{stage-in-range, asked-in-range}
 use Rattle.frames.specs.Reading.{isReading, areThresholds}
@@ -29,7 +31,8 @@ use Rattle.supervisor.specs.declared.state.Battery.{Battery}
 use Rattle.supervisor.specs.declared.state.State.{State}
 use Rattle.supervisor.proofs.RangeLaws.{Valid, parts, whole, phase-in-range, counts-zero, phase-watch, Low, low-tested, counts-watch}
 use Rattle.supervisor.proofs.RangeLaws.{counts-of}
-use Rattle.supervisor.proofs.BeforeModulesLaws.{before-flies, before-control, before-beacon, before-battery, before-modules-in-range}
+use Rattle.supervisor.proofs.BeforeModulesLaws.{before-flies, before-control, before-beacon, before-battery, before-ends-in-range}
+use Rattle.supervisor.proofs.BeforeModulesLaws.{before-modules-in-range}
 use Rattle.supervisor.proofs.DueLaws.{count-low}
 use Rattle.supervisor.proofs.TickLaws.{Ticks, waits, runs, ticks}
 use Rattle.supervisor.proofs.ActLaws.{Still, act-still}
@@ -41,6 +44,7 @@ Running s =
       flies : isDeployWait (s .watch .mode) ≡ false;
       low : Low (s .watch .control) (s .watch .beacon);
       battery : T (batteryInRange (s .battery));
+      ends : T (endsInRange (s .ends));
       modules : T (modulesInRange (s .modules));
     }
 
@@ -51,6 +55,7 @@ before-running s v =
       flies = before-flies s (v .flies);
       low = record { control = before-control s (v .low .control); beacon = rw (before-beacon s) (v .low .beacon) };
       battery = rw (before-battery s) (v .battery);
+      ends = before-ends-in-range s (v .ends);
       modules = before-modules-in-range s (v .modules);
     }
 
@@ -62,6 +67,7 @@ stage-running shorts s v =
       flies = v .flies;
       low = v .low;
       battery = v .battery;
+      ends = v .ends;
       modules = stage-in-range (allowedIn (s .watch .mode)) shorts (s .modules) (v .modules);
     }
 
@@ -74,6 +80,7 @@ beacon-valid s v =
           counts-watch (s .watch .mode) (s .watch .control) _ (v .flies)
           (record { control = v .low .control; beacon = count-low (s .watch .mode) (s .watch .beacon + 1) (v .flies) (omega arith) });
       battery = v .battery;
+      ends = v .ends;
       modules = v .modules;
     }
 
@@ -105,6 +112,7 @@ by-ticks shorts s h (waits phase e w) =
     (record {
       watch = phase-valid (s .antennas) phase c b (phase-in-range phase c b watch) (counts-zero phase c b watch);
       battery = v .battery;
+      ends = v .ends;
       modules = v .modules;
     })
 by-ticks shorts s h (runs e w) =
@@ -112,7 +120,7 @@ by-ticks shorts s h (runs e w) =
     rw w
     (beacon-valid (moduleStage shorts (beforeModules s))
     (stage-running shorts (beforeModules s)
-    (before-running s (record { flies = e; low = counts-of s h e; battery = v .battery; modules = v .modules }))))
+    (before-running s (record { flies = e; low = counts-of s h e; battery = v .battery; ends = v .ends; modules = v .modules }))))
 
 pub ticked-in-range : (shorts : ℕ) (s : State) → T (inRange s) → T (inRange (ticked shorts s .state))
 ticked-in-range shorts s h = whole (ticked shorts s .state) (by-ticks shorts s h (ticks shorts s))
@@ -136,11 +144,17 @@ valid-still : Still Valid
 unfolding requestSet
 valid-still =
     record {
-      tension = λ millivolts r s v. record { watch = v .watch; battery = tension-valid millivolts (s .battery) r (v .battery); modules = v .modules };
+      tension = λ millivolts r s v. record { watch = v .watch; battery = tension-valid millivolts (s .battery) r (v .battery); ends = v .ends; modules = v .modules };
       antennas = λ deployed s v. v;
       serial = λ sender s v. v;
-      request = λ which on s e v. record { watch = v .watch; battery = v .battery; modules = asked-in-range which on (s .modules) (v .modules) };
-      thresholds = λ ascend descend r s v. record { watch = v .watch; battery = thresholds-valid ascend descend (s .battery) r (v .battery); modules = v .modules };
+      request =
+          λ which on end low s e v. record {
+            watch = v .watch;
+            battery = v .battery;
+            ends = set-in-range which end (s .ends) low (v .ends);
+            modules = asked-in-range which on (s .modules) (v .modules);
+          };
+      thresholds = λ ascend descend r s v. record { watch = v .watch; battery = thresholds-valid ascend descend (s .battery) r (v .battery); ends = v .ends; modules = v .modules };
     }
 
 pub act-in-range : (f : Frame) → Fits f → isTick (about (Accepted f)) ≡ false → (s : State) → T (inRange s) → T (inRange (actOf f s .state))

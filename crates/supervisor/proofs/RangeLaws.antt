@@ -5,6 +5,7 @@ use mathlib.Core.Path.{_≡_}
 use mathlib.Core.Bool.{false, _&&_, true≢false}
 use lib.Dec.{T, ltb, ltb→lt, lt→ltb, eqb→eq}
 use Rattle.basics.proofs.ChoiceLaws.{and-left, and-right, and-both}
+use Rattle.modules.specs.Ends.{endsInRange}
 use Rattle.modules.specs.Stage.{modulesInRange}
 use Rattle.supervisor.specs.State.{isDeployWait}
 use Rattle.supervisor.specs.Range.{judgeTicks, basicTicks, watchInRange, batteryInRange, phaseInRange, inRange}
@@ -19,12 +20,13 @@ Valid s =
     record {
       watch : T (watchInRange (s .watch .mode) (s .watch .control) (s .watch .beacon));
       battery : T (batteryInRange (s .battery));
+      ends : T (endsInRange (s .ends));
       modules : T (modulesInRange (s .modules));
     }
 
 pub parts : (s : State) → T (inRange s) → Valid s
 unfolding inRange
-parts s h = record { watch = search (and-left, and-right); battery = search (and-left, and-right); modules = search (and-left, and-right) }
+parts s h = record { watch = search (and-left, and-right); battery = search (and-left, and-right); ends = search (and-left, and-right); modules = search (and-left, and-right) }
 
 pub whole : (s : State) → Valid s → T (inRange s)
 unfolding inRange

@@ -10,6 +10,7 @@ use Rattle.basics.specs.Choice.{if_then_else_}
 use Rattle.basics.specs.Each.{each, eachFrom}
 use Rattle.basics.specs.Outcome.{Outcome, outcome}
 use Rattle.modules.specs.Power.{isOn, switched}
+use Rattle.modules.specs.Ends.{endsInRange, endsOver}
 use Rattle.modules.specs.Stage.{stageOf, requestedBy, modulesInRange}
 use Rattle.modules.specs.Masks.{maskOf, masksOf}
 use Rattle.modules.specs.declared.power.Power.the-variants.{On}
@@ -20,6 +21,7 @@ use Rattle.frames.specs.About.{About, about, aTick, aCommand, neither}
 use Rattle.supervisor.specs.Fresh.{freshState}
 use Rattle.supervisor.specs.State.{isDeployWait, moduleAt, withMode, withControl, withTension, withModules}
 use Rattle.supervisor.specs.Range.{inRange}
+use Rattle.supervisor.specs.Ending.{ended}
 use Rattle.supervisor.specs.Control.{controlled}
 use Rattle.supervisor.specs.Due.{beaconStage}
 use Rattle.supervisor.specs.Tick.{beforeModules, moduleStage, ticked}
@@ -81,19 +83,19 @@ abbrev antennas : List ℕ
 antennas = 3 ∷ 1 ∷ []
 
 tickKind-told : kindOf (stepOf freshState tick room) ≡ 1
-unfolding room kindOf stepOf freshState requestedBy each eachFrom inRange modulesInRange readFrame totalOf actOf ticked reportOf masksOf maskOf
+unfolding room kindOf stepOf freshState requestedBy each eachFrom inRange endsInRange modulesInRange readFrame totalOf actOf ticked reportOf masksOf maskOf
 tickKind-told = refl
 
 antennasKind-told : kindOf (stepOf freshState antennas room) ≡ 3
-unfolding room kindOf stepOf freshState requestedBy each eachFrom inRange modulesInRange readFrame totalOf antennasFields actOf reportOf masksOf maskOf
+unfolding room kindOf stepOf freshState requestedBy each eachFrom inRange endsInRange modulesInRange readFrame totalOf antennasFields actOf reportOf masksOf maskOf
 antennasKind-told = refl
 
 tick-reported : isReported (stepOf freshState tick room .result .answer) ≡ true
-unfolding room stepOf freshState requestedBy each eachFrom inRange modulesInRange readFrame totalOf actOf ticked
+unfolding room stepOf freshState requestedBy each eachFrom inRange endsInRange modulesInRange readFrame totalOf actOf ticked
 tick-reported = refl
 
 antennas-reported : isReported (stepOf freshState antennas room .result .answer) ≡ true
-unfolding room stepOf freshState requestedBy each eachFrom inRange modulesInRange readFrame totalOf antennasFields actOf
+unfolding room stepOf freshState requestedBy each eachFrom inRange endsInRange modulesInRange readFrame totalOf antennasFields actOf
 antennas-reported = refl
 
 -- their reports are of different kinds
@@ -116,7 +118,7 @@ waitedOf Recovery = 0
 waitedOf Safe = 0
 
 two-waited : waitedOf (stepOf waiting tick room .result .state .watch .mode) ≡ 2
-unfolding room waitedOf stepOf freshState requestedBy each eachFrom inRange modulesInRange readFrame totalOf actOf ticked
+unfolding room waitedOf stepOf freshState requestedBy each eachFrom inRange endsInRange modulesInRange readFrame totalOf actOf ticked
 two-waited = refl
 
 -- the second tick moves the state too
@@ -137,11 +139,11 @@ payloadOn : Outcome Stepped → Bool
 payloadOn o = isOn (moduleAt 4 (o .result .state) .power)
 
 payload-off : payloadOn (stepOf aboutToFall tick room) ≡ false
-unfolding payloadOn room stepOf freshState requestedBy each eachFrom inRange modulesInRange readFrame totalOf actOf ticked beforeModules controlled moduleStage stageOf switched beaconStage
+unfolding payloadOn room stepOf freshState requestedBy each eachFrom inRange endsInRange modulesInRange readFrame totalOf actOf ticked beforeModules ended endsOver controlled moduleStage stageOf switched beaconStage
 payload-off = refl
 
 payload-on : payloadOn (modulesFirst aboutToFall tick room) ≡ true
-unfolding payloadOn room stepOf freshState requestedBy each eachFrom inRange modulesInRange readFrame totalOf actOf ticked beforeModules controlled moduleStage stageOf switched beaconStage
+unfolding payloadOn room stepOf freshState requestedBy each eachFrom inRange endsInRange modulesInRange readFrame totalOf actOf ticked beforeModules ended endsOver controlled moduleStage stageOf switched beaconStage
 payload-on = refl
 
 pub modules-first : ShutOut modulesFirst

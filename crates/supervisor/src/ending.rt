@@ -10,10 +10,11 @@ impl State {
     {
         let over = self.ends.over();
         self.ends = self.ends.fall();
-        if over != 0 {
-            let modules = self.modules;
-            self.modules = modules::stage::request(modules, over, false);
+        if over == 0 {
+            return self;
         }
-        self
+        let modules = self.modules;
+        let asked = modules::stage::request(modules, over, false);
+        self.with_modules(asked)
     }
 }

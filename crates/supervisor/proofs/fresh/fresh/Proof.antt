@@ -8,9 +8,12 @@ use Rattle.supervisor.proofs.fresh.fresh.Tie as tie
 request-requires : tie.Need-request-requires
 request-requires c κs = search needs
 
+none-requires : tie.Need-none-requires
+none-requires c κs = search needs
+
 returns : tie.Need-returns
 unfolding freshState
-returns c = simp (c .request .ensures)
+returns c = simp (c .none .ensures, c .before .request .ensures)
 
 pub fresh-spec : {M : Type 1} → statement M
-fresh-spec = tie.close (tie.spec request-requires returns)
+fresh-spec = tie.close (tie.spec request-requires none-requires returns)

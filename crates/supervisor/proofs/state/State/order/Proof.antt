@@ -14,6 +14,9 @@ is-ill-timed-requires c κs = search needs
 request-one-requires : tie.Need-request-one-requires
 request-one-requires c κs = search needs
 
+with-end-requires : tie.Need-with-end-requires
+with-end-requires c κs = search needs
+
 with-modules-requires : tie.Need-with-modules-requires
 with-modules-requires c κs = search needs
 
@@ -26,9 +29,9 @@ returns c =
     let judged : tie.After-is-ill-timed = c .before .before .before in
     ⊎-elim
     (λ w. simp
-    (c .silent .ensures, c .before .with-modules .ensures, w .1 .ensures, w .2, w .3, sym (judged .is-ill-timed .ensures) ∙ not-true (judged .is-ill-timed .result) (w .0 .taken)))
+    (c .silent .ensures, c .before .with-modules .ensures, w .1 .ensures, w .2 .ensures, w .3, w .4, w .5, sym (judged .is-ill-timed .ensures) ∙ not-true (judged .is-ill-timed .result) (w .0 .taken)))
     (λ w. simp
-    (c .silent .ensures, c .before .with-modules .ensures, w .1, w .2, sym (judged .is-ill-timed .ensures) ∙ not-false (judged .is-ill-timed .result) (w .0 .left)))
+    (c .silent .ensures, c .before .with-modules .ensures, w .1, w .2, w .3, sym (judged .is-ill-timed .ensures) ∙ not-false (judged .is-ill-timed .result) (w .0 .left)))
     (c .before .before .if1 .came)
 
 pub order-spec : {M : Type 1} → statement M
@@ -37,6 +40,7 @@ order-spec =
     (tie.spec
     is-ill-timed-requires
     request-one-requires
+    with-end-requires
     with-modules-requires
     silent-requires
     returns)

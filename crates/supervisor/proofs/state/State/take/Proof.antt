@@ -13,6 +13,18 @@ order-requires c κs = search needs
 enum-known-command-2 : tie.Need-enum-known-command-2
 enum-known-command-2 c = search needs
 
+cast-order : tie.Need-cast-order
+cast-order c = search needs
+
+mul-order : tie.Need-mul-order
+mul-order c = search needs
+
+order-requires-2 : tie.Need-order-requires-2
+order-requires-2 c κs = search needs
+
+enum-known-command-3 : tie.Need-enum-known-command-3
+enum-known-command-3 c = search needs
+
 thresholds-requires : tie.Need-thresholds-requires
 thresholds-requires c κs = search needs
 
@@ -20,7 +32,10 @@ returns : tie.Need-returns
 returns c = simp (c .before .before .command .given .1, c .order .ensures)
 
 returns-2 : tie.Need-returns-2
-returns-2 c = simp (c .before .before .command2 .given .1, c .thresholds .ensures)
+returns-2 c = simp (c .before .before .command2 .given .1, c .order2 .ensures)
+
+returns-3 : tie.Need-returns-3
+returns-3 c = simp (c .before .before .command3 .given .1, c .thresholds .ensures)
 
 pub take-spec : {M : Type 1} → statement M
 take-spec =
@@ -29,6 +44,11 @@ take-spec =
     enum-known-command
     order-requires
     enum-known-command-2
+    cast-order
+    mul-order
+    order-requires-2
+    enum-known-command-3
     thresholds-requires
     returns
-    returns-2)
+    returns-2
+    returns-3)
