@@ -9,8 +9,8 @@ use borrow.Author.Tests.{eqb-true, eqb-false, ne-eqb, lt-ltb}
 use Rattle.basics.specs.Choice.{if_then_else_}
 use Rattle.basics.proofs.ChoiceLaws.{is-true, either, within-low}
 use Rattle.modules.specs.Groups.{coreFour, missionFour, isMission, moduleCount}
-use Rattle.modules.specs.Ends.{endOf, noEnds, withEnd}
-use Rattle.modules.proofs.EndsLaws.{core-none, none-at, fallen-at, set-at, others-at, over-at}
+use Rattle.modules.specs.Ends.{noEnds}
+use Rattle.modules.proofs.EndsLaws.{core-none, none-at}
 use Rattle.frames.specs.Answer.{answerNumber}
 use Rattle.frames.specs.About.{isTick, about}
 use Rattle.frames.specs.Reading.{mostMinutes}
@@ -38,7 +38,7 @@ use Rattle.supervisor.specs.declared.state.State.{State}
 use Rattle.supervisor.proofs.ActLaws.{watch-still}
 use Rattle.supervisor.proofs.ControlLaws.{Controls, level, upward, downward, controls}
 use Rattle.supervisor.proofs.HistoryLaws.{Comes, stopped, ticking, other, comes}
-use Rattle.supervisor.proofs.ModuleLaws.{Eight, ended-eight, at-ended, at-crossed, at-asked, core-or-mission}
+use Rattle.supervisor.proofs.ModuleLaws.{Eight, ended-eight, at-ended, ended-end, at-crossed, at-asked, asked-end, other-end, core-or-mission}
 use Rattle.supervisor.proofs.TickLaws.{Ticks, waits, runs, ticks, ticked-done}
 use Rattle.supervisor.proofs.CommandLaws.{by-serial}
 use Rattle.promises.specs.Deployment.{deployed}
@@ -50,27 +50,29 @@ use Rattle.promises.proofs.WordLaws.{leftOf, aged-says, aged-left, no-c
 abbrev pub Held : ℕ → State → Word → Type 0
 Held i s word = record { requested : moduleAt i s .requested ≡ says word; end : endAt i s ≡ leftOf word }
 
+-- the end after an order for a module, which is 0 if that is a core module
+own-end :
+    (which : ℕ) (on : Bool) (end : ℕ) (s : State) → (isMission which ≡ false → end ≡ 0) → (mission : Bool) → isMission which ≡ mission →
+    endAt which (requestSet which on end s) ≡ end
+own-end which on end s core true m = asked-end which on end s m
+own-end which on end s core false m = core-none which (requestSet which on end s .ends) m ∙ sym (core m)
+
 module _ (i : ℕ) (low : i < moduleCount) where
   -- an order that is done: the module's own word, in a state that holds another
   order-held :
       (which : ℕ) (on : Bool) (end : ℕ) (word before : Word) → says word ≡ on → leftOf word ≡ end → (isMission which ≡ false → end ≡ 0) →
       (t : State) → Eight t → Held i t before → (here : Bool) → eqb i which ≡ here →
       Held i (requestSet which on end t) (if here then word else before)
-  unfolding requestSet
   order-held which on end word before e f core t n h true here =
       let same : i ≡ which = eqb-true i which here in
       record {
         requested = ap (λ m. m .requested) (at-asked t n i low which on end) ∙ rw here (sym e);
-        end = set-end (isMission i) refl;
+        end = ap (λ (k : ℕ). endAt k (requestSet which on end t)) same ∙ own-end which on end t core (isMission which) refl ∙ sym f;
       }
-    where
-      set-end : (mission : Bool) → isMission i ≡ mission → endOf i (withEnd which end (t .ends)) ≡ leftOf word
-      set-end true m = ap (λ (k : ℕ). endOf k (withEnd which end (t .ends))) (eqb-true i which here) ∙ set-at which end (t .ends) (ap isMission (sym (eqb-true i which here)) ∙ m) ∙ sym f
-      set-end false m = core-none i (withEnd which end (t .ends)) m ∙ sym (core (ap isMission (sym (eqb-true i which here)) ∙ m)) ∙ sym f
   order-held which on end word before e f core t n h false here =
       record {
         requested = ap (λ m. m .requested) (at-asked t n i low which on end) ∙ rw here (h .requested);
-        end = others-at i which end (t .ends) (eqb-false i which here) ∙ h .end;
+        end = other-end i which on end t (eqb-false i which here) ∙ h .end;
       }
 
   -- a frame other than a tick: the word that it orders, if it is done
@@ -103,11 +105,10 @@ module _ (i : ℕ) (low : i < moduleCount) where
 
   -- a tick: a second of the word, and what a crossing says
   ended-held : (word : Word) (s : State) → Eight s → Held i s word → Held i (ended s) (aged word)
-  unfolding ended
   ended-held word s n h =
       record {
-        requested = ap (λ m. m .requested) (at-ended s n i low) ∙ rw (over-at i low (s .ends), h .end, h .requested) (aged-says word);
-        end = fallen-at i (s .ends) ∙ ap (λ (k : ℕ). k - 1) (h .end) ∙ aged-left word;
+        requested = ap (λ m. m .requested) (at-ended s n i low) ∙ rw (h .end, h .requested) (aged-says word);
+        end = ended-end i s ∙ ap (λ (k : ℕ). k - 1) (h .end) ∙ aged-left word;
       }
 
   control-held :
