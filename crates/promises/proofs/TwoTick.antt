@@ -48,7 +48,7 @@ module _ (i : ℕ) (mission : isMission i ≡ true) where
             counts = h .flown .counts;
             eight = h .flown .eight;
             eight′ = h .flown .eight′;
-            asked = record { quiet = λ t. absurd (none t); grows = λ t. absurd (none t) };
+            asked = record { quiet = λ t. absurd (none t); grows = λ t. absurd (none t); ends = λ t. absurd (none t) };
           };
         }
 
