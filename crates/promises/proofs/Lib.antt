@@ -18,6 +18,7 @@ pub mod Serials
 pub mod WordLaws
 pub mod Requests
 pub mod AsTold
+pub mod ItEnds
 pub mod Late
 pub mod Dawn
 pub mod BeaconLaws

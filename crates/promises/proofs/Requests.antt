@@ -58,17 +58,22 @@ own-end which on end s core true m = asked-end which on end s m
 own-end which on end s core false m = core-none which (requestSet which on end s .ends) m ∙ sym (core m)
 
 module _ (i : ℕ) (low : i < moduleCount) where
-  -- an order that is done: the module's own word, in a state that holds another
+  -- an order for the module that is done: its word is held, whatever was before
+  pub own-held :
+      (which : ℕ) (on : Bool) (end : ℕ) (word : Word) → says word ≡ on → leftOf word ≡ end → (isMission which ≡ false → end ≡ 0) → (t : State) → Eight t →
+      eqb i which ≡ true → Held i (requestSet which on end t) word
+  own-held which on end word e f core t n here =
+      record {
+        requested = ap (λ m. m .requested) (at-asked t n i low which on end) ∙ rw here (sym e);
+        end = ap (λ (k : ℕ). endAt k (requestSet which on end t)) (eqb-true i which here) ∙ own-end which on end t core (isMission which) refl ∙ sym f;
+      }
+
+  -- any order that is done
   order-held :
       (which : ℕ) (on : Bool) (end : ℕ) (word before : Word) → says word ≡ on → leftOf word ≡ end → (isMission which ≡ false → end ≡ 0) →
       (t : State) → Eight t → Held i t before → (here : Bool) → eqb i which ≡ here →
       Held i (requestSet which on end t) (if here then word else before)
-  order-held which on end word before e f core t n h true here =
-      let same : i ≡ which = eqb-true i which here in
-      record {
-        requested = ap (λ m. m .requested) (at-asked t n i low which on end) ∙ rw here (sym e);
-        end = ap (λ (k : ℕ). endAt k (requestSet which on end t)) same ∙ own-end which on end t core (isMission which) refl ∙ sym f;
-      }
+  order-held which on end word before e f core t n h true here = own-held which on end word e f core t n here
   order-held which on end word before e f core t n h false here =
       record {
         requested = ap (λ m. m .requested) (at-asked t n i low which on end) ∙ rw here (h .requested);

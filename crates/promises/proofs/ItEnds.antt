@@ -1,0 +1,212 @@
+-- It ends, proved: the word that a timed order leaves is held as long as the module is left alone, and ages by each tick.
+-- Assumes nothing.
+use Prim.Native.Nat.{ℕ, _+_, _*_, _≤_, _<_}
+use native.Mathlib.Omega.{arith}
+use mathlib.Core.Path.{_≡_, refl, sym, ap, _∙_}
+use mathlib.Core.Bool.{Bool, true, false, not, _&&_, _||_, true≢false}
+use mathlib.Core.List.{List, [], _∷_}
+use lib.Dec.{T, eqb}
+use borrow.Author.Tests.{eq-eqb, eqb-true, lt-ltb, le-ltb}
+use Rattle.basics.specs.Choice.{if_then_else_}
+use Rattle.basics.proofs.ChoiceLaws.{is-true, holds, and-left, and-right, decided, within-low}
+use Rattle.modules.specs.Groups.{isMission, moduleCount}
+use Rattle.modules.specs.Power.{isOn}
+use Rattle.frames.specs.Answer.{answerNumber}
+use Rattle.frames.specs.About.{About, aTick, aCommand, neither, about, isTick}
+use Rattle.frames.specs.Reading.{mostMinutes}
+use Rattle.frames.specs.declared.answer.Answer.the-variants.{NotNow}
+use Rattle.frames.specs.declared.sender.Sender.{Sender}
+use Rattle.frames.specs.declared.command.Command.{Command}
+use Rattle.frames.specs.declared.command.Command.the-variants.{Order, Timed, Thresholds}
+use Rattle.frames.specs.declared.frame.Frame.{Frame}
+use Rattle.frames.specs.declared.reading.Reading.the-variants.{Accepted}
+use Rattle.frames.specs.declared.frame.Frame.the-variants as frame
+use Rattle.frames.proofs.ReadingLaws.{Fits, FitsCommand}
+use Rattle.supervisor.specs.State.{isDeployWait, isRecovery, isSafe, inDeployWait, moduleAt}
+use Rattle.supervisor.specs.Acted.{silent, done}
+use Rattle.supervisor.specs.Act.{actOf}
+use Rattle.supervisor.specs.Command.{isIllTimed, requestSet, taken, serialUsed}
+use Rattle.supervisor.specs.History.{Call, called, answered, isDone, after, aboutOf, doneTick}
+use Rattle.supervisor.specs.declared.acted.Acted.{Acted}
+use Rattle.supervisor.specs.declared.state.Mode.{Mode}
+use Rattle.supervisor.specs.declared.state.Mode.the-variants.{DeployWait, Recovery, Safe}
+use Rattle.supervisor.specs.declared.state.State.{State}
+use Rattle.supervisor.proofs.CommandLaws.{by-serial}
+use Rattle.supervisor.proofs.HistoryLaws.{Comes, stopped, ticking, other, comes, called-eight}
+use Rattle.supervisor.proofs.ModuleLaws.{Eight, mission-low}
+use Rattle.supervisor.proofs.TickLaws.{ticked-done}
+use Rattle.promises.specs.AsTold.{Word, timed, orders, runningTick, ordered, later, crossing, said, lastWord}
+use Rattle.promises.specs.Deployment.{deployed}
+use Rattle.promises.specs.ItEnds.{ItEnds, Begins, Runs, Over, isOrderFor, crossesDown, leftAlone, runningTicks, inTicks}
+use Rattle.promises.proofs.OnlyTicks.{only-ticks}
+use Rattle.promises.proofs.Requests.{Held, own-held, called-held}
+use Rattle.promises.proofs.AsTold.{Dark, after-dark, called-asked, after-held}
+
+-- a done timed order for a module: one of the mission four, of a minute or more, in SAFE; its word is held
+abbrev Begun : (which minutes : ℕ) → State → Type 0
+Begun which minutes s =
+    record { mission : isMission which ≡ true; some : 1 ≤ minutes; flies : inDeployWait s ≡ false; held : Held which s (timed minutes 0) }
+
+-- a mission module's "on" that is not ill-timed comes in SAFE, and so outside DEPLOY_WAIT
+timely : (m : Mode) (mission : Bool) → mission ≡ true → mission && not (isSafe m) ≡ false → isDeployWait m ≡ false
+timely (DeployWait phase) true e t = absurd (true≢false t)
+timely (DeployWait phase) false e t = absurd (true≢false (sym e))
+timely Recovery mission e t = refl
+timely Safe mission e t = refl
+
+module _ (which minutes : ℕ) where
+  -- what is answered 0 has begun
+  abbrev Does : Acted → Type 0
+  Does a = answerNumber (a .answer) ≡ 0 → Begun which minutes (a .state)
+
+  taken-begins : (sender : Sender) → FitsCommand sender (Timed which minutes) → (t : State) → Eight t → Does (taken (Timed which minutes) t)
+  unfolding isIllTimed requestSet
+  taken-begins sender fits t n =
+      let mission : isMission which ≡ true = is-true (isMission which) (fits .mission) in
+      let some : 1 ≤ minutes = within-low 1 mostMinutes minutes (fits .minutes) in
+      let end : ℕ = 60 * minutes in
+      decided Does (isIllTimed which true (t .watch .mode)) {x = silent NotNow t} {y = done (requestSet which true end t)}
+      (λ e z. absurd (omega arith))
+      (λ e z. record {
+        mission = mission;
+        some = some;
+        flies = timely (t .watch .mode) (isMission which) mission e;
+        held =
+            own-held which (mission-low which mission) which true end (timed minutes 0) (lt-ltb 0 end (omega arith)) (omega arith)
+            (λ core. absurd (true≢false (sym mission ∙ core))) t n (eq-eqb which which refl);
+      })
+
+  act-begins :
+      (sender : Sender) (f : Frame) → Fits f → about (Accepted f) ≡ aCommand sender (Timed which minutes) → (s : State) → Eight s → Does (actOf f s)
+  unfolding actOf
+  act-begins sender (frame.Tick shorts) fits e s n = let z : _≡_ {A = ℕ} 0 1 = cc in absurd (omega arith)
+  act-begins sender (frame.Battery tension) fits e s n = let z : _≡_ {A = ℕ} 0 1 = cc in absurd (omega arith)
+  act-begins sender (frame.Antennas out) fits e s n = let z : _≡_ {A = ℕ} 0 1 = cc in absurd (omega arith)
+  act-begins sender (frame.Command by command) fits e s n =
+      let same : command ≡ Timed which minutes = cc in
+      by-serial by command s (λ class. Does) (λ z. absurd (omega arith)) (λ z. absurd (omega arith))
+      (rw same (taken-begins by (rw same at fits) (serialUsed by s) n))
+
+  begins-by : (s : State) (c : Call) → Begins which minutes s c → Comes s c → Begun which minutes (called s c .result .state)
+  begins-by s c b (stopped answer w) = absurd (omega (arith, within-low 1 7 (answerNumber answer) (w .number), rw (w .leaves) at (b .done)))
+  begins-by s c b (ticking shorts w) = absurd (true≢false (ap isTick (rw (w .read) at (b .order))))
+  begins-by s c b (other f t w) =
+      rw (w .leaves) (act-begins (b .sender) f (w .fits) (rw (w .read) at (b .order)) s (b .eight) (rw (w .leaves) at (b .done)))
+
+  -- a frame that is no order for it says nothing to it
+  no-order : (a : About) (word : Word) → isOrderFor which a ≡ false → orders which a word ≡ word
+  no-order (aTick shorts) word e = refl
+  no-order (aCommand sender (Order one on)) word e = rw e
+  no-order (aCommand sender (Timed one length)) word e = rw e
+  no-order (aCommand sender (Thresholds ascend descend)) word e = refl
+  no-order neither word e = refl
+
+  not-done : (done order : Bool) → done && order ≡ false → done ≡ true → order ≡ false
+  not-done true order e d = e
+  not-done false order e d = absurd (true≢false (sym d))
+
+  apart : (a b : Bool) → T (not (a || b)) → (a ≡ false) × (b ≡ false)
+  apart true b t = absurd t
+  apart false true t = absurd t
+  apart false false t = (refl, refl)
+
+  later-timed : (s : State) (c : Call) (ticks : ℕ) → later s c (timed minutes ticks) ≡ timed minutes (ticks + (if runningTick s c then 1 else 0))
+  later-timed s c ticks = by (runningTick s c)
+    where
+      by : (tick : Bool) → (if tick then timed minutes (ticks + 1) else timed minutes ticks) ≡ timed minutes (ticks + (if tick then 1 else 0))
+      by true = refl
+      by false = ap (timed minutes) (omega arith)
+
+  module _ (mission : isMission which ≡ true) where
+    -- so a call that leaves it alone ages its word at most
+    alone-said :
+        (s : State) (c : Call) (ticks : ℕ) → T (not (isDone (answered s c) && isOrderFor which (aboutOf c) || crossesDown s c)) →
+        said crossing which s c (timed minutes ticks) ≡ timed minutes (ticks + (if runningTick s c then 1 else 0))
+    alone-said s c ticks t =
+        let order : Bool = isOrderFor which (aboutOf c) in
+        let (silent, level) = apart (isDone (answered s c) && order) (crossesDown s c) t in
+        let word : Word = later s c (timed minutes ticks) in
+        let same : ordered which s c word ≡ word =
+        decided (λ (w : Word). w ≡ word) (isDone (answered s c)) (λ d. no-order (aboutOf c) word (not-done (isDone (answered s c)) order silent d)) (λ d. refl) in
+        rw (mission, level) (same ∙ later-timed s c ticks)
+
+    alone-word :
+        (cs : List Call) (s : State) (ticks : ℕ) → T (leftAlone which s cs) → lastWord crossing which (timed minutes ticks) s cs ≡ timed minutes (ticks + runningTicks s cs)
+    alone-word [] s ticks t = ap (timed minutes) (omega arith)
+    alone-word (c ∷ cs) s ticks t =
+        let here : Bool = not (isDone (answered s c) && isOrderFor which (aboutOf c) || crossesDown s c) in
+        let rest : Bool = leftAlone which (called s c .result .state) cs in
+        let more : ℕ = if runningTick s c then 1 else 0 in
+        ap (λ (w : Word). lastWord crossing which w (called s c .result .state) cs) (alone-said s c ticks (and-left here rest t))
+        ∙ alone-word cs (called s c .result .state) (ticks + more) (and-right here rest t) ∙ ap (timed minutes) (omega arith)
+
+    -- it is off once its time is over
+    abbrev Off : State → Type 0
+    Off s = isOn (moduleAt which s .power) ≡ false
+
+    low : which < moduleCount
+    low = mission-low which mission
+
+    is-off : (s : State) (c : Call) → Dark which s → T (doneTick s c) → moduleAt which (called s c .result .state) .requested ≡ false → Off (called s c .result .state)
+    is-off s c dark d e = by (isOn (moduleAt which (called s c .result .state) .power)) refl
+      where
+        by : (on : Bool) → isOn (moduleAt which (called s c .result .state) .power) ≡ on → on ≡ false
+        by true h = absurd (rw e at (called-asked which s c dark d (holds (isOn (moduleAt which (called s c .result .state) .power)) h)))
+        by false h = refl
+
+    off-by :
+        (s : State) (c : Call) (ticks : ℕ) (tick : Bool) → doneTick s c ≡ tick → Dark which s →
+        Held which (called s c .result .state) (timed minutes (ticks + (if tick && deployed s then 1 else 0))) → (60 * minutes ≤ ticks → Off s) →
+        60 * minutes ≤ ticks + (if tick && deployed s then 1 else 0) → Off (called s c .result .state)
+    off-by s c ticks true d dark held p h =
+        is-off s c dark (holds (doneTick s c) d) (held .requested ∙ le-ltb (ticks + (if deployed s then 1 else 0)) (60 * minutes) h)
+    off-by s c ticks false d dark held p h = rw (only-ticks .power which s c d) (p (omega arith))
+
+    over-off :
+        (cs : List Call) (s : State) (ticks : ℕ) → T (leftAlone which s cs) → Eight s → Dark which s → Held which s (timed minutes ticks) →
+        (60 * minutes ≤ ticks → Off s) → 60 * minutes ≤ ticks + runningTicks s cs → Off (after s cs)
+    over-off [] s ticks t n dark held p h = p (omega arith)
+    over-off (c ∷ cs) s ticks t n dark held p h =
+        let here : Bool = not (isDone (answered s c) && isOrderFor which (aboutOf c) || crossesDown s c) in
+        let rest : Bool = leftAlone which (called s c .result .state) cs in
+        let more : ℕ = if runningTick s c then 1 else 0 in
+        let next : Held which (called s c .result .state) (timed minutes (ticks + more)) =
+        rw (alone-said s c ticks (and-left here rest t)) at (called-held which low s n (timed minutes ticks) held c) in
+        over-off cs (called s c .result .state) (ticks + more) (and-right here rest t) (called-eight s c n) (after-dark which (c ∷ []) s dark) next
+        (off-by s c ticks (doneTick s c) refl dark next p) (omega arith)
+
+  -- what a timed order that is done comes to
+  module _ (s : State) (c : Call) (since : List Call) (r : Runs which minutes s c since) where
+    first : State
+    first = called s c .result .state
+
+    begun : Begun which minutes first
+    unfolding first
+    begun = begins-by s c (r .begins) (comes s c)
+
+    eight : Eight first
+    unfolding first
+    eight = called-eight s c (r .begins .eight)
+
+    held : Held which (after first since) (timed minutes (0 + runningTicks first since))
+    unfolding first
+    held =
+        rw (alone-word (begun .mission) since first 0 (r .alone)) at
+        (after-held which (mission-low which (begun .mission)) since first (timed minutes 0) eight (begun .held))
+
+    still : runningTicks first since < inTicks minutes → moduleAt which (after first since) .requested ≡ true
+    still few = held .requested ∙ lt-ltb (0 + runningTicks first since) (60 * minutes) (omega arith)
+
+    over : inTicks minutes ≤ runningTicks first since → Over which (after first since)
+    unfolding first
+    over many =
+        record {
+          requested = held .requested ∙ le-ltb (0 + runningTicks first since) (60 * minutes) (omega arith);
+          power =
+              over-off (begun .mission) since first 0 (r .alone) eight (λ waits. absurd (true≢false (sym waits ∙ begun .flies))) (begun .held)
+              (λ h. absurd (omega (arith, begun .some))) (omega arith);
+        }
+
+pub it-ends : ItEnds
+unfolding first
+it-ends = record { still = still; over = over }
