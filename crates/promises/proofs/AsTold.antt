@@ -47,6 +47,10 @@ fresh-held i low cs =
 fresh-said : Requested crossing
 fresh-said i low cs = fresh-held i low cs .requested
 
+pub is-false : (b : Bool) → (T b → ⊥) → b ≡ false
+is-false true h = absurd (h tt)
+is-false false h = refl
+
 module _ (i : ℕ) where
   -- in DEPLOY_WAIT the module is off
   abbrev pub Dark : State → Type 0
@@ -74,6 +78,12 @@ module _ (i : ℕ) where
   pub called-asked :
       (s : State) (c : Call) → Dark s → T (doneTick s c) → T (isOn (moduleAt i (called s c .result .state) .power)) → T (moduleAt i (called s c .result .state) .requested)
   called-asked s c dark = asked-by s c dark (inDeployWait s) refl
+
+  -- and one that is not requested is off
+  pub called-off :
+      (s : State) (c : Call) → Dark s → T (doneTick s c) → moduleAt i (called s c .result .state) .requested ≡ false →
+      isOn (moduleAt i (called s c .result .state) .power) ≡ false
+  called-off s c dark d e = is-false (isOn (moduleAt i (called s c .result .state) .power)) (λ t. rw e at (called-asked s c dark d t))
 
 -- from the fresh start
 pub fresh-dark : (i : ℕ) → i < moduleCount → (cs : List Call) → Dark i (after freshState cs)

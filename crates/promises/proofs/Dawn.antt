@@ -5,11 +5,11 @@ use native.Mathlib.Omega.{arith}
 use mathlib.Core.Path.{_≡_, refl, sym, ap, _∙_}
 use mathlib.Core.Bool.{Bool, true, false, not, _&&_, true≢false}
 use mathlib.Core.List.{List, [], _∷_, _++_, append-assoc}
-use lib.Dec.{T, eqb, leb}
+use lib.Dec.{eqb, leb}
 use lib.ListN.{length}
 use borrow.Author.Tests.{leb-true, eqb-true}
 use Rattle.basics.specs.Choice.{if_then_else_}
-use Rattle.basics.proofs.ChoiceLaws.{holds, either, decided}
+use Rattle.basics.proofs.ChoiceLaws.{is-true, holds, either, decided}
 use Rattle.basics.specs.Outcome.{Outcome}
 use Rattle.modules.specs.Groups.{isMission, moduleCount}
 use Rattle.modules.specs.Power.{isOn}
@@ -33,7 +33,7 @@ use Rattle.promises.specs.Dawn.{Dawn, OrderedOff, StillOff, memory}
 use Rattle.promises.proofs.OnlyTicks.{only-ticks}
 use Rattle.promises.proofs.WordLaws.{aged-off}
 use Rattle.promises.proofs.Requests.{Held, called-held}
-use Rattle.promises.proofs.AsTold.{Dark, after-dark, called-asked, fresh-dark, fresh-held}
+use Rattle.promises.proofs.AsTold.{is-false, Dark, after-dark, called-off, fresh-dark, fresh-held}
 use Rattle.promises.proofs.Late.{old}
 
 -- what is done had room
@@ -72,10 +72,6 @@ same-says i (aCommand sender (Timed which minutes)) word e = same-new (eqb i whi
 same-says i (aCommand sender (Thresholds ascend descend)) word e = e
 same-says i neither word e = e
 
-is-false : (b : Bool) → (b ≡ true → ⊥) → b ≡ false
-is-false true h = absurd (h refl)
-is-false false h = refl
-
 module _ (which : ℕ) (mission : isMission which ≡ true) where
   low : which < moduleCount
   low = mission-low which mission
@@ -92,10 +88,11 @@ module _ (which : ℕ) (mission : isMission which ≡ true) where
   no-on : (s : State) (c : Call) (word : Word) → says word ≡ false → (answered s c ≡ 0 → SaysOn which (aboutOf c) → ⊥) → says (said crossing which s c word) ≡ false
   no-on s c word q h =
       let w : Word = later s c word in
+      let on : Bool = says (orders which (aboutOf c) (plain false)) in
       let off : says w ≡ false = either (λ (v : Word). says v ≡ false) (runningTick s c) (aged-off word q) q in
       said-off s c word
       (decided (λ (v : Word). says v ≡ false) (isDone (answered s c))
-      (λ d. same-says which (aboutOf c) w off ∙ is-false (says (orders which (aboutOf c) (plain false))) (h (eqb-true (answered s c) 0 d))) (λ d. off))
+      (λ d. same-says which (aboutOf c) w off ∙ is-false on (λ t. h (eqb-true (answered s c) 0 d) (is-true on t))) (λ d. off))
 
   -- it is off after a done tick, and stays off
   abbrev Off : State → Type 0
@@ -104,7 +101,7 @@ module _ (which : ℕ) (mission : isMission which ≡ true) where
   off-by :
       (s : State) (c : Call) → Dark which s → moduleAt which (called s c .result .state) .requested ≡ false → (tick : Bool) → doneTick s c ≡ tick → (d : ℕ) → (1 ≤ d → Off s) →
       1 ≤ d + (if tick then 1 else 0) → Off (called s c .result .state)
-  off-by s c dark q true e d p h = is-false (isOn (moduleAt which (called s c .result .state) .power)) (λ t. rw q at (called-asked which s c dark (holds (doneTick s c) e) (holds (isOn (moduleAt which (called s c .result .state) .power)) t)))
+  off-by s c dark q true e d p h = called-off which s c dark (holds (doneTick s c) e) q
   off-by s c dark q false e d p h = rw (only-ticks .power which s c e) (p (omega arith))
 
   module _ (origin : Origin) (cs : List Call) (off : Call) (since : List Call) (o : OrderedOff memory origin which cs off since) where

@@ -5,8 +5,8 @@ use native.Mathlib.Omega.{arith}
 use mathlib.Core.Path.{_≡_, refl, sym, ap, _∙_}
 use mathlib.Core.Bool.{Bool, true, false, not, _&&_, _||_, true≢false}
 use mathlib.Core.List.{List, [], _∷_}
-use lib.Dec.{T, eqb}
-use borrow.Author.Tests.{eq-eqb, eqb-true, lt-ltb, le-ltb}
+use lib.Dec.{T}
+use borrow.Author.Tests.{eq-eqb, lt-ltb, le-ltb}
 use Rattle.basics.specs.Choice.{if_then_else_}
 use Rattle.basics.proofs.ChoiceLaws.{is-true, holds, and-left, and-right, decided, within-low}
 use Rattle.modules.specs.Groups.{isMission, moduleCount}
@@ -22,7 +22,7 @@ use Rattle.frames.specs.declared.frame.Frame.{Frame}
 use Rattle.frames.specs.declared.reading.Reading.the-variants.{Accepted}
 use Rattle.frames.specs.declared.frame.Frame.the-variants as frame
 use Rattle.frames.proofs.ReadingLaws.{Fits, FitsCommand}
-use Rattle.supervisor.specs.State.{isDeployWait, isRecovery, isSafe, inDeployWait, moduleAt}
+use Rattle.supervisor.specs.State.{isDeployWait, isSafe, inDeployWait, moduleAt}
 use Rattle.supervisor.specs.Acted.{silent, done}
 use Rattle.supervisor.specs.Act.{actOf}
 use Rattle.supervisor.specs.Command.{isIllTimed, requestSet, taken, serialUsed}
@@ -34,13 +34,12 @@ use Rattle.supervisor.specs.declared.state.State.{State}
 use Rattle.supervisor.proofs.CommandLaws.{by-serial}
 use Rattle.supervisor.proofs.HistoryLaws.{Comes, stopped, ticking, other, comes, called-eight}
 use Rattle.supervisor.proofs.ModuleLaws.{Eight, mission-low}
-use Rattle.supervisor.proofs.TickLaws.{ticked-done}
 use Rattle.promises.specs.AsTold.{Word, timed, orders, runningTick, ordered, later, crossing, said, lastWord}
 use Rattle.promises.specs.Deployment.{deployed}
 use Rattle.promises.specs.ItEnds.{ItEnds, Begins, Runs, Over, isOrderFor, crossesDown, leftAlone, runningTicks, inTicks}
 use Rattle.promises.proofs.OnlyTicks.{only-ticks}
 use Rattle.promises.proofs.Requests.{Held, own-held, called-held}
-use Rattle.promises.proofs.AsTold.{Dark, after-dark, called-asked, after-held}
+use Rattle.promises.proofs.AsTold.{Dark, after-dark, called-off, after-held}
 
 -- a done timed order for a module: one of the mission four, of a minute or more, in SAFE; its word is held
 abbrev Begun : (which minutes : ℕ) → State → Type 0
@@ -147,19 +146,12 @@ module _ (which minutes : ℕ) where
     low : which < moduleCount
     low = mission-low which mission
 
-    is-off : (s : State) (c : Call) → Dark which s → T (doneTick s c) → moduleAt which (called s c .result .state) .requested ≡ false → Off (called s c .result .state)
-    is-off s c dark d e = by (isOn (moduleAt which (called s c .result .state) .power)) refl
-      where
-        by : (on : Bool) → isOn (moduleAt which (called s c .result .state) .power) ≡ on → on ≡ false
-        by true h = absurd (rw e at (called-asked which s c dark d (holds (isOn (moduleAt which (called s c .result .state) .power)) h)))
-        by false h = refl
-
     off-by :
         (s : State) (c : Call) (ticks : ℕ) (tick : Bool) → doneTick s c ≡ tick → Dark which s →
         Held which (called s c .result .state) (timed minutes (ticks + (if tick && deployed s then 1 else 0))) → (60 * minutes ≤ ticks → Off s) →
         60 * minutes ≤ ticks + (if tick && deployed s then 1 else 0) → Off (called s c .result .state)
     off-by s c ticks true d dark held p h =
-        is-off s c dark (holds (doneTick s c) d) (held .requested ∙ le-ltb (ticks + (if deployed s then 1 else 0)) (60 * minutes) h)
+        called-off which s c dark (holds (doneTick s c) d) (held .requested ∙ le-ltb (ticks + (if deployed s then 1 else 0)) (60 * minutes) h)
     off-by s c ticks false d dark held p h = rw (only-ticks .power which s c d) (p (omega arith))
 
     over-off :

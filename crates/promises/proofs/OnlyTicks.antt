@@ -76,7 +76,13 @@ module _ {Part : Type 0} (part : State → Part) where
 pub power-still : (i : ℕ) (f : Frame) → Fits f → isTick (about (Accepted f)) ≡ false → (s : State) → moduleAt i (actOf f s .state) .power ≡ moduleAt i s .power
 power-still i f fits e s =
     act-still (λ t. moduleAt i t .power ≡ moduleAt i s .power)
-    (record { tension = λ n r t h. h; antennas = λ d t h. h; serial = λ o t h. h; request = λ which on end short t e h. asked-power t i which on end ∙ h; thresholds = λ a d r t h. h })
+    (record {
+      tension = λ n r t h. h;
+      antennas = λ d t h. h;
+      serial = λ o t h. h;
+      request = λ which on end short t e h. asked-power t i which on end ∙ h;
+      thresholds = λ a d r t h. h;
+    })
     f fits e s refl
 
 -- a tick, in DEPLOY_WAIT or by its stages
@@ -103,7 +109,9 @@ module _ {Part : Type 0} (look : Ends → List Module → Part) where
   abbrev Leaves : Frame → State → Acted → Type 0
   Leaves f s a = isOrder (about (Accepted f)) && isDone (answerNumber (a .answer)) ≡ false → part (a .state) ≡ part s
 
-  order-leaves : (f : Frame) → isOrder (about (Accepted f)) ≡ true → (which : ℕ) (on : Bool) (end : ℕ) (s t : State) → part t ≡ part s → Leaves f s (orderTaken which on end t)
+  order-leaves :
+      (f : Frame) → isOrder (about (Accepted f)) ≡ true → (which : ℕ) (on : Bool) (end : ℕ) (s t : State) → part t ≡ part s →
+      Leaves f s (orderTaken which on end t)
   order-leaves f order which on end s t same =
       either (Leaves f s) (isIllTimed which on (t .watch .mode)) {x = silent NotNow t} {y = done (requestSet which on end t)} (λ e. same)
       (λ e. absurd (true≢false (rw order at e)))

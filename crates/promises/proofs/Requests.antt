@@ -4,7 +4,7 @@ use Prim.Native.Nat.{ℕ, _-_, _*_, _<_}
 use native.Mathlib.Omega.{arith}
 use mathlib.Core.Path.{_≡_, refl, sym, ap, _∙_}
 use mathlib.Core.Bool.{Bool, true, false, true≢false}
-use lib.Dec.{eqb, ltb}
+use lib.Dec.{eqb}
 use borrow.Author.Tests.{eqb-true, eqb-false, ne-eqb, lt-ltb}
 use Rattle.basics.specs.Choice.{if_then_else_}
 use Rattle.basics.proofs.ChoiceLaws.{is-true, either, within-low}
@@ -26,7 +26,7 @@ use Rattle.supervisor.specs.State.{withControl, withEnds, moduleAt, endAt}
 use Rattle.supervisor.specs.Acted.{silent, done}
 use Rattle.supervisor.specs.Tick.{ticked, beforeModules, moduleStage}
 use Rattle.supervisor.specs.Act.{actOf}
-use Rattle.supervisor.specs.Command.{isIllTimed, requestSet, orderTaken, taken, serialUsed}
+use Rattle.supervisor.specs.Command.{isIllTimed, requestSet, taken, serialUsed}
 use Rattle.supervisor.specs.Deploy.{phaseTicked}
 use Rattle.supervisor.specs.Due.{beaconStage}
 use Rattle.supervisor.specs.History.{Call, called, isDone}

@@ -30,7 +30,8 @@ abbrev pub says : Word → Bool
 says (plain on) = on
 says (timed minutes ticks) = ltb ticks (60 * minutes)
 
--- an order for module i says "on" or "off", a timed order "on" for its minutes; any other command leaves the word before
+-- an order for module i says "on" or "off", a timed order "on" for its minutes; any other command leaves the word
+-- before
 abbrev pub commands : ℕ → Command → (word : Word) → Word
 commands i (Order which on) word = if eqb i which then plain on else word
 commands i (Timed which minutes) word = if eqb i which then timed minutes 0 else word
