@@ -3,10 +3,10 @@
 use Prim.Native.Nat.{ℕ, _+_, _*_, _≤_, _<_}
 use native.Mathlib.Omega.{arith}
 use mathlib.Core.Path.{_≡_, refl, sym, ap, _∙_}
-use mathlib.Core.Bool.{Bool, true, false, not, _&&_, _||_, true≢false}
+use mathlib.Core.Bool.{Bool, true, false, not, _&&_, true≢false}
 use mathlib.Core.List.{List, [], _∷_}
-use lib.Dec.{T}
-use borrow.Author.Tests.{eq-eqb, lt-ltb, le-ltb}
+use lib.Dec.{T, eqb}
+use borrow.Author.Tests.{eq-eqb, lt-ltb, le-ltb, not-true}
 use Rattle.basics.specs.Choice.{if_then_else_}
 use Rattle.basics.proofs.ChoiceLaws.{is-true, holds, and-left, and-right, decided, within-low}
 use Rattle.modules.specs.Groups.{isMission, moduleCount}
@@ -36,7 +36,8 @@ use Rattle.supervisor.proofs.HistoryLaws.{Comes, stopped, ticking, other, comes
 use Rattle.supervisor.proofs.ModuleLaws.{Eight, mission-low}
 use Rattle.promises.specs.AsTold.{Word, timed, orders, runningTick, ordered, later, crossing, said, lastWord}
 use Rattle.promises.specs.Deployment.{deployed}
-use Rattle.promises.specs.ItEnds.{ItEnds, Begins, Runs, Over, isOrderFor, crossesDown, leftAlone, runningTicks, inTicks}
+use Rattle.promises.specs.ItEnds.{ItEnds, Begins, Runs, Over, crossesDown, leftAlone, runningTicks, inTicks}
+use Rattle.promises.specs.OnlyTicks.{isOrder, doneOrder}
 use Rattle.promises.proofs.OnlyTicks.{only-ticks}
 use Rattle.promises.proofs.Requests.{Held, own-held, called-held}
 use Rattle.promises.proofs.AsTold.{Dark, after-dark, called-off, after-held}
@@ -93,21 +94,17 @@ module _ (which minutes : ℕ) where
       rw (w .leaves) (act-begins (b .sender) f (w .fits) (rw (w .read) at (b .order)) s (b .eight) (rw (w .leaves) at (b .done)))
 
   -- a frame that is no order for it says nothing to it
-  no-order : (a : About) (word : Word) → isOrderFor which a ≡ false → orders which a word ≡ word
+  no-order : (a : About) (word : Word) → isOrder (eqb which) a ≡ false → orders which a word ≡ word
   no-order (aTick shorts) word e = refl
   no-order (aCommand sender (Order one on)) word e = rw e
   no-order (aCommand sender (Timed one length)) word e = rw e
   no-order (aCommand sender (Thresholds ascend descend)) word e = refl
   no-order neither word e = refl
 
-  not-done : (done order : Bool) → done && order ≡ false → done ≡ true → order ≡ false
-  not-done true order e d = e
-  not-done false order e d = absurd (true≢false (sym d))
-
-  apart : (a b : Bool) → T (not (a || b)) → (a ≡ false) × (b ≡ false)
-  apart true b t = absurd t
-  apart false true t = absurd t
-  apart false false t = (refl, refl)
+  not-done : (order done : Bool) → T (not (order && done)) → done ≡ true → order ≡ false
+  not-done true true t d = absurd t
+  not-done true false t d = absurd (true≢false (sym d))
+  not-done false done t d = refl
 
   later-timed : (s : State) (c : Call) (ticks : ℕ) → later s c (timed minutes ticks) ≡ timed minutes (ticks + (if runningTick s c then 1 else 0))
   later-timed s c ticks = by (runningTick s c)
@@ -119,25 +116,33 @@ module _ (which minutes : ℕ) where
   module _ (mission : isMission which ≡ true) where
     -- so a call that leaves it alone ages its word at most
     alone-said :
-        (s : State) (c : Call) (ticks : ℕ) → T (not (isDone (answered s c) && isOrderFor which (aboutOf c) || crossesDown s c)) →
+        (s : State) (c : Call) (ticks : ℕ) → T (not (doneOrder (eqb which) s c)) → T (not (crossesDown s c)) →
         said crossing which s c (timed minutes ticks) ≡ timed minutes (ticks + (if runningTick s c then 1 else 0))
-    alone-said s c ticks t =
-        let order : Bool = isOrderFor which (aboutOf c) in
-        let (silent, level) = apart (isDone (answered s c) && order) (crossesDown s c) t in
+    alone-said s c ticks silent level =
         let word : Word = later s c (timed minutes ticks) in
         let same : ordered which s c word ≡ word =
-        decided (λ (w : Word). w ≡ word) (isDone (answered s c)) (λ d. no-order (aboutOf c) word (not-done (isDone (answered s c)) order silent d)) (λ d. refl) in
-        rw (mission, level) (same ∙ later-timed s c ticks)
+        decided (λ (w : Word). w ≡ word) (isDone (answered s c))
+        (λ d. no-order (aboutOf c) word (not-done (isOrder (eqb which) (aboutOf c)) (isDone (answered s c)) silent d)) (λ d. refl) in
+        rw (mission, not-true (crossesDown s c) (is-true (not (crossesDown s c)) level)) (same ∙ later-timed s c ticks)
+
+    -- what is said of a history that leaves it alone, call by call
+    alone :
+        (s : State) (c : Call) (cs : List Call) → T (leftAlone which s (c ∷ cs)) →
+        T (not (doneOrder (eqb which) s c)) × (T (not (crossesDown s c)) × T (leftAlone which (called s c .result .state) cs))
+    alone s c cs t =
+        let order : Bool = not (doneOrder (eqb which) s c) in
+        let level : Bool = not (crossesDown s c) in
+        let rest : Bool = leftAlone which (called s c .result .state) cs in
+        (and-left order level (and-left (order && level) rest t), (and-right order level (and-left (order && level) rest t), and-right (order && level) rest t))
 
     alone-word :
         (cs : List Call) (s : State) (ticks : ℕ) → T (leftAlone which s cs) → lastWord crossing which (timed minutes ticks) s cs ≡ timed minutes (ticks + runningTicks s cs)
     alone-word [] s ticks t = ap (timed minutes) (omega arith)
     alone-word (c ∷ cs) s ticks t =
-        let here : Bool = not (isDone (answered s c) && isOrderFor which (aboutOf c) || crossesDown s c) in
-        let rest : Bool = leftAlone which (called s c .result .state) cs in
+        let (silent, (level, rest)) = alone s c cs t in
         let more : ℕ = if runningTick s c then 1 else 0 in
-        ap (λ (w : Word). lastWord crossing which w (called s c .result .state) cs) (alone-said s c ticks (and-left here rest t))
-        ∙ alone-word cs (called s c .result .state) (ticks + more) (and-right here rest t) ∙ ap (timed minutes) (omega arith)
+        ap (λ (w : Word). lastWord crossing which w (called s c .result .state) cs) (alone-said s c ticks silent level)
+        ∙ alone-word cs (called s c .result .state) (ticks + more) rest ∙ ap (timed minutes) (omega arith)
 
     -- it is off once its time is over
     abbrev Off : State → Type 0
@@ -159,12 +164,11 @@ module _ (which minutes : ℕ) where
         (60 * minutes ≤ ticks → Off s) → 60 * minutes ≤ ticks + runningTicks s cs → Off (after s cs)
     over-off [] s ticks t n dark held p h = p (omega arith)
     over-off (c ∷ cs) s ticks t n dark held p h =
-        let here : Bool = not (isDone (answered s c) && isOrderFor which (aboutOf c) || crossesDown s c) in
-        let rest : Bool = leftAlone which (called s c .result .state) cs in
+        let (silent, (level, rest)) = alone s c cs t in
         let more : ℕ = if runningTick s c then 1 else 0 in
         let next : Held which (called s c .result .state) (timed minutes (ticks + more)) =
-        rw (alone-said s c ticks (and-left here rest t)) at (called-held which low s n (timed minutes ticks) held c) in
-        over-off cs (called s c .result .state) (ticks + more) (and-right here rest t) (called-eight s c n) (after-dark which (c ∷ []) s dark) next
+        rw (alone-said s c ticks silent level) at (called-held which low s n (timed minutes ticks) held c) in
+        over-off cs (called s c .result .state) (ticks + more) rest (called-eight s c n) (after-dark which (c ∷ []) s dark) next
         (off-by s c ticks (doneTick s c) refl dark next p) (omega arith)
 
   -- what a timed order that is done comes to

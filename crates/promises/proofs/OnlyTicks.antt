@@ -36,7 +36,7 @@ use Rattle.supervisor.proofs.CommandLaws.{by-serial}
 use Rattle.supervisor.proofs.ControlLaws.{Controls, level, upward, downward, controls}
 use Rattle.supervisor.proofs.HistoryLaws.{Works, Comes, stopped, ticking, other, comes}
 use Rattle.supervisor.proofs.TickLaws.{Ticks, waits, runs, ticks, ticked-serials}
-use Rattle.promises.specs.OnlyTicks.{OnlyTicks, OthersLeave, TicksLeave, RestLeaves, isOrder, doneOrder}
+use Rattle.promises.specs.OnlyTicks.{OnlyTicks, OthersLeave, TicksLeave, RestLeaves, isOrder, doneOrder, any}
 use Rattle.promises.proofs.EachModule.{asked-power}
 
 -- a call is a done tick, or it is none
@@ -107,10 +107,10 @@ module _ {Part : Type 0} (look : Ends → List Module → Part) where
   part s = look (s .ends) (s .modules)
 
   abbrev Leaves : Frame → State → Acted → Type 0
-  Leaves f s a = isOrder (about (Accepted f)) && isDone (answerNumber (a .answer)) ≡ false → part (a .state) ≡ part s
+  Leaves f s a = isOrder any (about (Accepted f)) && isDone (answerNumber (a .answer)) ≡ false → part (a .state) ≡ part s
 
   order-leaves :
-      (f : Frame) → isOrder (about (Accepted f)) ≡ true → (which : ℕ) (on : Bool) (end : ℕ) (s t : State) → part t ≡ part s →
+      (f : Frame) → isOrder any (about (Accepted f)) ≡ true → (which : ℕ) (on : Bool) (end : ℕ) (s t : State) → part t ≡ part s →
       Leaves f s (orderTaken which on end t)
   order-leaves f order which on end s t same =
       either (Leaves f s) (isIllTimed which on (t .watch .mode)) {x = silent NotNow t} {y = done (requestSet which on end t)} (λ e. same)
@@ -129,7 +129,7 @@ module _ {Part : Type 0} (look : Ends → List Module → Part) where
   act-leaves (frame.Command sender command) t s =
       by-serial sender command s (λ class. Leaves (frame.Command sender command) s) (λ e. refl) (λ e. refl) (taken-leaves sender command s (serialUsed sender s) refl)
 
-  by-rest : (s : State) (c : Call) → doneTick s c ≡ false → doneOrder s c ≡ false → Comes s c → part (called s c .result .state) ≡ part s
+  by-rest : (s : State) (c : Call) → doneTick s c ≡ false → doneOrder any s c ≡ false → Comes s c → part (called s c .result .state) ≡ part s
   by-rest s c d o (stopped answer w) = rw (w .leaves)
   by-rest s c d o (ticking shorts w) = absurd (true≢false (sym (w .tick) ∙ d))
   by-rest s c d o (other f t w) = rw (w .leaves) (act-leaves f t s (rw (w .read, w .leaves) at o))

@@ -3,19 +3,19 @@
 -- Assumes nothing.
 use Prim.Native.Nat.{ℕ, _+_, _*_, _≤_, _<_}
 use mathlib.Core.Path.{_≡_}
-use mathlib.Core.Bool.{Bool, true, false, not, _&&_, _||_}
+use mathlib.Core.Bool.{Bool, true, false, not, _&&_}
 use mathlib.Core.List.{List, [], _∷_}
 use lib.Dec.{T, eqb}
 use lib.ListN.{length}
 use Rattle.basics.specs.Choice.{if_then_else_}
 use Rattle.modules.specs.Power.{isOn}
-use Rattle.frames.specs.About.{About, aTick, aCommand, neither}
-use Rattle.frames.specs.declared.command.Command.{Command}
-use Rattle.frames.specs.declared.command.Command.the-variants.{Order, Timed, Thresholds}
+use Rattle.frames.specs.About.{aCommand}
+use Rattle.frames.specs.declared.command.Command.the-variants.{Timed}
 use Rattle.frames.specs.declared.sender.Sender.{Sender}
 use Rattle.supervisor.specs.State.{isRecovery, isSafe, moduleAt}
-use Rattle.supervisor.specs.History.{Call, aboutOf, called, answered, isDone, after}
+use Rattle.supervisor.specs.History.{Call, aboutOf, called, answered, after}
 use Rattle.supervisor.specs.declared.state.State.{State}
+use Rattle.promises.specs.OnlyTicks.{doneOrder}
 use Rattle.promises.specs.AsTold.{runningTick}
 
 -- on a state with its eight modules, as every state of the code has, a timed order is done: for a module, of so many
@@ -26,28 +26,15 @@ pub record Begins (which minutes : ℕ) (s : State) (c : Call) : Type 0 where
   pub order : aboutOf c ≡ aCommand sender (Timed which minutes)
   pub done : answered s c ≡ 0
 
--- a command is an order for module i, plain or timed
-abbrev pub orderCommandFor : ℕ → Command → Bool
-orderCommandFor i (Order which on) = eqb i which
-orderCommandFor i (Timed which minutes) = eqb i which
-orderCommandFor i (Thresholds ascend descend) = false
-
--- so is a frame, of either origin
-abbrev pub isOrderFor : ℕ → About → Bool
-isOrderFor i (aTick shorts) = false
-isOrderFor i (aCommand sender command) = orderCommandFor i command
-isOrderFor i neither = false
-
 -- a call crosses down: SAFE before, RECOVERY after
 abbrev pub crossesDown : State → Call → Bool
 crossesDown s c = isSafe (s .watch .mode) && isRecovery (called s c .result .state .watch .mode)
 
--- no call of a history is a done order for module i, or crosses down
+-- no call of a history is a done order for module i, plain or timed, of either origin, and none crosses down
 abbrev pub leftAlone : ℕ → State → List Call → Bool
 leftAlone i s [] = true
 leftAlone i s (c ∷ cs) =
-    not (isDone (answered s c) && isOrderFor i (aboutOf c) || crossesDown s c)
-    && leftAlone i (called s c .result .state) cs
+    not (doneOrder (eqb i) s c) && not (crossesDown s c) && leftAlone i (called s c .result .state) cs
 
 -- how many calls of a history were done ticks outside DEPLOY_WAIT
 abbrev pub runningTicks : State → List Call → ℕ

@@ -25,26 +25,31 @@ OthersLeave Part part = (s : State) (c : Call) → doneTick s c ≡ false → pa
 abbrev pub TicksLeave : (Part : Type 0) → (State → Part) → Type 0
 TicksLeave Part part = (s : State) (c : Call) → T (doneTick s c) → part (called s c .result .state) ≡ part s
 
--- a command is an order, plain or timed
-abbrev pub orderCommand : Command → Bool
-orderCommand (Order which on) = true
-orderCommand (Timed which minutes) = true
-orderCommand (Thresholds ascend descend) = false
+-- a command is an order, plain or timed, for a module that passes a test
+abbrev pub orderCommand : (modules : ℕ → Bool) → Command → Bool
+orderCommand modules (Order which on) = modules which
+orderCommand modules (Timed which minutes) = modules which
+orderCommand modules (Thresholds ascend descend) = false
 
--- so is a frame
-abbrev pub isOrder : About → Bool
-isOrder (aTick shorts) = false
-isOrder (aCommand sender command) = orderCommand command
-isOrder neither = false
+-- so is a frame, of either origin
+abbrev pub isOrder : (modules : ℕ → Bool) → About → Bool
+isOrder modules (aTick shorts) = false
+isOrder modules (aCommand sender command) = orderCommand modules command
+isOrder modules neither = false
 
--- a done order: the input is an order, and the answer 0
-abbrev pub doneOrder : State → Call → Bool
-doneOrder s c = isOrder (aboutOf c) && isDone (answered s c)
+-- a done order: the input is an order for such a module, and the answer 0
+abbrev pub doneOrder : (modules : ℕ → Bool) → State → Call → Bool
+doneOrder modules s c = isOrder modules (aboutOf c) && isDone (answered s c)
+
+-- any module
+abbrev pub any : ℕ → Bool
+any which = true
 
 -- a call that is neither a done tick nor a done order leaves it as it was
 abbrev pub RestLeaves : (Part : Type 0) → (State → Part) → Type 0
 RestLeaves Part part =
-    (s : State) (c : Call) → doneTick s c ≡ false → doneOrder s c ≡ false → part (called s c .result .state) ≡ part s
+    (s : State) (c : Call) → doneTick s c ≡ false → doneOrder any s c ≡ false →
+    part (called s c .result .state) ≡ part s
 
 -- who changes what
 pub record OnlyTicks : Type 0 where
