@@ -1,18 +1,16 @@
--- What two craft keep between them, for one mission module, and that ends and control keep it.
+-- What two craft keep between them, for one mission module, and that control keeps it.
 -- Assumes nothing.
-use Prim.Native.Nat.{ℕ, _+_, _-_, _≤_, _<_}
+use Prim.Native.Nat.{ℕ, _+_, _≤_, _<_}
 use mathlib.Core.Path.{_≡_, refl, ap, _∙_}
-use mathlib.Core.Bool.{Bool, true, false}
+use mathlib.Core.Bool.{true, false}
 use lib.Dec.{T, eqb}
-use Rattle.basics.specs.Choice.{if_then_else_, bit}
+use Rattle.basics.specs.Choice.{bit}
 use Rattle.basics.proofs.ChoiceLaws.{same-test}
 use Rattle.modules.specs.Groups.{coreFour, missionFour, isMission, moduleCount}
 use Rattle.modules.specs.Ends.{noEnds}
 use Rattle.modules.specs.declared.power.Module.{Module}
 use Rattle.supervisor.specs.State.{withControl, withEnds, isSafe, moduleAt, endAt}
 use Rattle.supervisor.specs.Range.{judgeTicks}
-use Rattle.supervisor.specs.Tick.{beforeModules}
-use Rattle.supervisor.specs.Ending.{ended}
 use Rattle.supervisor.specs.Control.{crossed, controlled}
 use Rattle.supervisor.specs.declared.control.Crossing.{Crossing}
 use Rattle.supervisor.specs.declared.control.Crossing.the-variants.{Upward, Downward}
@@ -20,7 +18,7 @@ use Rattle.supervisor.specs.declared.state.Mode.{Mode}
 use Rattle.supervisor.specs.declared.state.Mode.the-variants.{Recovery, Safe}
 use Rattle.supervisor.specs.declared.state.Battery.{Battery}
 use Rattle.supervisor.specs.declared.state.State.{State}
-use Rattle.supervisor.proofs.ModuleLaws.{Eight, crossed-eight, at-crossed, ended-eight, at-ended, ended-end, mission-low, core-or-mission}
+use Rattle.supervisor.proofs.ModuleLaws.{Eight, crossed-eight, at-crossed, mission-low, core-or-mission}
 use Rattle.promises.proofs.TwoModes.{AtMost, even, behind, Cross, both-level, both-up, second-up, both-down, first-down, first-up}
 use Rattle.promises.proofs.TwoModes.{second-down, crosses}
 
@@ -50,18 +48,6 @@ Flown i a b =
 
 abbrev pub Beside : ℕ → State → State → Type 0
 Beside i a b = record { shared : Shared a b; flown : Flown i a b }
-
--- what is requested after the end stage was so before it; and on the second craft, if its end is the same
-not-over : (over r : Bool) → T (if over then false else r) → T r
-not-over true r t = absurd t
-not-over false r t = t
-
-kept-grows : (over r r′ : Bool) → (T r → T r′) → T (if over then false else r) → T (if over then false else r′)
-kept-grows true r r′ grows t = t
-kept-grows false r r′ grows t = grows t
-
-over-grows : (e e′ : ℕ) (r r′ : Bool) → (T r → e ≡ e′) → (T r → T r′) → T (if eqb e 1 then false else r) → T (if eqb e′ 1 then false else r′)
-over-grows e e′ r r′ same grows t = rw (← same (not-over (eqb e 1) r t)) (kept-grows (eqb e 1) r r′ grows t)
 
 module _ (i : ℕ) (mission : isMission i ≡ true) where
   low : i < moduleCount
@@ -168,7 +154,7 @@ module _ (i : ℕ) (mission : isMission i ≡ true) where
           };
         }
 
-    controlled-beside : Beside i a b → Beside i (controlled a) (controlled b)
+    pub controlled-beside : Beside i a b → Beside i (controlled a) (controlled b)
     unfolding controlled
     controlled-beside h =
         let battery : Charged (a .battery) (b .battery) = h .shared .battery in
@@ -180,32 +166,3 @@ module _ (i : ℕ) (mission : isMission i ≡ true) where
           shared = h .shared;
           flown = record { modes = flown .modes; counts = ap (λ (n : ℕ). n + 1) (flown .counts); eight = flown .eight; eight′ = flown .eight′; asked = flown .asked };
         })
-
-    -- ends: where they are equal, they are over together
-    ended-beside : Beside i a b → Beside i (ended a) (ended b)
-    unfolding ended
-    ended-beside h =
-        let was : Asked (a .watch .mode) (moduleAt i a) (moduleAt i b) (endAt i a) (endAt i b) = h .flown .asked in
-        let r : Bool = moduleAt i a .requested in
-        let r′ : Bool = moduleAt i b .requested in
-        record {
-          shared = h .shared;
-          flown = record {
-            modes = h .flown .modes;
-            counts = h .flown .counts;
-            eight = ended-eight a (h .flown .eight);
-            eight′ = ended-eight b (h .flown .eight′);
-            asked =
-                rw (at-ended a (h .flown .eight) i low, at-ended b (h .flown .eight′) i low, ended-end i a, ended-end i b)
-                (record {
-                  quiet = λ t. was .quiet (not-over (eqb (endAt i a) 1) r t);
-                  grows = λ t. over-grows (endAt i a) (endAt i b) r r′ (was .ends) (was .grows) t;
-                  ends = λ t. ap (λ (n : ℕ). n - 1) (was .ends (not-over (eqb (endAt i a) 1) r t));
-                });
-          };
-        }
-
-  -- so it is kept by what the module stage finds
-  pub before-beside : (a b : State) → Beside i a b → Beside i (beforeModules a) (beforeModules b)
-  unfolding beforeModules
-  before-beside a b h = controlled-beside (ended a) (ended b) (ended-beside a b h)

@@ -16,7 +16,8 @@ use Rattle.supervisor.specs.declared.state.State.{State}
 use Rattle.supervisor.proofs.ModuleLaws.{stage-eight}
 use Rattle.promises.proofs.EachModule.{at-stage}
 use Rattle.promises.proofs.TwoModes.{AtMost, even, behind}
-use Rattle.promises.proofs.TwoControl.{Beside, before-beside}
+use Rattle.promises.proofs.TwoControl.{Beside}
+use Rattle.promises.proofs.TwoEnds.{before-beside}
 
 module _ (i : ℕ) (mission : isMission i ≡ true) where
   module _ (a b : State) where
