@@ -54,7 +54,10 @@ extern "C" {
  *   12     2    descend, 5,000 to ascend
  *   14     2    the ground's last serial
  *   16     2    the payload's last serial
- *   18     2    module 0, then 2 bytes for each of the modules 1 to 7; when it
+ *   18     4    ADCS's end: the seconds until its request goes off, 0 to 86,400;
+ *               0 where none runs; then 4 bytes for each of the other ends:
+ *               PAYLOAD's at 22, SBAND1's at 26, SBAND2's at 30
+ *   34     2    module 0, then 2 bytes for each of the modules 1 to 7; when it
  *               is requested, 32,768 more (the top bit of its second byte):
  *                 0                 on
  *                 1 to 5            off, so many tries left
@@ -62,8 +65,8 @@ extern "C" {
  *
  * Each state in range has one image. Bytes that are none are refused with
  * EMS_BAD_STATE. */
-#define EMS_IMAGE_BYTES 34
-#define EMS_IMAGE_VERSION 2
+#define EMS_IMAGE_BYTES 50
+#define EMS_IMAGE_VERSION 3
 
 /* The bytes of a report: 81, kind answered, origin, serial (2), answer, mode,
  * requested mask, on mask, failed mask, beacon. */
@@ -85,14 +88,16 @@ enum ems_answer {
     EMS_BAD_STATE = 1,      /* the image is not that of a state in range */
     EMS_SHORT_ROOM = 2,     /* fewer than EMS_REPORT_BYTES of reply room */
     EMS_NO_INPUT = 3,       /* no input bytes */
-    EMS_UNKNOWN_KIND = 4,   /* kind not 01 to 05 */
+    EMS_UNKNOWN_KIND = 4,   /* kind not 01 to 06 */
     EMS_BAD_LENGTH = 5,     /* input length not the kind's total */
-    EMS_BAD_FIELD = 6,      /* a field outside its range, or descend above ascend */
+    EMS_BAD_FIELD = 6,      /* a field outside its range, descend above ascend, or
+                               a timed order for one of the core four */
     EMS_NOT_PERMITTED = 7,  /* the payload asks for what only the ground may */
     EMS_REPEAT = 8,         /* serial a repeat; there is a report */
     EMS_STALE = 9,          /* serial stale; there is a report */
-    EMS_NOT_NOW = 10,       /* "on" for one of the mission four outside SAFE;
-                               the serial is used up; there is a report */
+    EMS_NOT_NOW = 10,       /* "on", timed or not, for one of the mission four
+                               outside SAFE; the serial is used up; there is a
+                               report */
     EMS_TEXT_TOO_LONG = 11, /* text over EMS_TEXT_BYTES */
     EMS_NOT_KEYABLE = 12,   /* a byte that is not A to Z, 0 to 9 or a space */
     EMS_BAD_SPACE = 13,     /* a space first, last or doubled */
@@ -101,13 +106,16 @@ enum ems_answer {
 };
 
 /* The kinds of frames, the modes, and the beacon that a tick makes due, as they
- * stand in frames and reports. */
+ * stand in frames and reports. A timed order is 7 bytes: kind, origin, serial (2),
+ * module of the mission four, minutes (2), 1 to 1,440; it is an "on" order that
+ * takes itself back when its minutes are over. */
 enum ems_kind {
     EMS_KIND_TICK = 0x01,
     EMS_KIND_BATTERY = 0x02,
     EMS_KIND_ANTENNAS = 0x03,
     EMS_KIND_ORDER = 0x04,
     EMS_KIND_THRESHOLDS = 0x05,
+    EMS_KIND_TIMED = 0x06,
     EMS_KIND_REPORT = 0x81
 };
 enum ems_mode { EMS_DEPLOY_WAIT = 0, EMS_RECOVERY = 1, EMS_SAFE = 2 };

@@ -12,7 +12,7 @@
 #ifdef PEER
 #include "peer/ems.h"
 #include "peer/morse.h"
-#define IMAGE_BYTES 34
+#define IMAGE_BYTES 50
 #define KEY peer_key
 #define READ peer_read
 #else
@@ -49,8 +49,10 @@ static void put_back(const uint8_t *image)
         .ascend = (uint16_t)low(image + 10), .descend = (uint16_t)low(image + 12),
         .last = { (uint16_t)low(image + 14), (uint16_t)low(image + 16) },
     };
+    for (int i = 0; i < 4; i++)
+        state.end[i] = low(image + 18 + 4 * i) + ((uint32_t)low(image + 20 + 4 * i) << 16);
     for (int i = 0; i < 8; i++) {
-        unsigned code = low(image + 18 + 2 * i), power = code % REQUESTED;
+        unsigned code = low(image + 34 + 2 * i), power = code % REQUESTED;
         state.m[i] = (struct module){
             power == 0 ? 0 : power < FAILED ? 1 : 2, code >= REQUESTED,
             (uint16_t)(power < FAILED ? power : power - FAILED) };

@@ -9,7 +9,7 @@ use lib.Dec.{eqb, leb}
 use lib.ListN.{getD}
 use borrow.Author.Tests.{eqb-true, eqb-false}
 use Rattle.frames.specs.Reading.{byteAt}
-use Rattle.flight.specs.Fields.{flag, pairAt, tripleAt}
+use Rattle.flight.specs.Fields.{flag, pairAt, tripleAt, quadAt}
 
 -- every element is a byte, as in a slice of bytes; a list of a contract may hold any numbers
 abbrev pub AllBytes : List ℕ → Type 0
@@ -24,6 +24,9 @@ pair-back n = omega arith
 
 pub triple-back : (n : ℕ) → n % 256 + n / 256 % 256 * 256 + n / 65536 * 65536 ≡ n
 triple-back n = omega arith
+
+pub quad-back : (n : ℕ) → n % 256 + n / 256 % 256 * 256 + (n / 65536 % 256 + n / 16777216 * 256) * 65536 ≡ n
+quad-back n = omega arith
 
 pub flag-low : (test : Bool) → leb (flag test) 1 ≡ true
 flag-low true = refl
@@ -56,3 +59,22 @@ module _ (bytes : List ℕ) (small : AllBytes bytes) (i : ℕ) where
 
   pub triple-high : tripleAt i bytes / 65536 ≡ byteAt (i + 2) bytes
   triple-high = omega (arith, small i, small (i + 1))
+
+-- the four bytes of a number of four
+module _ (bytes : List ℕ) (small : AllBytes bytes) (i : ℕ) where
+  pub quad-first : quadAt i bytes % 256 ≡ byteAt i bytes
+  quad-first = omega (arith, small i)
+
+  pub quad-second : quadAt i bytes / 256 % 256 ≡ byteAt (i + 1) bytes
+  quad-second =
+      let rest : quadAt i bytes / 256 ≡ byteAt (i + 1) bytes + pairAt (i + 2) bytes * 256 = omega (arith, small i) in
+      rw rest (omega (arith, small (i + 1)))
+
+  high : quadAt i bytes / 65536 ≡ pairAt (i + 2) bytes
+  high = omega (arith, pair-small bytes small i)
+
+  pub quad-third : quadAt i bytes / 65536 % 256 ≡ byteAt (i + 2) bytes
+  quad-third = rw high (pair-low bytes small (i + 2))
+
+  pub quad-fourth : quadAt i bytes / 16777216 ≡ byteAt (i + 2 + 1) bytes
+  quad-fourth = omega (arith, pair-small bytes small i, small (i + 2))

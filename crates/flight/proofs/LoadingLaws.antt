@@ -24,10 +24,11 @@ use Rattle.supervisor.proofs.RangeLaws.{parts}
 use Rattle.supervisor.proofs.ModuleLaws.{Eight}
 use Rattle.flight.specs.Fields.{pairBytes, pairAt}
 use Rattle.flight.specs.Codes.{moduleCode, moduleFrom}
-use Rattle.flight.specs.Saving.{imageBytes, layoutVersion, modulesPlace, modulesBytes, headBytes, saved}
-use Rattle.flight.specs.Loading.{hasLayout, blank, modulesIn, decoded}
-use Rattle.flight.proofs.FieldsLaws.{AllBytes, flag-back, pair-back, triple-back, flag-stored}
+use Rattle.flight.specs.Saving.{imageBytes, layoutVersion, endsPlace, modulesPlace, endsBytes, modulesBytes, headBytes, saved}
+use Rattle.flight.specs.Loading.{hasLayout, blank, endsIn, modulesIn, decoded}
+use Rattle.flight.proofs.FieldsLaws.{AllBytes, flag-back, pair-back, triple-back, quad-back, flag-stored}
 use Rattle.flight.proofs.FieldsLaws.{pair-small, pair-low, pair-high, triple-low, triple-middle, triple-high}
+use Rattle.flight.proofs.FieldsLaws.{quad-first, quad-second, quad-third, quad-fourth}
 use Rattle.flight.proofs.CodesLaws.{mode-code, mode-back, module-code, module-back}
 use Rattle.flight.proofs.SavingLaws.{mode-in-range}
 
@@ -56,19 +57,19 @@ module-of (m ∷ ms) (suc i) h r =
     ∙ module-of ms i (le-of-suc-le-suc h) (and-right (powerInRange (m .power)) (modulesInRange ms) r)
 
 modules-back : (s : State) → T (modulesInRange (s .modules)) → Eight s → modulesIn (saved s) ≡ s .modules
-unfolding saved headBytes
+unfolding saved headBytes endsBytes
 modules-back s r eight =
     let n = length-in (saved s) in
     ext-getD blank (modulesIn (saved s)) (s .modules) (n ∙ sym eight)
     (λ i h. module-in (saved s) i (omega arith)
-    ∙ ap moduleFrom (pair-shift (headBytes s) (modulesBytes (s .modules)) (2 * i))
+    ∙ ap moduleFrom (pair-shift (headBytes s ++ endsBytes (s .ends)) (modulesBytes (s .modules)) (2 * i))
     ∙ module-of (s .modules) i (omega arith) r)
 
 pub decoded-saved : (s : State) → inRange s ≡ true → Eight s → decoded (saved s) ≡ s
-unfolding decoded saved headBytes
+unfolding decoded endsIn saved headBytes endsBytes
 decoded-saved s e eight =
     let modules = modules-back s (parts s (holds (inRange s) e) .modules) eight in
-    simp (modules, pair-back, triple-back, flag-back, mode-back (s .watch .mode) (mode-in-range s e))
+    simp (modules, pair-back, triple-back, quad-back, flag-back, mode-back (s .watch .mode) (mode-in-range s e))
 
 -- what the fields of an image say saves to that image
 
@@ -99,7 +100,7 @@ part-listed zero k bytes h = refl
 part-listed (suc n) k bytes h = rw (drop-cons bytes k 0 (omega arith)) (ap (λ l. byteAt k bytes ∷ l) (part-listed n (suc k) bytes (omega arith)))
 
 module _ (bytes : List ℕ) (small : AllBytes bytes) where
-  head-stored : Layout bytes → headBytes (decoded bytes) ≡ listed modulesPlace 0 bytes
+  head-stored : Layout bytes → headBytes (decoded bytes) ≡ listed endsPlace 0 bytes
   unfolding headBytes decoded listed
   head-stored l =
       simp (
@@ -112,6 +113,10 @@ module _ (bytes : List ℕ) (small : AllBytes bytes) where
         flag-stored (byteAt 7 bytes) (l .antennas),
         l .version,
       )
+
+  ends-stored : endsBytes (endsIn bytes) ≡ listed 16 endsPlace bytes
+  unfolding endsBytes endsIn listed
+  ends-stored = simp (quad-first bytes small, quad-second bytes small, quad-third bytes small, quad-fourth bytes small)
 
   modules-stored :
       (n k : ℕ) →
@@ -130,4 +135,4 @@ module _ (bytes : List ℕ) (small : AllBytes bytes) where
   saved-decoded l =
       let size = l .size in
       let whole : bytes ≡ listed imageBytes 0 bytes = sym (take-all imageBytes bytes (omega arith)) ∙ part-listed imageBytes 0 bytes (omega arith) in
-      rw (head-stored l, modules-stored moduleCount 0) (sym whole)
+      rw (head-stored l, ends-stored, modules-stored moduleCount 0) (sym whole)

@@ -23,7 +23,7 @@ use Rattle.supervisor.proofs.ModuleLaws.{Eight}
 use Rattle.supervisor.proofs.RangeLaws.{parts, phase-in-range}
 use Rattle.flight.specs.Fields.{pairBytes}
 use Rattle.flight.specs.Codes.{safeCode, modeCode, moduleCode}
-use Rattle.flight.specs.Saving.{imageBytes, modulesPlace, modulesBytes, headBytes, saved}
+use Rattle.flight.specs.Saving.{imageBytes, endsPlace, modulesPlace, endsBytes, modulesBytes, headBytes, saved}
 use Rattle.flight.proofs.CodesLaws.{modeInRange, mode-small}
 
 -- two bytes a module
@@ -33,8 +33,8 @@ length-modules [] = refl
 length-modules (m ∷ ms) = omega (arith, length-modules ms)
 
 pub length-saved : (s : State) → Eight s → length (saved s) ≡ imageBytes
-unfolding saved headBytes
-length-saved s eight = omega (arith, length-append (headBytes s) (modulesBytes (s .modules)), length-modules (s .modules))
+unfolding saved headBytes endsBytes
+length-saved s eight = omega (arith, length-append (headBytes s ++ endsBytes (s .ends)) (modulesBytes (s .modules)), length-modules (s .modules))
 
 -- of a state in range, the mode and each module are in range
 
@@ -69,17 +69,19 @@ stored-turn ms i at room d h =
     let rest : drop i ms ≡ getD ms i d ∷ drop (i + 1) ms = rw add-one (drop-cons ms i d h) in
     rw rest (sym (sets-append (pairBytes (moduleCode (getD ms i d))) (modulesBytes (drop (i + 1) ms)) room at))
 
--- the modules after a head that was copied
+-- the ends and the modules after a head that was copied
 pub stored-state :
     (s : State) (head room : List ℕ) → head ≡ headBytes s → Eight s → length room ≡ imageBytes →
-    sets (take (length head) head ++ drop (length head) room) modulesPlace (modulesBytes (s .modules)) ≡ saved s
-unfolding saved headBytes
+    sets (sets (take (length head) head ++ drop (length head) room) endsPlace (endsBytes (s .ends))) modulesPlace (modulesBytes (s .modules)) ≡ saved s
+unfolding saved headBytes endsBytes
 stored-state s head room e eight fits =
     let n = length-saved s eight in
+    let ends = endsBytes (s .ends) in
     let modules = modulesBytes (s .modules) in
     rw (take-length head, e)
-    (ap (λ r. sets r modulesPlace modules) (sym (sets-front (headBytes s) room (omega arith)))
-    ∙ sym (sets-append (headBytes s) modules room 0)
+    (ap (λ r. sets (sets r endsPlace ends) modulesPlace modules) (sym (sets-front (headBytes s) room (omega arith)))
+    ∙ ap (λ r. sets r modulesPlace modules) (sym (sets-append (headBytes s) ends room 0))
+    ∙ sym (sets-append (headBytes s ++ ends) modules room 0)
     ∙ sets-front (saved s) room (omega arith)
     ∙ ap (λ l. saved s ++ l) (drop-of-length-le room {i = length (saved s)} (omega arith))
     ∙ append-nil (saved s))

@@ -9,6 +9,7 @@ use lib.ListN.{length, replicate}
 use Rattle.basics.specs.Choice.{if_then_else_}
 use Rattle.basics.specs.Each.{each}
 use Rattle.modules.specs.Groups.{moduleCount}
+use Rattle.modules.specs.declared.ends.Ends.{Ends}
 use Rattle.modules.specs.declared.power.Power.the-variants.{On}
 use Rattle.modules.specs.declared.power.Module.{Module}
 use Rattle.frames.specs.Reading.{byteAt}
@@ -16,12 +17,22 @@ use Rattle.supervisor.specs.Range.{inRange}
 use Rattle.supervisor.specs.declared.state.State.{State}
 use Rattle.flight.specs.Fields.{pairAt, tripleAt, quadAt}
 use Rattle.flight.specs.Codes.{modeFrom, moduleFrom}
-use Rattle.flight.specs.Saving.{imageBytes, layoutVersion, modulesPlace}
+use Rattle.flight.specs.Saving.{imageBytes, layoutVersion, endsPlace, modulesPlace}
 
 -- the length, the version, and antennas that are 0 or 1
 unfoldable pub hasLayout : List ℕ → Bool
 hasLayout bytes =
     eqb (length bytes) imageBytes && eqb (byteAt 0 bytes) layoutVersion && leb (byteAt 7 bytes) 1
+
+-- the ends of the mission four
+unfoldable pub endsIn : List ℕ → Ends
+endsIn bytes =
+    record {
+      adcs = quadAt endsPlace bytes;
+      payload = quadAt (endsPlace + 4) bytes;
+      sband1 = quadAt (endsPlace + 8) bytes;
+      sband2 = quadAt (endsPlace + 12) bytes;
+    }
 
 -- a module that stands for none
 abbrev pub blank : Module
@@ -40,13 +51,7 @@ decoded bytes =
       antennas = eqb (byteAt 7 bytes) 1;
       battery = record { tension = pairAt 8 bytes; ascend = pairAt 10 bytes; descend = pairAt 12 bytes };
       serials = record { ground = pairAt 14 bytes; payload = pairAt 16 bytes };
-      ends =
-          record {
-            adcs = quadAt 18 bytes;
-            payload = quadAt 22 bytes;
-            sband1 = quadAt 26 bytes;
-            sband2 = quadAt 30 bytes;
-          };
+      ends = endsIn bytes;
       modules = modulesIn bytes;
     }
 

@@ -2,6 +2,7 @@
 -- Assumes nothing.
 use Prim.Native.Nat.{ℕ}
 use mathlib.Core.List.{List, [], _∷_, _++_}
+use Rattle.modules.specs.declared.ends.Ends.{Ends}
 use Rattle.modules.specs.declared.power.Module.{Module}
 use Rattle.supervisor.specs.declared.state.State.{State}
 use Rattle.flight.specs.Fields.{flag, pairBytes, tripleBytes, quadBytes}
@@ -15,6 +16,10 @@ layoutVersion = 3
 abbrev pub imageBytes : ℕ
 imageBytes = 50
 
+-- the ends stand from here on, four bytes each
+abbrev pub endsPlace : ℕ
+endsPlace = 18
+
 -- the modules stand from here on, two bytes each
 abbrev pub modulesPlace : ℕ
 modulesPlace = 34
@@ -24,8 +29,13 @@ unfoldable pub modulesBytes : List Module → List ℕ
 modulesBytes [] = []
 modulesBytes (m ∷ ms) = pairBytes (moduleCode m) ++ modulesBytes ms
 
+-- the ends of ADCS, PAYLOAD, SBAND1, SBAND2
+unfoldable pub endsBytes : Ends → List ℕ
+endsBytes ends =
+    quadBytes (ends .adcs) ++ quadBytes (ends .payload) ++ quadBytes (ends .sband1) ++ quadBytes (ends .sband2)
+
 -- version, mode with its phase (3), control count, beacon count (2), antennas, tension (2), ascend (2), descend (2),
--- the ground's last serial (2), the payload's (2), the ends of ADCS, PAYLOAD, SBAND1, SBAND2 (4 each)
+-- the ground's last serial (2), the payload's (2)
 unfoldable pub headBytes : State → List ℕ
 headBytes s =
     (layoutVersion ∷ tripleBytes (modeCode (s .watch .mode)))
@@ -33,9 +43,7 @@ headBytes s =
     ++ (flag (s .antennas) ∷ pairBytes (s .battery .tension))
     ++ pairBytes (s .battery .ascend) ++ pairBytes (s .battery .descend)
     ++ pairBytes (s .serials .ground) ++ pairBytes (s .serials .payload)
-    ++ quadBytes (s .ends .adcs) ++ quadBytes (s .ends .payload)
-    ++ quadBytes (s .ends .sband1) ++ quadBytes (s .ends .sband2)
 
 -- the image of a state
 unfoldable pub saved : State → List ℕ
-saved s = headBytes s ++ modulesBytes (s .modules)
+saved s = headBytes s ++ endsBytes (s .ends) ++ modulesBytes (s .modules)

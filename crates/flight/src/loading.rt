@@ -3,11 +3,12 @@
 ghost use mathlib.Core.Path.{_≡_};
 ghost use lib.ListN.{length};
 ghost use Rattle.flight.specs.Saving.{imageBytes};
-ghost use Rattle.flight.specs.Loading.{hasLayout, modulesIn, decoded};
+ghost use Rattle.flight.specs.Loading.{hasLayout, endsIn, modulesIn, decoded};
 use crate::codes::mode_from;
 use crate::codes::module_from;
 use crate::fields::pair_at;
 use crate::fields::quad_at;
+use crate::saving::ENDS_PLACE;
 use crate::saving::IMAGE_BYTES;
 use crate::saving::MODULE_COUNT;
 use crate::saving::MODULES_PLACE;
@@ -28,6 +29,19 @@ pub(crate) fn has_layout(image: &[u8]) -> bool
         return false;
     }
     (image[0] == VERSION) & (image[7] <= 1)
+}
+
+// The ends of an image.
+fn ends_in(image: &[u8]) -> Ends
+    requires { ⌜ length (now image) ≡ imageBytes ⌝ }
+    ensures { λ r. ⌜ r ≡ endsIn (now (image .entry)) ⌝ }
+{
+    Ends {
+        adcs: quad_at(image, ENDS_PLACE),
+        payload: quad_at(image, ENDS_PLACE + 4),
+        sband1: quad_at(image, ENDS_PLACE + 8),
+        sband2: quad_at(image, ENDS_PLACE + 12),
+    }
 }
 
 // The eight modules of an image. The loop goes by the image's length, which the compiler does not know: it stays one.
@@ -55,6 +69,7 @@ pub(crate) fn decode(image: &[u8]) -> State
     requires { ⌜ length (now image) ≡ imageBytes ⌝ }
     ensures { λ r. ⌜ r ≡ decoded (now (image .entry)) ⌝ }
 {
+    let ends = ends_in(image);
     let modules = modules_in(image);
     State {
         watch: Watch {
@@ -72,12 +87,7 @@ pub(crate) fn decode(image: &[u8]) -> State
             ground: pair_at(image, 14),
             payload: pair_at(image, 16),
         },
-        ends: Ends {
-            adcs: quad_at(image, 18),
-            payload: quad_at(image, 22),
-            sband1: quad_at(image, 26),
-            sband2: quad_at(image, 30),
-        },
+        ends,
         modules,
     }
 }

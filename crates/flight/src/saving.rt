@@ -6,11 +6,12 @@ ghost use lib.ListN.{length};
 ghost use lib.Seq.{sets};
 ghost use Rattle.modules.specs.Stage.{modulesInRange};
 ghost use Rattle.supervisor.specs.Range.{inRange};
-ghost use Rattle.flight.specs.Fields.{pairBytes};
-ghost use Rattle.flight.specs.Saving.{imageBytes, modulesPlace, headBytes, modulesBytes, saved};
+ghost use Rattle.flight.specs.Fields.{pairBytes, quadBytes};
+ghost use Rattle.flight.specs.Saving.{imageBytes, endsPlace, modulesPlace, headBytes, endsBytes, modulesBytes, saved};
 use crate::codes::mode_code;
 use crate::codes::module_code;
 use crate::fields::flag;
+use modules::ends::Ends;
 use modules::power::Module;
 use supervisor::state::State;
 
@@ -20,14 +21,17 @@ pub(crate) const VERSION: u8 = 3;
 // The bytes of an image.
 pub(crate) const IMAGE_BYTES: usize = 50;
 
+// The ends stand from here on, four bytes each.
+pub(crate) const ENDS_PLACE: usize = 18;
+
 // The modules stand from here on, two bytes each.
 pub(crate) const MODULES_PLACE: usize = 34;
 
 // How many modules there are.
 pub(crate) const MODULE_COUNT: usize = 8;
 
-// All but the modules.
-fn head(state: State) -> [u8; MODULES_PLACE]
+// All but the ends and the modules.
+fn head(state: State) -> [u8; ENDS_PLACE]
     requires { ⌜ inRange state ≡ true ⌝ }
     ensures { λ r. ⌜ r ≡ headBytes state ⌝ }
 {
@@ -36,7 +40,6 @@ fn head(state: State) -> [u8; MODULES_PLACE]
     let code = mode_code(mode);
     let battery = state.battery;
     let serials = state.serials;
-    let ends = state.ends;
     [
         VERSION,
         (code % 256) as u8,
@@ -56,22 +59,6 @@ fn head(state: State) -> [u8; MODULES_PLACE]
         (serials.ground / 256) as u8,
         (serials.payload % 256) as u8,
         (serials.payload / 256) as u8,
-        (ends.adcs % 256) as u8,
-        (ends.adcs / 256 % 256) as u8,
-        (ends.adcs / 65536 % 256) as u8,
-        (ends.adcs / 16777216) as u8,
-        (ends.payload % 256) as u8,
-        (ends.payload / 256 % 256) as u8,
-        (ends.payload / 65536 % 256) as u8,
-        (ends.payload / 16777216) as u8,
-        (ends.sband1 % 256) as u8,
-        (ends.sband1 / 256 % 256) as u8,
-        (ends.sband1 / 65536 % 256) as u8,
-        (ends.sband1 / 16777216) as u8,
-        (ends.sband2 % 256) as u8,
-        (ends.sband2 / 256 % 256) as u8,
-        (ends.sband2 / 65536 % 256) as u8,
-        (ends.sband2 / 16777216) as u8,
     ]
 }
 
@@ -82,6 +69,28 @@ fn put_pair(bytes: &mut [u8], at: usize, n: u16)
 {
     bytes[at] = (n % 256) as u8;
     bytes[at + 1] = (n / 256) as u8;
+}
+
+// Stores a number as four bytes at a place.
+fn put_quad(bytes: &mut [u8], at: usize, n: u32)
+    requires { ⌜ at + 4 ≤ length (now bytes) ⌝ }
+    ensures { λ _. ⌜ now (bytes .exit) ≡ sets (now (bytes .entry)) at (quadBytes n) ⌝ }
+{
+    bytes[at] = (n % 256) as u8;
+    bytes[at + 1] = (n / 256 % 256) as u8;
+    bytes[at + 2] = (n / 65536 % 256) as u8;
+    bytes[at + 3] = (n / 16777216) as u8;
+}
+
+// Stores the four ends.
+fn put_ends(ends: Ends, image: &mut [u8])
+    requires { ⌜ length (now image) ≡ imageBytes ⌝ }
+    ensures { λ _. ⌜ now (image .exit) ≡ sets (now (image .entry)) endsPlace (endsBytes ends) ⌝ }
+{
+    put_quad(image, ENDS_PLACE, ends.adcs);
+    put_quad(image, ENDS_PLACE + 4, ends.payload);
+    put_quad(image, ENDS_PLACE + 8, ends.sband1);
+    put_quad(image, ENDS_PLACE + 12, ends.sband2);
 }
 
 // Stores the eight modules. The loop goes by the image's length, which the compiler does not know: it stays one.
@@ -108,5 +117,6 @@ pub(crate) fn save(state: State, image: &mut [u8])
     let modules = state.modules;
     let front = head(state);
     bytes::copy(&front, image);
+    put_ends(state.ends, image);
     put_modules(modules, image);
 }

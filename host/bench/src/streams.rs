@@ -1,7 +1,7 @@
 //! What is measured: an image to start from, and inputs that go round.
 
-use model::state::{Mode, Module, Power};
-use model::table::{BATTERY, FROM_GROUND, ORDER, PAYLOAD, TICK};
+use model::state::{Mode, Module, Power, END_SECONDS};
+use model::table::{BATTERY, FROM_GROUND, ORDER, PAYLOAD, TICK, TIMED};
 use model::{image, report, State};
 
 /// A row of the table.
@@ -39,7 +39,7 @@ const TEXT: &[u8] = b"EMS S 8123 FF 00 THE QUICK BROWN FOX JUMPS OVER 1234567890
 
 /// A board in a mode, charged so that it stays there, every module that may be
 /// on is.
-fn board(mode: Mode) -> [u8; image::BYTES] {
+fn board(mode: Mode) -> State {
     let mut state = State::fresh();
     state.mode = mode;
     state.tension = if mode == Mode::Safe { 8_000 } else { 7_200 };
@@ -51,13 +51,22 @@ fn board(mode: Mode) -> [u8; image::BYTES] {
         };
         *module = Module { power, requested };
     }
-    image::save(&state)
+    state
+}
+
+/// The same with all four ends running, so long that none runs out on the way.
+fn ending(mode: Mode) -> State {
+    let ends = [END_SECONDS; 4];
+    State {
+        ends,
+        ..board(mode)
+    }
 }
 
 /// All rows.
 pub fn streams() -> Vec<Stream> {
-    let step = |name, mode, inputs| {
-        let image = board(mode);
+    let step = |name, board: State, inputs| {
+        let image = image::save(&board);
         let call = b's';
         Stream {
             name,
@@ -73,7 +82,7 @@ pub fn streams() -> Vec<Stream> {
     let text = |name, call, input| Stream {
         name,
         call,
-        image: board(Mode::Safe),
+        image: image::save(&board(Mode::Safe)),
         inputs: vec![input],
         counted: 1_000,
     };
@@ -83,22 +92,33 @@ pub fn streams() -> Vec<Stream> {
         let wanted = (i % 2) as u8;
         vec![ORDER, FROM_GROUND, high, low, PAYLOAD, wanted]
     };
+    let timed = |i: u16| {
+        let [high, low] = (64 * i).to_be_bytes();
+        vec![TIMED, FROM_GROUND, high, low, PAYLOAD, 0, 20]
+    };
+    let all = |order: fn(u16) -> Vec<u8>| (1..=1_024).map(|i| order(i % 1_024)).collect();
     let units = model::morse::key(TEXT).unwrap_or_default();
     vec![
-        step("tick in DEPLOY_WAIT", Mode::Waiting(0), quiet()),
-        step("tick in DEPLOY_WAIT, shorts", Mode::Waiting(0), shorts()),
-        step("tick in RECOVERY", Mode::Recovery, quiet()),
-        step("tick in RECOVERY, shorts", Mode::Recovery, shorts()),
-        step("tick in SAFE", Mode::Safe, quiet()),
-        step("tick in SAFE, shorts", Mode::Safe, shorts()),
+        step("tick in DEPLOY_WAIT", board(Mode::Waiting(0)), quiet()),
         step(
-            "order, done",
-            Mode::Safe,
-            (1..=1_024).map(|i| order(i % 1_024)).collect(),
+            "tick in DEPLOY_WAIT, shorts",
+            board(Mode::Waiting(0)),
+            shorts(),
         ),
+        step("tick in RECOVERY", board(Mode::Recovery), quiet()),
+        step("tick in RECOVERY, shorts", board(Mode::Recovery), shorts()),
+        step("tick in SAFE", board(Mode::Safe), quiet()),
+        step("tick in SAFE, shorts", board(Mode::Safe), shorts()),
+        step(
+            "tick in SAFE, four ends running",
+            ending(Mode::Safe),
+            quiet(),
+        ),
+        step("order, done", board(Mode::Safe), all(order)),
+        step("timed order, done", board(Mode::Safe), all(timed)),
         step(
             "battery, refused (6)",
-            Mode::Safe,
+            board(Mode::Safe),
             vec![vec![BATTERY, 0x13, 0x87]],
         ),
         text("keying 64 characters", b'k', TEXT.to_vec()),

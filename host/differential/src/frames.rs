@@ -37,6 +37,11 @@ impl Stream {
         }
     }
 
+    /// A stream for a board with these last serials, so that its orders are fresh.
+    pub fn after(self, last: Last) -> Stream {
+        Stream { last, ..self }
+    }
+
     /// The next frame, with its reply room.
     pub fn next(&mut self, rng: &mut Rng) -> Shot {
         let frame = match self.maker {
@@ -64,7 +69,7 @@ impl Stream {
     fn structured(&mut self, rng: &mut Rng) -> Vec<u8> {
         let often = match rng.below(8) {
             0 => None,
-            1 => table::kind(table::ORDER),
+            1 => table::kind(rng.pick(&[table::ORDER, table::TIMED])),
             _ => table::kind(table::TICK),
         };
         let kind = often.unwrap_or_else(|| rng.one(&KINDS));
@@ -78,6 +83,8 @@ impl Stream {
             let value = match field.name {
                 "shorts" => self.shorts(rng),
                 "serial" => self.serial(rng, frame[1]),
+                // Few enough that the flight sees the end.
+                "minutes" if rng.once_in(2) => rng.between(1, 3),
                 _ => value(rng, field),
             };
             frame.extend(&value.to_be_bytes()[2 - field.bytes..]);

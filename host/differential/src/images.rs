@@ -3,19 +3,29 @@
 use crate::rng::Rng;
 use model::image::{self, at, code};
 use model::state::{
-    Last, Mode, Module, Power, CONTROL_TICKS, FAILED_SECONDS, SETTLE_SECONDS, TRIES, WAIT_SECONDS,
+    Last, Mode, Module, Power, CONTROL_TICKS, END_SECONDS, FAILED_SECONDS, SETTLE_SECONDS, TRIES,
+    WAIT_SECONDS,
 };
 use model::table::{HIGHEST, LOWEST};
 use model::State;
 
 /// A state in range; the ends of a range are as likely as all between.
 pub fn state(rng: &mut Rng) -> State {
-    let mode = match rng.below(6) {
+    let mode = mode(rng);
+    state_in(rng, mode)
+}
+
+fn mode(rng: &mut Rng) -> Mode {
+    match rng.below(6) {
         0 => Mode::Waiting(rng.pick(&[0, 1, WAIT_SECONDS - 2, WAIT_SECONDS - 1])),
         1 => Mode::Settling(u32::from(number(rng, 1, SETTLE_SECONDS as u16))),
         2 | 3 => Mode::Recovery,
         _ => Mode::Safe,
-    };
+    }
+}
+
+/// A state in range, in this mode.
+pub fn state_in(rng: &mut Rng, mode: Mode) -> State {
     let moving = u16::from(!mode.deploying());
     let descend = number(rng, LOWEST, HIGHEST);
     let ascend = number(rng, descend, HIGHEST);
@@ -39,8 +49,15 @@ pub fn state(rng: &mut Rng) -> State {
             ground: rng.word(),
             payload: rng.word(),
         },
+        ends: std::array::from_fn(|_| end(rng)),
         modules: std::array::from_fn(|_| module(rng)),
     }
+}
+
+/// Seconds to an end: about to run out, at the range's end, or any.
+fn end(rng: &mut Rng) -> u32 {
+    let any = rng.below(END_SECONDS as usize + 1) as u32;
+    rng.pick(&[0, 0, 1, 2, 3, 60, END_SECONDS - 1, END_SECONDS, any])
 }
 
 fn module(rng: &mut Rng) -> Module {
@@ -99,9 +116,31 @@ const POWERS: [u16; 11] = [
     code::REQUESTED - 1,
 ];
 
+/// Seconds to an end around the last in range, and where another byte begins.
+const ENDS: [u32; 12] = [
+    0,
+    1,
+    0xFF,
+    0x100,
+    0xFFFF,
+    0x1_0000,
+    END_SECONDS,
+    END_SECONDS + 1,
+    END_SECONDS + 2,
+    0xFF_FFFF,
+    0x100_0000,
+    u32::MAX,
+];
+
 /// Sets an image's mode by its number.
 pub fn set_mode(bytes: &mut [u8], number: u32) {
     bytes[at::MODE..at::CONTROL].copy_from_slice(&number.to_le_bytes()[..3]);
+}
+
+/// Sets an end of an image.
+pub fn set_end(bytes: &mut [u8], place: usize, seconds: u32) {
+    let begin = at::ENDS + 4 * place;
+    bytes[begin..begin + 4].copy_from_slice(&seconds.to_le_bytes());
 }
 
 /// Sets a module of an image by its number.
@@ -115,11 +154,11 @@ pub fn clear_counts(bytes: &mut [u8]) {
     bytes[at::CONTROL..at::ANTENNAS].fill(0);
 }
 
-/// Bytes that often are no image: a number of a mode or of modules at an edge, a
-/// tag beside the right ones, a byte or two changed, another length, noise.
+/// Bytes that often are no image: a number of a mode, of ends or of modules at an
+/// edge, a tag beside the right ones, a byte or two changed, another length, noise.
 pub fn damaged(rng: &mut Rng) -> Vec<u8> {
     let mut bytes = good(rng);
-    match rng.below(10) {
+    match rng.below(11) {
         0 => {
             let length = rng.below(70);
             bytes.resize(length, 0);
@@ -146,9 +185,14 @@ pub fn damaged(rng: &mut Rng) -> Vec<u8> {
             }
         }
         5 => match rng.below(2) {
-            0 => bytes[at::VERSION] = rng.pick(&[0, 1, 3]),
+            0 => bytes[at::VERSION] = rng.pick(&[0, 1, 2, 4]),
             _ => bytes[at::ANTENNAS] = rng.pick(&[2, 3, 128, 255]),
         },
+        6 => {
+            for _ in 0..=rng.below(2) {
+                set_end(&mut bytes, rng.below(4), rng.pick(&ENDS));
+            }
+        }
         _ => {
             for _ in 0..=rng.below(2) {
                 let place = rng.below(bytes.len());

@@ -7,7 +7,7 @@ use differential::rng::Rng;
 use differential::shrink::tell_flight;
 use differential::sides::{Calls, MODEL};
 use model::image::{self, at};
-use model::state::{Mode, CONTROL_TICKS, FAILED_SECONDS};
+use model::state::{Mode, CONTROL_TICKS, END_SECONDS, FAILED_SECONDS};
 use model::{report, table, State};
 
 /// What a group says of a faulty side.
@@ -130,7 +130,91 @@ fn a_number_past_the_last_is_found() {
         step: takes_601_seconds,
         ..MODEL
     };
-    let told = told("every number of a mode and a module", faulty);
+    let told = told("every number of a mode, an end and a module", faulty);
+    assert_eq!(frames(&told), 1, "{told}");
+}
+
+/// Takes an end that is a second too long.
+fn takes_86401_seconds(image: &mut [u8], frame: &[u8], room: &mut [u8]) -> u8 {
+    let past = (END_SECONDS + 1).to_le_bytes();
+    if let Some(end) = image.get_mut(at::ENDS..at::ENDS + 4) {
+        if *end == past {
+            end[0] -= 1;
+        }
+    }
+    model::calls::step(image, frame, room)
+}
+
+#[test]
+fn an_end_past_the_longest_is_found() {
+    let faulty = Calls {
+        step: takes_86401_seconds,
+        ..MODEL
+    };
+    let told = told("every number of a mode, an end and a module", faulty);
+    assert_eq!(frames(&told), 1, "{told}");
+}
+
+/// Takes 1,441 minutes for 1,440.
+fn takes_1441_minutes(image: &mut [u8], frame: &[u8], room: &mut [u8]) -> u8 {
+    let mut frame = frame.to_vec();
+    if let [table::TIMED, .., more, less] = &mut frame[..] {
+        if [*more, *less] == 1_441_u16.to_be_bytes() {
+            *less -= 1;
+        }
+    }
+    model::calls::step(image, &frame, room)
+}
+
+#[test]
+fn a_minute_too_many_is_found() {
+    let faulty = Calls {
+        step: takes_1441_minutes,
+        ..MODEL
+    };
+    let told = told("timed orders about every limit", faulty);
+    assert_eq!(frames(&told), 1, "{told}");
+}
+
+/// Lets ends fall in DEPLOY_WAIT too.
+fn counts_while_deploying(image: &mut [u8], frame: &[u8], room: &mut [u8]) -> u8 {
+    let deploying = image::load(image).is_some_and(|state| state.mode.deploying());
+    let answer = model::calls::step(image, frame, room);
+    if deploying && answer == 0 && frame[0] == table::TICK {
+        let end = &mut image[at::ENDS];
+        *end = end.saturating_sub(1);
+    }
+    answer
+}
+
+#[test]
+fn an_end_that_falls_at_the_wrong_time_is_found() {
+    let faulty = Calls {
+        step: counts_while_deploying,
+        ..MODEL
+    };
+    let told = told("ends that run out", faulty);
+    assert_eq!(frames(&told), 1, "{told}");
+}
+
+/// Keeps the end at a plain "on".
+fn keeps_the_end(image: &mut [u8], frame: &[u8], room: &mut [u8]) -> u8 {
+    let before = image.to_vec();
+    let answer = model::calls::step(image, frame, room);
+    if answer == 0 && matches!(frame, [table::ORDER, .., 1]) {
+        let ends = at::ENDS..at::MODULES;
+        image[ends.clone()].copy_from_slice(&before[ends]);
+    }
+    answer
+}
+
+#[test]
+fn an_end_that_an_order_should_have_dropped_is_found() {
+    let faulty = Calls {
+        step: keeps_the_end,
+        ..MODEL
+    };
+    let told = told("ends that run out", faulty);
     assert_eq!(frames(&told), 1, "{told}");
 }
 

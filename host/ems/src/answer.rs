@@ -12,7 +12,8 @@ pub const NO_INPUT: u8 = 3;
 pub const UNKNOWN_KIND: u8 = 4;
 /// The input's length is not the kind's total.
 pub const BAD_LENGTH: u8 = 5;
-/// A field outside its range, or descend above ascend.
+/// A field outside its range, descend above ascend, or a timed order for one of the
+/// core four.
 pub const BAD_FIELD: u8 = 6;
 /// The payload asks for what only the ground may.
 pub const NOT_PERMITTED: u8 = 7;
@@ -20,7 +21,8 @@ pub const NOT_PERMITTED: u8 = 7;
 pub const REPEAT: u8 = 8;
 /// The serial is stale.
 pub const STALE: u8 = 9;
-/// "On" for one of the mission four outside SAFE; the serial is used up.
+/// "On", timed or not, for one of the mission four outside SAFE; the serial is used
+/// up.
 pub const NOT_NOW: u8 = 10;
 /// The text is over 64 bytes.
 pub const TEXT_TOO_LONG: u8 = 11;

@@ -33,7 +33,7 @@ pub use module::Module;
 pub use report::{Beacon, Report, REPORT_KIND};
 
 /// The bytes of an image; `EMS_IMAGE_BYTES` of the header.
-pub const IMAGE_BYTES: usize = 34;
+pub const IMAGE_BYTES: usize = 50;
 /// The bytes of a report; `EMS_REPORT_BYTES` of the header.
 pub const REPORT_BYTES: usize = 11;
 /// The bytes of a basic beacon's text.

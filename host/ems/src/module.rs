@@ -37,8 +37,8 @@ impl Module {
         Module::Sband2,
     ];
 
-    /// The mask of the mission four, which are on in SAFE only; the others are
-    /// the core four.
+    /// The mask of the mission four, which are on in SAFE only and can be ordered on
+    /// for some minutes; the others are the core four.
     pub const MISSION: u8 =
         Module::Adcs.bit() | Module::Payload.bit() | Module::Sband1.bit() | Module::Sband2.bit();
 

@@ -17,7 +17,7 @@ fn bytes_that_are_no_image_become_none() {
     let fresh = *Craft::fresh().image();
     assert_eq!(Craft::from_image(&[]), None);
     assert_eq!(Craft::from_image(&fresh[..IMAGE_BYTES - 1]), None);
-    for version in [1, 3] {
+    for version in [2, 4] {
         let mut other_version = fresh;
         other_version[at::VERSION] = version;
         assert_eq!(Craft::from_image(&other_version), None);
@@ -25,6 +25,16 @@ fn bytes_that_are_no_image_become_none() {
     let mut counting_while_waiting = fresh;
     counting_while_waiting[at::CONTROL] = 1;
     assert_eq!(Craft::from_image(&counting_while_waiting), None);
+}
+
+#[test]
+fn an_end_of_a_day_is_the_longest() {
+    let mut image = *Craft::fresh().image();
+    let end = at::ENDS..at::ENDS + 4;
+    image[end.clone()].copy_from_slice(&86_400_u32.to_le_bytes());
+    assert!(Craft::from_image(&image).is_some());
+    image[end].copy_from_slice(&86_401_u32.to_le_bytes());
+    assert_eq!(Craft::from_image(&image), None);
 }
 
 #[test]
@@ -38,12 +48,13 @@ fn a_refused_frame_leaves_the_craft() {
 #[test]
 fn a_report_is_what_the_room_has() {
     let (mut one, mut other) = (Craft::fresh(), Craft::fresh());
-    // An order that comes too early, the same again, an older one, one for the
-    // payload alone, half a frame.
+    // An order that comes too early, the same again, an older one, a timed one that
+    // comes too early, one for the payload alone, half a frame.
     for frame in [
         &[0x04, 1, 0, 2, 4, 1][..],
         &[0x04, 1, 0, 2, 4, 1],
         &[0x04, 1, 0, 1, 4, 0],
+        &[0x06, 1, 0, 3, 4, 0, 20],
         &[0x04, 2, 0, 1, 3, 1],
         &[0x04, 1],
     ] {

@@ -2,7 +2,7 @@
 //! library, the model and the header.
 
 use ems::{answer, Beacon, Craft, Mode, Module};
-use model::table::{FROM_GROUND, MODULES, ORDER};
+use model::table::{FROM_GROUND, KINDS, MODULES, ORDER, TIMED};
 
 const HEADER: &str = include_str!("../../../include/ems.h");
 
@@ -29,6 +29,33 @@ fn the_modules_are_those_that_the_library_takes() {
         let report = Craft::fresh().report_on(&order);
         let given = report.map_or_else(|refusal| refusal, |report| report.answer);
         assert_eq!(given, wanted, "module {number}");
+    }
+}
+
+#[test]
+fn the_mission_four_are_those_that_can_be_timed() {
+    for number in 0..=u8::MAX {
+        let order = [TIMED, FROM_GROUND, 0, 1, number, 0, 20];
+        let wanted = match Module::of(number) {
+            Some(module) if Module::MISSION & module.bit() != 0 => answer::NOT_NOW,
+            _ => answer::BAD_FIELD,
+        };
+        let report = Craft::fresh().report_on(&order);
+        let given = report.map_or_else(|refusal| refusal, |report| report.answer);
+        assert_eq!(given, wanted, "module {number}");
+    }
+}
+
+#[test]
+fn the_kinds_are_the_header_s() {
+    for kind in &KINDS {
+        let name = kind.name.split(' ').next().unwrap_or_default();
+        let line = format!(
+            "    EMS_KIND_{} = 0x{:02X},\n",
+            name.to_uppercase(),
+            kind.byte
+        );
+        assert!(HEADER.contains(&line), "{line}");
     }
 }
 

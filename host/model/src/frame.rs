@@ -1,6 +1,8 @@
 //! Frames in: checks 3 to 7.
 
-use crate::table::{self, Kind, ANTENNAS, BATTERY, FROM_PAYLOAD, ORDER, PAYLOAD, THRESHOLDS, TICK};
+use crate::table::{
+    self, Kind, ANTENNAS, BATTERY, FROM_PAYLOAD, MISSION, ORDER, PAYLOAD, THRESHOLDS, TICK, TIMED,
+};
 
 /// Who a frame comes from, and its serial.
 #[derive(Clone, Copy, Debug, PartialEq, Eq)]
@@ -34,6 +36,13 @@ pub enum Body {
         /// The lower one.
         descend: u16,
     },
+    /// A module's request, on for some minutes.
+    Timed {
+        /// The module's number.
+        module: u8,
+        /// How long.
+        minutes: u16,
+    },
 }
 
 /// A frame that has passed checks 3 to 7.
@@ -60,10 +69,10 @@ pub fn read(input: &[u8]) -> Result<Frame, u8> {
         return Err(6);
     }
     let frame = build(kind, &values).ok_or(4)?;
-    if let Body::Thresholds { ascend, descend } = frame.body {
-        if descend > ascend {
-            return Err(6);
-        }
+    match frame.body {
+        Body::Thresholds { ascend, descend } if descend > ascend => return Err(6),
+        Body::Timed { module, .. } if !MISSION.contains(&module) => return Err(6),
+        _ => {}
     }
     if frame
         .sender
@@ -107,6 +116,10 @@ fn build(kind: &Kind, values: &[u16]) -> Option<Frame> {
             let body = Body::Thresholds { ascend, descend };
             (sender(origin, serial), body)
         }
+        (TIMED, &[origin, serial, module, minutes]) => {
+            let module = byte(module);
+            (sender(origin, serial), Body::Timed { module, minutes })
+        }
         _ => return None,
     };
     Some(Frame {
@@ -118,5 +131,8 @@ fn build(kind: &Kind, values: &[u16]) -> Option<Frame> {
 
 /// Whether the payload may ask for this.
 fn for_payload(body: Body) -> bool {
-    matches!(body, Body::Order { module, .. } if module == PAYLOAD)
+    match body {
+        Body::Order { module, .. } | Body::Timed { module, .. } => module == PAYLOAD,
+        _ => false,
+    }
 }

@@ -1,11 +1,11 @@
-//! The state as 34 bytes, as `include/ems.h` lays them out.
+//! The state as 50 bytes, as `include/ems.h` lays them out.
 
 use crate::state::{Last, Mode, Module, Power, State, TRIES};
 
 /// The bytes of an image.
-pub const BYTES: usize = 34;
+pub const BYTES: usize = 50;
 /// The layout's version, an image's first byte.
-pub const VERSION: u8 = 2;
+pub const VERSION: u8 = 3;
 
 /// Where the fields begin.
 pub mod at {
@@ -29,8 +29,10 @@ pub mod at {
     pub const GROUND: usize = 14;
     /// The payload's last serial: 2 bytes.
     pub const PAYLOAD: usize = 16;
+    /// The ends of the mission four, 4 bytes each.
+    pub const ENDS: usize = 18;
     /// The modules, 2 bytes each.
-    pub const MODULES: usize = 18;
+    pub const MODULES: usize = 34;
 }
 
 /// The numbers of modes and modules.
@@ -45,6 +47,11 @@ pub mod code {
     pub const FAILED: u16 = 6;
     /// What a module's number has more when it is requested.
     pub const REQUESTED: u16 = 32_768;
+}
+
+/// Where each end begins.
+fn ends() -> impl Iterator<Item = usize> {
+    (at::ENDS..at::MODULES).step_by(4)
 }
 
 /// Where each module begins.
@@ -72,6 +79,9 @@ pub fn save(state: &State) -> [u8; BYTES] {
     put(at::DESCEND, &state.descend.to_le_bytes());
     put(at::GROUND, &state.last.ground.to_le_bytes());
     put(at::PAYLOAD, &state.last.payload.to_le_bytes());
+    for (begin, end) in ends().zip(&state.ends) {
+        put(begin, &end.to_le_bytes());
+    }
     for (begin, module) in modules().zip(&state.modules) {
         let power = match module.power {
             Power::On => 0,
@@ -119,6 +129,9 @@ fn guess(image: &[u8; BYTES]) -> State {
         },
         ..State::fresh()
     };
+    for (begin, end) in ends().zip(&mut state.ends) {
+        *end = number(begin, 4);
+    }
     for (begin, module) in modules().zip(&mut state.modules) {
         let requested = code::REQUESTED <= two(begin);
         let power = match two(begin) % code::REQUESTED {

@@ -1,6 +1,7 @@
-//! Document 01 a second time, in plain Rust.
+//! The rules a second time, in plain Rust: document 01's, and of document 02 the
+//! orders with an end.
 //!
-//! It is written from the page alone and shares nothing with the proved
+//! It is written from their words alone and shares nothing with the proved
 //! library, so that a slip in either shows as a difference. It goes for being
 //! obvious where it can be slow: it allocates, and it reads units back by
 //! keying its guess again.

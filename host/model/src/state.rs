@@ -3,7 +3,7 @@
 //! Numbers are kept as wide as the image holds them, so that a state out of
 //! range can be told from the one it would be cut to.
 
-use crate::table::{FROM_PAYLOAD, HIGHEST, LOWEST, MODULES};
+use crate::table::{FROM_PAYLOAD, HIGHEST, LOWEST, MISSION, MODULES};
 
 /// A module's power.
 #[derive(Clone, Copy, Debug, PartialEq, Eq)]
@@ -95,6 +95,8 @@ pub const CONTROL_TICKS: u8 = 30;
 pub const BASIC_TICKS: u16 = 300;
 /// Ticks between two complete beacons.
 pub const COMPLETE_TICKS: u16 = 60;
+/// Seconds of the longest end.
+pub const END_SECONDS: u32 = 86_400;
 
 /// The whole state.
 #[derive(Clone, Debug, PartialEq, Eq)]
@@ -115,6 +117,9 @@ pub struct State {
     pub descend: u16,
     /// The last serials.
     pub last: Last,
+    /// The ends of the mission four, in the order of [`MISSION`]: the seconds until
+    /// the request goes off, 0 where none runs.
+    pub ends: [u32; 4],
     /// The modules by number.
     pub modules: [Module; 8],
 }
@@ -134,6 +139,7 @@ impl State {
                 ground: 0,
                 payload: 0,
             },
+            ends: [0; 4],
             modules: MODULES.map(|row| Module {
                 power: Power::Off(TRIES),
                 requested: row.core,
@@ -160,7 +166,14 @@ impl State {
             Power::Off(tries) => (1..=TRIES).contains(&tries),
             Power::Failed(left) => left <= FAILED_SECONDS,
         });
-        phase && counts && still && tension && thresholds && modules
+        let ends = self.ends.iter().all(|&end| end <= END_SECONDS);
+        phase && counts && still && tension && thresholds && modules && ends
+    }
+
+    /// A module's end; none for one of the core four.
+    pub fn end_of(&mut self, module: u8) -> Option<&mut u32> {
+        let mut ends = self.ends.iter_mut().zip(MISSION);
+        ends.find(|(_, own)| *own == module).map(|(end, _)| end)
     }
 
     /// The mask of the modules of which something holds.

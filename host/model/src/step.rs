@@ -3,7 +3,7 @@
 use crate::frame::{self, Body, Frame, Sender};
 use crate::report::{self, Report};
 use crate::state::{Mode, State};
-use crate::table::MODULES;
+use crate::table::MISSION;
 use crate::tick;
 
 /// Takes one frame, with so many bytes of reply room: the refusal, or the
@@ -44,14 +44,10 @@ fn act(state: &mut State, frame: &Frame) -> (u8, u8) {
         Body::Tick(shorts) => return (0, tick::tick(state, shorts)),
         Body::Battery(tension) => state.tension = tension,
         Body::Antennas(deployed) => state.antennas = deployed,
-        Body::Order { module, on } => {
-            let rows = state.modules.iter_mut().zip(&MODULES);
-            for (own, row) in rows.filter(|(_, row)| row.number == module) {
-                if on && !row.core && state.mode != Mode::Safe {
-                    return (10, 0);
-                }
-                own.requested = on;
-            }
+        Body::Order { module, on } => return (order(state, module, on, 0), 0),
+        Body::Timed { module, minutes } => {
+            let seconds = 60 * u32::from(minutes);
+            return (order(state, module, true, seconds), 0);
         }
         Body::Thresholds { ascend, descend } => {
             state.ascend = ascend;
@@ -59,4 +55,17 @@ fn act(state: &mut State, frame: &Frame) -> (u8, u8) {
         }
     }
     (0, 0)
+}
+
+/// An order for a module, with the seconds to its end, 0 for none: its answer.
+/// What ran before is replaced or dropped.
+fn order(state: &mut State, module: u8, on: bool, seconds: u32) -> u8 {
+    if on && MISSION.contains(&module) && state.mode != Mode::Safe {
+        return 10;
+    }
+    state.modules[usize::from(module)].requested = on;
+    if let Some(end) = state.end_of(module) {
+        *end = seconds;
+    }
+    0
 }

@@ -57,11 +57,13 @@ pub const ANTENNAS: u8 = 0x03;
 pub const ORDER: u8 = 0x04;
 /// The kind that sets both thresholds.
 pub const THRESHOLDS: u8 = 0x05;
+/// The kind that asks for a module of the mission four, on for some minutes.
+pub const TIMED: u8 = 0x06;
 /// The kind of a report, which is only written.
 pub const REPORT: u8 = 0x81;
 
 /// The kinds that are read.
-pub const KINDS: [Kind; 5] = [
+pub const KINDS: [Kind; 6] = [
     Kind {
         byte: TICK,
         name: "tick",
@@ -100,6 +102,18 @@ pub const KINDS: [Kind; 5] = [
             SERIAL,
             field("ascend", 2, LOWEST, HIGHEST),
             field("descend", 2, LOWEST, HIGHEST),
+        ],
+    },
+    Kind {
+        byte: TIMED,
+        name: "timed order",
+        total: 7,
+        fields: &[
+            ORIGIN,
+            SERIAL,
+            // Of what lies between, one is of the core four: `frame::read` refuses it.
+            field("module", 1, MISSION[0] as u16, MISSION[3] as u16),
+            field("minutes", 2, 1, 1_440),
         ],
     },
 ];
@@ -141,6 +155,9 @@ pub const MODULES: [ModuleRow; 8] = [
     module(6, "SBAND1", false),
     module(7, "SBAND2", false),
 ];
+
+/// The mission four, whose requests can have an end.
+pub const MISSION: [u8; 4] = [3, PAYLOAD, 6, 7];
 
 /// The one module that the payload may order.
 pub const PAYLOAD: u8 = 4;

@@ -1,10 +1,10 @@
-//! One tick: the deploy phase, or control, modules and beacon in this order.
+//! One tick: the deploy phase, or ends, control, modules and beacon in this order.
 
 use crate::state::{
     Mode, Power, State, BASIC_TICKS, COMPLETE_TICKS, CONTROL_TICKS, FAILED_SECONDS, SETTLE_SECONDS,
     TRIES, WAIT_SECONDS,
 };
-use crate::table::MODULES;
+use crate::table::{MISSION, MODULES};
 
 /// Passes a second with these shorts; gives the beacon that is due.
 pub fn tick(state: &mut State, shorts: u8) -> u8 {
@@ -12,6 +12,7 @@ pub fn tick(state: &mut State, shorts: u8) -> u8 {
         state.mode = deploy(state.mode, state.antennas);
         return 0;
     }
+    ends(state);
     control(state);
     for (module, row) in state.modules.iter_mut().zip(&MODULES) {
         let allowed = row.core || state.mode == Mode::Safe;
@@ -34,6 +35,19 @@ fn deploy(mode: Mode, antennas: bool) -> Mode {
     }
 }
 
+/// The stage of the ends: one that runs falls by 1, and as it reaches 0 the
+/// module's request goes off.
+fn ends(state: &mut State) {
+    for (end, module) in state.ends.iter_mut().zip(MISSION) {
+        if *end > 0 {
+            *end -= 1;
+            if *end == 0 {
+                state.modules[usize::from(module)].requested = false;
+            }
+        }
+    }
+}
+
 /// The control stage.
 fn control(state: &mut State) {
     state.control += 1;
@@ -47,6 +61,7 @@ fn control(state: &mut State) {
     } else if state.mode == Mode::Safe && state.tension < state.descend {
         state.mode = Mode::Recovery;
         request(state, false);
+        state.ends = [0; 4];
     }
 }
 

@@ -134,6 +134,8 @@ fn the_table_agrees_with_itself() {
     }
     let core = table::MODULES.iter().filter(|row| row.core);
     assert_eq!(core.map(ModuleRow::bit).sum::<u8>(), 0x27);
+    let others = table::MODULES.iter().filter(|row| !row.core);
+    assert!(others.map(|row| row.number).eq(table::MISSION));
 }
 
 #[test]
@@ -162,7 +164,7 @@ fn the_fresh_image_is_loaded_and_no_other_version() {
     let mut saved = image::save(&State::fresh());
     assert_eq!(image::load(&saved), Some(State::fresh()));
     assert_eq!(image::load(&saved[..image::BYTES - 1]), None);
-    for version in [1, 3] {
+    for version in [2, 4] {
         saved[image::at::VERSION] = version;
         assert_eq!(image::load(&saved), None);
     }

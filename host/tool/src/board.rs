@@ -1,10 +1,10 @@
 //! A board from the fresh start on, one frame after the other. What it answers
 //! is the library's word; this only counts frames and seconds, and remembers who
-//! has sent a number.
+//! has sent a number and what each timed order set.
 
 use crate::image::Image;
-use crate::tables::TICK;
-use ems::{answer, Beacon, Craft, Report, BEACON_COMPLETE_BYTES};
+use crate::tables::{timed, TICK};
+use ems::{answer, Beacon, Craft, Module, Report, BEACON_COMPLETE_BYTES};
 
 /// A board, and how far its flight has come.
 pub struct Board {
@@ -14,6 +14,21 @@ pub struct Board {
     seconds: u64,
     /// The origins that a number was taken from.
     numbered: Vec<u8>,
+    times: Times,
+}
+
+/// The seconds that each module's end was last set to.
+#[derive(Clone, Copy, Default)]
+pub struct Times([u32; Module::ALL.len()]);
+
+impl Times {
+    pub fn of(&self, module: Module) -> u32 {
+        self.0[usize::from(module.number())]
+    }
+
+    fn set(&mut self, module: Module, seconds: u32) {
+        self.0[usize::from(module.number())] = seconds;
+    }
 }
 
 /// One frame's passing.
@@ -26,8 +41,17 @@ pub struct Step {
     pub after: Image,
     /// Whether the board had taken a number from this frame's origin before.
     pub numbered: bool,
+    /// What the modules' ends were set to, by this frame or before it.
+    pub times: Times,
     /// The report, or the refusal's number.
     pub outcome: Result<Report, u8>,
+}
+
+impl Step {
+    /// Whether a second has passed.
+    pub fn is_tick(&self) -> bool {
+        self.outcome.is_ok_and(|report| report.kind == TICK)
+    }
 }
 
 impl Board {
@@ -39,6 +63,7 @@ impl Board {
             frames: 0,
             seconds: 0,
             numbered: Vec::new(),
+            times: Times::default(),
         }
     }
 
@@ -49,12 +74,17 @@ impl Board {
         self.image = Image::of(self.craft.image());
         self.frames += 1;
         self.seconds += u64::from(outcome.is_ok_and(|report| report.kind == TICK));
+        let done = outcome.is_ok_and(|report| report.answer == answer::DONE);
+        if let Some(module) = timed(frame).filter(|_| done) {
+            self.times.set(module, self.image.end(module));
+        }
         Step {
             n: self.frames,
             seconds: self.seconds,
             before,
             after: self.image,
             numbered: outcome.is_ok_and(|report| self.number(&report)),
+            times: self.times,
             outcome,
         }
     }

@@ -1,6 +1,6 @@
 //! A report in words, and what in it no board says.
 
-use crate::tables::{self, kind_of, Kind, ORDER, TICK};
+use crate::tables::{self, kind_of, Kind, ORDER, TICK, TIMED};
 use crate::words::{list, modules};
 use ems::{answer, Beacon, Mode, Report};
 
@@ -67,7 +67,10 @@ fn quarrels(report: &Report, kind: &Kind) -> Vec<String> {
     let (mode, due) = (Mode::of(report.mode), Beacon::of(report.beacon));
     let numbered = kind.is_numbered();
     let unsent = !numbered && (report.origin, report.serial) != (0, 0);
-    let not_now = report.answer == answer::NOT_NOW;
+    let (done, not_now) = (
+        report.answer == answer::DONE,
+        report.answer == answer::NOT_NOW,
+    );
     let of_a_number = matches!(report.answer, answer::REPEAT | answer::STALE);
     let both = report.on & report.failed;
     let its_mode = due.map(|due| match due {
@@ -81,12 +84,16 @@ fn quarrels(report: &Report, kind: &Kind) -> Vec<String> {
             format!("there is no origin {}", report.origin),
         ),
         (
-            of_a_number && !numbered || not_now && kind.byte != ORDER,
+            of_a_number && !numbered || not_now && ![ORDER, TIMED].contains(&kind.byte),
             "this kind has no such answer".to_string(),
         ),
         (
             not_now && mode == Some(Mode::Safe),
             "in SAFE it is never too early".to_string(),
+        ),
+        (
+            kind.byte == TIMED && done && mode.is_some() && mode != Some(Mode::Safe),
+            format!("it is not done in {}", tables::mode(report.mode)),
         ),
         (
             both != 0,

@@ -142,3 +142,26 @@ fn a_module_that_saw_a_short_is_not_spoken_of() {
         .text()
         .contains("on         of PAYLOAD, SBAND1 and SBAND2, which saw no short"));
 }
+
+/// The weaker craft loses its camera, and with it the end; on the stronger one the
+/// twenty minutes run out. A second timed order comes too early on A alone.
+#[test]
+fn timed_orders_are_among_the_same_frames() {
+    let flight = |reading: u16| {
+        format!(
+            "antennas deployed\nbattery 8000\ntick 931\norder ground 1 PAYLOAD on for 20 min\n\
+             tick 60\nbattery {reading}\ntick 60\norder ground 2 ADCS on for 1 min\n\
+             battery 8000\ntick 1200\n"
+        )
+    };
+    let ran = compared("timed", &flight(6_900), &flight(7_100)).status(0);
+    assert_eq!(ran.text().matches(": holds\n").count(), 3);
+    ran.prints("hold: 2,257 frames, the same on both but for 1 of 3 battery readings")
+        .prints(", 00:17:31: order ground 2 ADCS on for 1 min\n")
+        .prints("  answer     10 not now                  0 done\n");
+    // Other minutes are another frame.
+    let order = |minutes: u16| format!("order ground 1 PAYLOAD on for {minutes} min\n");
+    compared("minutes", &order(20), &order(21))
+        .status(3)
+        .says("the frames are not the same: `order ground 1 PAYLOAD on for 20 min` on A");
+}

@@ -93,7 +93,7 @@ fn the_readme_s_first_command_is_short() {
 
 #[test]
 fn commands_of_pass_scripts_give_what_stands_there() {
-    assert!(run_document("docs/PASS-SCRIPTS.md") >= 12);
+    assert!(run_document("docs/PASS-SCRIPTS.md") >= 19);
 }
 
 #[test]
@@ -135,7 +135,7 @@ fn the_table_of_lines_is_right() {
             rows += 1;
         }
     }
-    assert_eq!(rows, 10);
+    assert_eq!(rows, 11);
 }
 
 #[test]

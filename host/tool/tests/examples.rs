@@ -5,8 +5,12 @@ mod common;
 use common::{is_file, run, scratch};
 
 /// Each with its picture's title.
-const EXAMPLES: [(&str, &str); 5] = [
+const EXAMPLES: [(&str, &str); 6] = [
     ("dawn", "The night of the mission, as it goes now"),
+    (
+        "twenty-minutes",
+        "The night of the mission, with an order that ends",
+    ),
     ("orbit", "A day of fifteen orbits"),
     ("shorted", "Modules with a short"),
     ("sister-craft-a", "Sister craft A, the tired battery"),
@@ -63,6 +67,42 @@ fn at_dawn_the_camera_stays_off() {
     assert!(
         lines[stale..].iter().all(|line| line[7] == "27"),
         "a mission module is on"
+    );
+}
+
+/// The sentence on top of `twenty-minutes.pass`, in its log: the camera is on for
+/// twenty minutes, and off at dawn, and nobody has sent an "off".
+#[test]
+fn after_twenty_minutes_the_camera_is_off_though_nobody_said_so() {
+    let shown = run(&["show", "examples/twenty-minutes.pass"]).status(0);
+    let orders = shown
+        .text()
+        .lines()
+        .filter(|line| line.starts_with("order "));
+    assert!(orders
+        .clone()
+        .all(|line| line.starts_with("order ground 17 PAYLOAD on for 20 min")));
+    assert_eq!(orders.count(), 2);
+    let ran = run(&["log", "examples/twenty-minutes.pass"]).status(0);
+    let lines: Vec<Vec<&str>> = ran
+        .text()
+        .lines()
+        .map(|line| line.split(' ').collect())
+        .collect();
+    let orders = (0..lines.len()).filter(|&at| lines[at][1] == "06");
+    let [ordered, dawn] = orders.collect::<Vec<usize>>()[..] else {
+        panic!("two orders");
+    };
+    assert_eq!((lines[ordered][4], lines[dawn][4]), ("0", "8"));
+    let seconds = |lines: &[Vec<&str>]| lines.iter().filter(|line| line[1] == "01").count();
+    assert_eq!(seconds(&lines[ordered..dawn]), 10 * 3_600);
+    let on: Vec<usize> = (0..lines.len())
+        .filter(|&at| lines[at][7] == "37")
+        .collect();
+    assert_eq!((on[0], on.len()), (ordered + 1, 20 * 60 - 1));
+    assert!(
+        lines[ordered..].iter().all(|line| line[5] == "2"),
+        "a mode keeps the camera off"
     );
 }
 

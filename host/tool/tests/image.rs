@@ -5,22 +5,31 @@ mod common;
 
 use common::{bash, fed, place, run, scratch, Ran};
 
-/// The fresh start: version 2, waiting for no second, thresholds of 7,400 and
-/// 7,000 mV, every module off with 5 tries, the core four requested.
-const FRESH: [u8; 34] = [
-    2, 0, 0, 0, 0, 0, 0, 0, 0, 0, 0xE8, 0x1C, 0x58, 0x1B, 0, 0, 0, 0, //
+/// The fresh start: version 3, waiting for no second, thresholds of 7,400 and
+/// 7,000 mV, no end, every module off with 5 tries, the core four requested.
+const FRESH: [u8; 50] = [
+    3, 0, 0, 0, 0, 0, 0, 0, 0, 0, 0xE8, 0x1C, 0x58, 0x1B, 0, 0, 0, 0, //
+    0, 0, 0, 0, 0, 0, 0, 0, 0, 0, 0, 0, 0, 0, 0, 0, //
     5, 0x80, 5, 0x80, 5, 0x80, 5, 0, 5, 0, 5, 0x80, 5, 0, 5, 0,
 ];
 
+/// Where the ends begin, and whose they are.
+const ENDS: [(usize, &str); 4] = [
+    (18, "ADCS"),
+    (22, "PAYLOAD"),
+    (26, "SBAND1"),
+    (30, "SBAND2"),
+];
+
 /// The fresh start with other bytes from a place on.
-fn with(at: usize, bytes: &[u8]) -> [u8; 34] {
+fn with(at: usize, bytes: &[u8]) -> [u8; 50] {
     let mut image = FRESH;
     image[at..at + bytes.len()].copy_from_slice(bytes);
     image
 }
 
 /// In SAFE, with other bytes from a place on.
-fn safe_with(at: usize, bytes: &[u8]) -> [u8; 34] {
+fn safe_with(at: usize, bytes: &[u8]) -> [u8; 50] {
     let mut image = with(1, &[0x05, 0x55, 0x01]);
     image[at..at + bytes.len()].copy_from_slice(bytes);
     image
@@ -38,25 +47,29 @@ fn says(image: &[u8], line: &str) {
 #[test]
 fn every_field_is_shown_with_its_bytes() {
     let wanted = "\
-at  bytes     field     says
- 0  02        version   2
- 1  00 00 00  mode      DEPLOY_WAIT, 0 seconds waited for the antennas
- 4  00        control   0 of 30 seconds
- 5  00 00     beacon    0 of 300 seconds
- 7  00        antennas  folded
- 8  00 00     tension   no reading yet
-10  E8 1C     ascend    7,400 mV
-12  58 1B     descend   7,000 mV
-14  00 00     ground    last number 0
-16  00 00     payload   last number 0
-18  05 80     MCS       off, 5 tries left, requested
-20  05 80     COMM1     off, 5 tries left, requested
-22  05 80     COMM2     off, 5 tries left, requested
-24  05 00     ADCS      off, 5 tries left, not requested
-26  05 00     PAYLOAD   off, 5 tries left, not requested
-28  05 80     I2C       off, 5 tries left, requested
-30  05 00     SBAND1    off, 5 tries left, not requested
-32  05 00     SBAND2    off, 5 tries left, not requested
+at  bytes        field          says
+ 0  03           version        3
+ 1  00 00 00     mode           DEPLOY_WAIT, 0 seconds waited for the antennas
+ 4  00           control        0 of 30 seconds
+ 5  00 00        beacon         0 of 300 seconds
+ 7  00           antennas       folded
+ 8  00 00        tension        no reading yet
+10  E8 1C        ascend         7,400 mV
+12  58 1B        descend        7,000 mV
+14  00 00        ground         last number 0
+16  00 00        payload        last number 0
+18  00 00 00 00  ADCS's end     none
+22  00 00 00 00  PAYLOAD's end  none
+26  00 00 00 00  SBAND1's end   none
+30  00 00 00 00  SBAND2's end   none
+34  05 80        MCS            off, 5 tries left, requested
+36  05 80        COMM1          off, 5 tries left, requested
+38  05 80        COMM2          off, 5 tries left, requested
+40  05 00        ADCS           off, 5 tries left, not requested
+42  05 00        PAYLOAD        off, 5 tries left, not requested
+44  05 80        I2C            off, 5 tries left, requested
+46  05 00        SBAND1         off, 5 tries left, not requested
+48  05 00        SBAND2         off, 5 tries left, not requested
 ";
     assert_eq!(shown(&FRESH).status(0).text(), wanted);
     let file = scratch("saved.bin", FRESH);
@@ -68,7 +81,7 @@ fn every_number_is_put_in_words() {
     let mode = |number: u32, said: &str| {
         let bytes = number.to_le_bytes();
         let line = format!(
-            " 1  {:02X} {:02X} {:02X}  mode      {said}",
+            " 1  {:02X} {:02X} {:02X}     mode           {said}",
             bytes[0], bytes[1], bytes[2]
         );
         says(&with(1, &bytes[..3]), &line);
@@ -84,8 +97,8 @@ fn every_number_is_put_in_words() {
     mode(87_301, "SAFE");
     let module = |number: u16, said: &str| {
         let [low, high] = number.to_le_bytes();
-        let line = format!("32  {low:02X} {high:02X}     SBAND2    {said}");
-        says(&with(32, &[low, high]), &line);
+        let line = format!("48  {low:02X} {high:02X}        SBAND2         {said}");
+        says(&with(48, &[low, high]), &line);
     };
     module(0, "on, not requested");
     module(32_768, "on, requested");
@@ -93,27 +106,39 @@ fn every_number_is_put_in_words() {
     module(32_768 + 5, "off, 5 tries left, requested");
     module(6, "failed, 0 seconds left, not requested");
     module(32_768 + 606, "failed, 600 seconds left, requested");
+    for (at, module) in ENDS {
+        let name = format!("{module}'s end");
+        let end = |bytes: [u8; 4], hex: &str, said: &str| {
+            says(&with(at, &bytes), &format!("{at}  {hex}  {name:14} {said}"));
+        };
+        end([1, 0, 0, 0], "01 00 00 00", "in 1 second");
+        end([0xB0, 4, 0, 0], "B0 04 00 00", "in 1,200 seconds");
+        end([0x80, 0x51, 1, 0], "80 51 01 00", "in 86,400 seconds");
+    }
     says(
         &safe_with(4, &[29]),
-        " 4  1D        control   29 of 30 seconds",
+        " 4  1D           control        29 of 30 seconds",
     );
     says(
         &safe_with(5, &[0x2B, 1]),
-        " 5  2B 01     beacon    299 of 300 seconds",
+        " 5  2B 01        beacon         299 of 300 seconds",
     );
-    says(&with(7, &[1]), " 7  01        antennas  deployed");
-    says(&with(8, &[0x28, 0x23]), " 8  28 23     tension   9,000 mV");
+    says(&with(7, &[1]), " 7  01           antennas       deployed");
+    says(
+        &with(8, &[0x28, 0x23]),
+        " 8  28 23        tension        9,000 mV",
+    );
     says(
         &with(10, &[0x88, 0x13, 0x88, 0x13]),
-        "12  88 13     descend   5,000 mV",
+        "12  88 13        descend        5,000 mV",
     );
     says(
         &with(14, &[0xFF, 0xFF]),
-        "14  FF FF     ground    last number 65535",
+        "14  FF FF        ground         last number 65535",
     );
     says(
         &with(16, &[3, 1]),
-        "16  03 01     payload   last number 259",
+        "16  03 01        payload        last number 259",
     );
 }
 
@@ -121,12 +146,12 @@ fn every_number_is_put_in_words() {
 fn bytes_that_are_no_image_are_told_why() {
     let wrong = |image: &[u8], why: &str| {
         let ran = shown(image).status(1);
-        assert_eq!(ran.text().lines().count(), 19, "{}", ran.text());
+        assert_eq!(ran.text().lines().count(), 23, "{}", ran.text());
         ran.says(&format!(
             "ems: standard input: no state has this image: {why}\n"
         ));
     };
-    wrong(&with(0, &[1]), "version is 1, not 2");
+    wrong(&with(0, &[2]), "version is 2, not 3");
     wrong(
         &with(1, &[0x06, 0x55, 0x01]),
         "mode is 87,302, not 0 to 87,301",
@@ -153,15 +178,25 @@ fn bytes_that_are_no_image_are_told_why() {
         "descend is 4,999, not 5,000 to 9,000",
     );
     wrong(&with(12, &[0xE9, 0x1C]), "descend is 7,401, above ascend");
+    for (at, module) in ENDS {
+        wrong(
+            &with(at, &[0x81, 0x51, 1, 0]),
+            &format!("{module}'s end is 86,401, not 0 to 86,400"),
+        );
+        wrong(
+            &with(at, &[0, 0, 0, 0x80]),
+            &format!("{module}'s end is 2,147,483,648, not 0 to 86,400"),
+        );
+    }
     let module = "not 0 to 606, nor so much and 32,768";
-    wrong(&with(18, &[0x5F, 0x02]), &format!("MCS is 607, {module}"));
+    wrong(&with(34, &[0x5F, 0x02]), &format!("MCS is 607, {module}"));
     wrong(
-        &with(32, &[0x5F, 0x82]),
+        &with(48, &[0x5F, 0x82]),
         &format!("SBAND2 is 33,375, {module}"),
     );
     shown(&with(7, &[2]))
         .status(1)
-        .prints(" 7  02        antennas  2, which no state has\n");
+        .prints(" 7  02           antennas       2, which no state has\n");
     // All that is wrong is said.
     let ran = shown(&with(7, &[2, 1, 0])).status(1);
     assert_eq!(ran.err.lines().count(), 2, "{}", ran.err);
@@ -169,8 +204,8 @@ fn bytes_that_are_no_image_are_told_why() {
 
 #[test]
 fn other_lengths_are_no_image() {
-    for length in [0, 1, 33, 35, 53] {
-        let bytes = vec![2; length];
+    for length in [0, 1, 34, 46, 49, 51] {
+        let bytes = vec![3; length];
         let said = if length == 1 {
             "1 byte".to_string()
         } else {
@@ -178,7 +213,7 @@ fn other_lengths_are_no_image() {
         };
         shown(&bytes)
             .status(1)
-            .says(&format!("standard input has {said}, and an image has 34\n"));
+            .says(&format!("standard input has {said}, and an image has 50\n"));
     }
 }
 
@@ -204,9 +239,9 @@ fn an_image_can_be_written_in_hex() {
             .status(1)
             .says(why);
     };
-    wrong("02 0", "standard input: the last byte has one digit");
-    wrong("02 0x", "standard input: `x` is no hexadecimal digit");
-    wrong("02 00", "standard input has 2 bytes, and an image has 34");
+    wrong("03 0", "standard input: the last byte has one digit");
+    wrong("03 0x", "standard input: `x` is no hexadecimal digit");
+    wrong("03 00", "standard input has 2 bytes, and an image has 50");
 }
 
 #[test]
@@ -215,17 +250,19 @@ fn a_flight_ends_with_an_image() {
     let ran = run(&["image", "--after", &fresh]).status(0);
     assert_eq!(ran.text(), shown(&FRESH).status(0).text());
     let flight = "antennas deployed\nbattery 7800\ntick 931\norder ground 16 PAYLOAD on\n\
-                  order payload 3 PAYLOAD on\ntick 20\ntick 3 shorts PAYLOAD\n";
+                  order payload 3 PAYLOAD on for 20 min\ntick 20\ntick 3 shorts PAYLOAD\n";
     let file = scratch("flown.pass", flight);
     let ran = run(&["image", "--after", &file]).status(0);
     for line in [
-        " 1  05 55 01  mode      SAFE\n",
-        " 4  17        control   23 of 30 seconds\n",
-        " 8  78 1E     tension   7,800 mV\n",
-        "14  10 00     ground    last number 16\n",
-        "16  03 00     payload   last number 3\n",
-        "18  00 80     MCS       on, requested\n",
-        "26  03 80     PAYLOAD   off, 3 tries left, requested\n",
+        " 1  05 55 01     mode           SAFE\n",
+        " 4  17           control        23 of 30 seconds\n",
+        " 8  78 1E        tension        7,800 mV\n",
+        "14  10 00        ground         last number 16\n",
+        "16  03 00        payload        last number 3\n",
+        "18  00 00 00 00  ADCS's end     none\n",
+        "22  99 04 00 00  PAYLOAD's end  in 1,177 seconds\n",
+        "34  00 80        MCS            on, requested\n",
+        "42  03 80        PAYLOAD        off, 3 tries left, requested\n",
     ] {
         assert!(ran.text().contains(line), "{} lacks {line}", ran.text());
     }
@@ -250,10 +287,10 @@ fn a_flight_that_is_refused_ends_with_an_image_too() {
     let file = scratch("refused.pass", "battery 7800\nbattery 1\nbattery 7900\n");
     let image = |more: &[&str]| run(&[&["image", "--after", &file], more].concat()).status(2);
     image(&[])
-        .prints("tension   7,800 mV\n")
+        .prints("tension        7,800 mV\n")
         .says("`battery 1`, is refused: 6");
     image(&["--keep-going"])
-        .prints("tension   7,900 mV\n")
+        .prints("tension        7,900 mV\n")
         .says("`battery 1`, is refused: 6");
 }
 
@@ -271,5 +308,5 @@ fn an_image_or_a_flight_and_not_both() {
     }
     bash("$ems image examples/dawn.pass")
         .status(1)
-        .says(" bytes, and an image has 34");
+        .says(" bytes, and an image has 50");
 }

@@ -262,3 +262,192 @@ fn a_number_that_nobody_sent_is_no_order_of_anybody() {
         "8, 0 is a repeat of ground's last number: nothing moved\n",
     );
 }
+
+/// In SAFE, at 00:15:31, with PAYLOAD on for 20 minutes.
+const TIMED: &str =
+    "antennas deployed\nbattery 7800\ntick 931\norder ground 17 PAYLOAD on for 20 min\n";
+
+/// What an explanation says of what follows on a timed order.
+fn then(script: &str, line: &str) {
+    explained(&format!("{TIMED}{script}"), line);
+}
+
+#[test]
+fn a_timed_order_is_told_with_its_minutes() {
+    then(
+        "",
+        "order ground 17 PAYLOAD on for 20 min: done, PAYLOAD requested on for 20 minutes\n",
+    );
+    then(
+        "order ground 18 ADCS on for 1 min\n",
+        "order ground 18 ADCS on for 1 min: done, ADCS requested on for 1 minute\n",
+    );
+    then(
+        "order ground 18 SBAND1 on\norder ground 19 SBAND1 on for 1440 min\n",
+        "order ground 19 SBAND1 on for 1440 min: done, SBAND1's end is set: in 1,440 minutes\n",
+    );
+    then(
+        "order ground 17 PAYLOAD on for 5 min\n",
+        "on for 5 min: 8, 17 is a repeat of ground's last number: nothing moved\n",
+    );
+    then(
+        "order ground 16 PAYLOAD on for 5 min\n",
+        "on for 5 min: 9, 16 is stale, ground's last number was 17: nothing moved\n",
+    );
+}
+
+#[test]
+fn an_end_that_comes_is_told_with_the_minutes_that_were_ordered() {
+    // 1,200 seconds on, and not one fewer.
+    then(
+        "tick 1200\n",
+        "00:35:30      2,133  1,198 ticks, frames 936 to 2,133: nothing changed; \
+         20 complete beacons, the last EMS S 7800 37 00\n\
+         00:35:31      2,134  tick: PAYLOAD's 20 minutes are over: requested off; PAYLOAD off\n",
+    );
+    then(
+        "order ground 18 PAYLOAD on for 1 min\ntick 60\n",
+        "00:16:31        995  tick: PAYLOAD's 1 minute is over: requested off; PAYLOAD off",
+    );
+    let day = "order ground 18 PAYLOAD off\norder ground 19 SBAND2 on for 1440 min\ntick 86400\n";
+    then(
+        day,
+        "24:15:31     87,336  tick: SBAND2's 1,440 minutes are over: requested off; SBAND2 off",
+    );
+    // Two at once.
+    then(
+        "order ground 18 ADCS on for 20 min\ntick 1200\n",
+        "tick: ADCS's 20 minutes are over: requested off; \
+         PAYLOAD's 20 minutes are over: requested off; ADCS and PAYLOAD off",
+    );
+}
+
+/// Ten minutes before the end, another ten are ordered: the board is as it was, and
+/// they are the ten that are over.
+#[test]
+fn a_timed_order_that_moves_no_end_is_still_the_last_one() {
+    then(
+        "tick 600\norder payload 1 PAYLOAD on for 10 min\ntick 600\n",
+        "order payload 1 PAYLOAD on for 10 min: done, nothing changed\n",
+    );
+    then(
+        "tick 600\norder payload 1 PAYLOAD on for 10 min\ntick 600\n",
+        "00:35:31      2,135  tick: PAYLOAD's 10 minutes are over: requested off; PAYLOAD off",
+    );
+}
+
+#[test]
+fn an_end_that_is_moved_or_dropped_is_told_and_never_comes() {
+    then(
+        "tick 60\norder payload 1 PAYLOAD on for 30 min\ntick 1800\n",
+        "order payload 1 PAYLOAD on for 30 min: done, PAYLOAD's end is moved: in 30 minutes\n",
+    );
+    then(
+        "tick 60\norder payload 1 PAYLOAD on for 30 min\ntick 1800\n",
+        "00:46:31      2,795  tick: PAYLOAD's 30 minutes are over: requested off; PAYLOAD off",
+    );
+    let never = |script: &str, line: &str| {
+        let script = format!("{TIMED}{script}tick 90000\n");
+        let ran = fed(
+            &["log", "--explain", "--as", "script", "-"],
+            script.as_bytes(),
+        );
+        let ran = ran.status(0).prints(line);
+        assert!(!ran.text().contains("over: requested"), "{}", ran.text());
+    };
+    never(
+        "tick 60\norder ground 18 PAYLOAD on\n",
+        "order ground 18 PAYLOAD on: done, PAYLOAD's end is dropped\n",
+    );
+    never(
+        "tick 60\norder ground 18 PAYLOAD off\n",
+        "order ground 18 PAYLOAD off: done, PAYLOAD requested off; PAYLOAD's end is dropped\n",
+    );
+    let down = "tick: SAFE to RECOVERY, tension 6,900 mV below descend 7,000 mV; ";
+    never(
+        "tick 60\nbattery 6900\ntick 30\nbattery 7800\n",
+        &format!("{down}PAYLOAD requested off; PAYLOAD's end is dropped; PAYLOAD off\n"),
+    );
+    never(
+        "order ground 18 ADCS on for 30 min\norder ground 19 SBAND1 on\nbattery 6900\ntick 30\n",
+        &format!(
+            "{down}ADCS, PAYLOAD and SBAND1 requested off; the ends of ADCS and PAYLOAD are \
+             dropped; ADCS, PAYLOAD and SBAND1 off\n"
+        ),
+    );
+}
+
+/// The 1,200th tick is also the one that judges: the end comes before the crossing.
+#[test]
+fn an_end_that_comes_in_the_tick_of_a_crossing_is_told_first() {
+    then(
+        "order ground 18 ADCS on for 21 min\ntick 1199\nbattery 6900\ntick\n",
+        "00:35:31      2,136  tick: PAYLOAD's 20 minutes are over: requested off; \
+         SAFE to RECOVERY, tension 6,900 mV below descend 7,000 mV; ADCS requested off; \
+         ADCS's end is dropped; ADCS and PAYLOAD off",
+    );
+}
+
+/// It shorts at every start: its five tries are spent at once, and so is the one
+/// after ten minutes. Nothing is tried once its time is over.
+#[test]
+fn a_module_that_has_failed_as_its_end_comes_stays_failed() {
+    let script = format!("{TIMED}tick 3000 shorts PAYLOAD\n");
+    let ran = fed(
+        &["log", "--explain", "--as", "script", "-"],
+        script.as_bytes(),
+    );
+    let ran = ran
+        .status(0)
+        .prints("00:15:36        939  tick shorts PAYLOAD: PAYLOAD failed, 600 seconds to wait\n")
+        .prints("00:25:37      1,540  tick shorts PAYLOAD: PAYLOAD shorted at its start, 600 seconds to wait\n")
+        .prints("00:35:31      2,134  tick shorts PAYLOAD: PAYLOAD's 20 minutes are over: requested off\n");
+    let after: Vec<&str> = ran
+        .text()
+        .lines()
+        .skip_while(|line| !line.contains("are over"))
+        .collect();
+    assert_eq!(after.len(), 2, "{after:?}");
+    assert!(after[1].contains(": nothing changed; 30 complete beacons, the last EMS S 7800 27 10"));
+}
+
+#[test]
+fn a_timed_order_outside_safe_is_used_up_and_sets_no_end() {
+    explained(
+        "order ground 1 ADCS on for 20 min\n",
+        "10, ADCS is not switched on in DEPLOY_WAIT; 1 is used up\n",
+    );
+    then(
+        "battery 6900\ntick 30\norder ground 18 PAYLOAD on for 20 min\n",
+        "10, PAYLOAD is not switched on in RECOVERY; 18 is used up\n",
+    );
+}
+
+#[test]
+fn minutes_that_no_board_takes_are_refused() {
+    let refused = |bytes: &str, number: u8| {
+        let script = format!("{TIMED}raw {bytes}\n");
+        let ran = fed(
+            &["log", "--explain", "--as", "script", "-"],
+            script.as_bytes(),
+        );
+        ran.status(2)
+            .says(&format!("frame 935, `raw {bytes}`, is refused: {number}, "));
+    };
+    refused("06 01 00 12 04 00 00", 6);
+    refused("06 01 00 12 04 05 A1", 6);
+    refused("06 01 00 12 04 05", 5);
+    for (sent, number) in [
+        ("order ground 18 0 on for 20 min", 6),
+        ("order payload 1 5 on for 20 min", 6),
+        ("order payload 1 ADCS on for 20 min", 7),
+    ] {
+        let script = format!("{TIMED}{sent}\n");
+        let ran = fed(
+            &["log", "--explain", "--as", "script", "-"],
+            script.as_bytes(),
+        );
+        ran.status(2)
+            .says(&format!("frame 935, `{sent}`, is refused: {number}, "));
+    }
+}

@@ -139,7 +139,13 @@ fn orders_without_a_number_keep_their_shape() {
 
 #[test]
 fn every_mark_and_bar_says_what_it_is() {
-    for script in ["dawn", "orbit", "shorted", "sister-craft-a"] {
+    for script in [
+        "dawn",
+        "orbit",
+        "shorted",
+        "sister-craft-a",
+        "twenty-minutes",
+    ] {
         let ran = run(&["plot", &format!("examples/{script}.pass"), "-o", "-"]).status(0);
         let picture = Picture::read(ran.text());
         let behind = ["wait-light", "low-light"];
@@ -375,6 +381,181 @@ fn shorts_and_tries_left_are_seen_in_a_day() {
     let left = picture.one("PAYLOAD tries left: 4 and 3, 11:22:43 to 16:56:05");
     assert_eq!(left.text, "3");
     assert!((left.left - x(&picture, 40_963.0, 86_400.0)).abs() < 0.5);
+}
+
+/// The corners of the wedges that are about something, each as left, top left, right
+/// and top right over the bottom.
+fn wedge(picture: &Picture, about: &str) -> [f64; 4] {
+    let one = picture.one(about);
+    assert_eq!((one.element.as_str(), one.class.as_str()), ("path", "box"));
+    let numbers: Vec<f64> = one
+        .path
+        .split(|c: char| c.is_ascii_alphabetic() || c == ' ')
+        .filter_map(|number| number.parse().ok())
+        .collect();
+    let [x, bottom, _, begin, end_x, end, _, _] = numbers[..] else {
+        panic!("{numbers:?} are no four corners");
+    };
+    [x, bottom - begin, end_x, bottom - end]
+}
+
+/// Twenty minutes of an hour, from 1,200 seconds on.
+const TIMED: &str =
+    "antennas deployed\nbattery 7800\ntick 1200\norder ground 1 PAYLOAD on for 20 min\n";
+
+/// Whether numbers are the same, to half a unit.
+fn near(a: f64, b: f64) -> bool {
+    (a - b).abs() < 0.5
+}
+
+#[test]
+fn a_running_end_is_a_wedge_down_to_where_it_comes() {
+    let picture = drawn(&format!("{TIMED}tick 2400\n"));
+    let about = "PAYLOAD's end at 00:40:00, running 00:20:00 to 00:40:00";
+    let [left, tall, right, none] = wedge(&picture, about);
+    assert!(
+        near(left, x(&picture, 1_200.0, 3_600.0)) && near(right, x(&picture, 2_400.0, 3_600.0))
+    );
+    assert!(tall > 6.0 && none == 0.0, "{tall} to {none}");
+    // It stands under the bar of its module, and the bar ends with it.
+    let requested = picture.one("PAYLOAD requested, 00:20:00 to 00:40:00");
+    let end = picture.one(about);
+    assert!(near(requested.left, left) && near(requested.right, right));
+    assert!(requested.bottom < end.top && end.top < requested.bottom + 10.0);
+    let below = picture.one("I2C requested");
+    assert!(end.bottom < below.top);
+    assert!(picture.says("time left") && picture.says("order ground 1 PAYLOAD on for 20 min"));
+}
+
+#[test]
+fn an_end_that_is_dropped_or_moved_is_a_wedge_that_is_cut_off() {
+    let about = "PAYLOAD's end at 00:40:00, running 00:20:00 to 00:30:00";
+    let half = |script: &str| -> Picture {
+        let picture = drawn(&format!("{TIMED}tick 600\n{script}tick 1800\n"));
+        let [left, tall, right, rest] = wedge(&picture, about);
+        assert!(near(left, x(&picture, 1_200.0, 3_600.0)));
+        assert!(near(right, x(&picture, 1_800.0, 3_600.0)));
+        assert!((rest - tall / 2.0).abs() < 0.11, "{tall} to {rest}");
+        picture
+    };
+    let picture = half("order ground 2 PAYLOAD on\n");
+    assert_eq!(picture.about("PAYLOAD's end").len(), 1);
+    picture.one("PAYLOAD requested, 00:20:00 to 01:00:00");
+    let picture = half("order ground 2 PAYLOAD off\n");
+    assert_eq!(picture.about("PAYLOAD's end").len(), 1);
+    picture.one("PAYLOAD requested, 00:20:00 to 00:30:00");
+    let picture = half("order payload 2 PAYLOAD on for 30 min\n");
+    let [left, tall, right, none] = wedge(
+        &picture,
+        "PAYLOAD's end at 01:00:00, running 00:30:00 to 01:00:00",
+    );
+    assert!(
+        near(left, x(&picture, 1_800.0, 3_600.0)) && near(right, x(&picture, 3_600.0, 3_600.0))
+    );
+    assert!(tall > 6.0 && none == 0.0);
+    picture.one("PAYLOAD requested, 00:20:00 to 01:00:00");
+    // A crossing down drops them all; 1,801 is the second that judges.
+    let script = "order ground 2 ADCS on for 1440 min\ntick 600\nbattery 6000\ntick 3000\n";
+    let picture = drawn(&format!("{TIMED}{script}"));
+    let [_, tall, _, rest] = wedge(
+        &picture,
+        "PAYLOAD's end at 00:40:00, running 00:20:00 to 00:30:01",
+    );
+    assert!((rest - tall / 2.0).abs() < 0.11);
+    let [_, tall, _, rest] = wedge(
+        &picture,
+        "ADCS's end at 24:20:00, running 00:20:00 to 00:30:01",
+    );
+    assert!(rest > 0.9 * tall && rest <= tall);
+}
+
+#[test]
+fn the_end_of_a_failed_module_runs_on() {
+    let picture = drawn(&format!("{TIMED}tick 2400 shorts PAYLOAD\n"));
+    wedge(
+        &picture,
+        "PAYLOAD's end at 00:40:00, running 00:20:00 to 00:40:00",
+    );
+    let failed = picture.one("PAYLOAD failed, 00:20:05 to 01:00:00");
+    assert!(failed.right > picture.one("PAYLOAD requested").right);
+    let (end, short) = (picture.one("PAYLOAD's end"), picture.one("PAYLOAD short"));
+    assert!(end.bottom <= short.top, "the two are in rows of their own");
+}
+
+#[test]
+fn time_left_is_in_the_legend_only_where_an_end_is_running() {
+    // Ordered on without an end, too early, and as a repeat.
+    let plain = "order ground 1 PAYLOAD on\ntick\norder ground 1 ADCS on for 20 min\n";
+    for script in [
+        format!("{SAFE}{plain}tick 60\n"),
+        format!("order ground 1 PAYLOAD on for 20 min\n{SAFE}"),
+    ] {
+        let picture = drawn(&script);
+        assert!(!picture.says("time left") && picture.about("'s end").is_empty());
+    }
+    // Of a flight in parts, the one in which it runs.
+    let script = format!("{TIMED}tick 2400\n");
+    for (from, to, seen) in [
+        ("0", "19m", false),
+        ("30m", "35m", true),
+        ("41m", "1h", false),
+    ] {
+        let picture = drawn_with(&script, &["--from", from, "--to", to]);
+        assert_eq!(picture.says("time left"), seen, "{from} to {to}");
+        assert_eq!(picture.about("PAYLOAD's end").len(), usize::from(seen));
+    }
+    // What is seen of it is as tall as the time that is left there.
+    let picture = drawn_with(&script, &["--from", "30m", "--to", "35m"]);
+    let [_, begin, _, end] = wedge(&picture, "PAYLOAD's end");
+    assert!(
+        (begin - 4.0).abs() < 0.11 && (end - 2.0).abs() < 0.11,
+        "{begin} to {end}"
+    );
+}
+
+/// Of a day, one minute is seen; and thousands of them are a small picture.
+#[test]
+fn short_ends_are_seen_in_long_flights() {
+    let picture = drawn(&format!(
+        "{SAFE}order ground 1 SBAND1 on for 1 min\ntick 85439\n"
+    ));
+    let end = picture.one("SBAND1's end at 00:17:01, running 00:16:01 to 00:17:01");
+    assert!(end.width() >= 3.9 && end.height() > 6.0, "{end:?}");
+    let minutes = (1..=5_000).map(|n| format!("order ground {n} SBAND1 on for 1 min\ntick 90\n"));
+    let file = scratch(
+        "ends.pass",
+        format!("{SAFE}{}", minutes.collect::<String>()),
+    );
+    let ran = run(&["plot", &file, "-o", "-"]).status(0);
+    assert!(ran.out.len() < 150_000, "{} bytes", ran.out.len());
+    let picture = Picture::read(ran.text());
+    let ends = picture.about("SBAND1's end set ");
+    assert!(ends.len() > 50 && ends.len() < 250, "{}", ends.len());
+    assert!(ends
+        .iter()
+        .all(|one| one.about.contains(" times, the last at ")));
+    is_framed("many ends", &picture);
+    // But for the last, which stays within the panels.
+    for pair in ends[..ends.len() - 1].windows(2) {
+        assert!(pair[0].right <= pair[1].left + 0.2, "{pair:?}");
+    }
+}
+
+/// An order of minutes has room in the list, beside every answer.
+#[test]
+fn timed_orders_are_listed_whole() {
+    let few = "order payload 65535 PAYLOAD on for 1440 min";
+    let picture = drawn(&format!("{SAFE}{few}\n"));
+    assert!(picture.says(few));
+    let many = (1..=20).map(|n| format!("order payload {n} PAYLOAD on for 1440 min\ntick 100\n"));
+    let picture = drawn(&format!("{SAFE}tick 400000\n{}", many.collect::<String>()));
+    for n in 1..=20 {
+        assert!(
+            picture.says(&format!("order payload {n} PAYLOAD on for 1440 min")),
+            "{n}"
+        );
+    }
+    is_framed("many timed orders", &picture);
 }
 
 #[test]

@@ -36,6 +36,18 @@ fn each_kind_of_line_sends_its_bytes() {
         bytes("thresholds ground 18 7400 7000"),
         [5, 1, 0, 18, 0x1C, 0xE8, 0x1B, 0x58]
     );
+    assert_eq!(
+        bytes("order ground 17 PAYLOAD on for 20 min"),
+        [6, 1, 0, 17, 4, 0, 20]
+    );
+    assert_eq!(
+        bytes("ORDER Payload 65535 sband2 On For 1440 Min # a day"),
+        [6, 2, 0xFF, 0xFF, 7, 5, 0xA0]
+    );
+    assert_eq!(
+        bytes("order ground 1 ADCS on for 1 min"),
+        [6, 1, 0, 1, 3, 0, 1]
+    );
     assert_eq!(bytes("raw 04 01 00 fF"), [4, 1, 0, 0xFF]);
     assert_eq!(bytes("\n  # a comment\n\ttick # and one\r\n"), [1, 0]);
     assert_eq!(bytes(""), []);
@@ -47,6 +59,7 @@ fn what_the_board_refuses_can_be_sent() {
     assert_eq!(bytes("antennas 2"), [3, 2]);
     assert_eq!(bytes("order 3 1 8 2"), [4, 3, 0, 1, 8, 2]);
     assert_eq!(bytes("order payload 1 MCS on"), [4, 2, 0, 1, 0, 1]);
+    assert_eq!(bytes("order 3 1 0 on for 20 min"), [6, 3, 0, 1, 0, 0, 20]);
 }
 
 #[test]
@@ -108,7 +121,7 @@ fn each_mistake_says_what_was_expected() {
     );
     said(
         "order ground 1 MCS on on",
-        ":1:23: expected the end of the line",
+        ":1:23: expected for or the end of the line",
     );
     said(
         "thresholds ground 1 7400",
@@ -117,6 +130,60 @@ fn each_mistake_says_what_was_expected() {
     said("raw", ":1:5: expected a byte: two hexadecimal digits");
     said("raw 04 1", ":1:8: expected a byte: two hexadecimal digits");
     said("raw 04 +1", ":1:8: expected a byte");
+}
+
+/// Minutes are 1 to 1,440, for one of the mission four, and "on".
+#[test]
+fn a_timed_order_that_no_board_takes_is_a_mistake() {
+    let said = |words: &str, where_and_what: &str| {
+        let mistakes = mistakes(&format!("order ground 17 {words}"));
+        assert!(mistakes.contains(where_and_what), "{mistakes}");
+    };
+    let minutes = ":1:32: expected minutes: a number 1 to 1,440\n";
+    for wrong in [
+        "0", "1441", "65536", "+20", "1,440", "twenty", "20min", "min",
+    ] {
+        said(&format!("PAYLOAD on for {wrong} min"), minutes);
+    }
+    said("PAYLOAD on for", minutes);
+    let module = "expected module: ADCS, PAYLOAD, SBAND1, SBAND2, or a number 0 to 255\n";
+    for core in ["MCS", "COMM1", "COMM2", "I2C", "CAMERA"] {
+        said(
+            &format!("{core} on for 20 min"),
+            &format!(":1:17: {module}"),
+        );
+    }
+    let on = ":1:25: expected on, as in `on for 20 min`\n";
+    for wanted in ["off", "1", "for"] {
+        said(&format!("PAYLOAD {wanted} for 20 min"), on);
+    }
+    let min = "expected min, as in `on for 20 min`\n";
+    said("PAYLOAD on for 20", &format!(":1:35: {min}"));
+    said("PAYLOAD on for 20 s", &format!(":1:35: {min}"));
+    said("PAYLOAD on for 20 minutes", &format!(":1:35: {min}"));
+    said(
+        "PAYLOAD on for 20 min 30",
+        ":1:39: expected the end of the line\n",
+    );
+    said(
+        "PAYLOAD on 20 min",
+        ":1:28: expected for or the end of the line\n",
+    );
+    said(
+        "PAYLOAD on until for 20 min",
+        ":1:28: expected for, as in `on for 20 min`\n",
+    );
+    // Nobody orders battery readings for a time.
+    let battery = mistakes("battery 7800 for 20 min");
+    assert!(
+        battery.contains(":1:14: expected the end of the line\n"),
+        "{battery}"
+    );
+    // A comment says what it likes.
+    assert_eq!(
+        bytes("order ground 1 MCS on # for a day"),
+        [4, 1, 0, 1, 0, 1]
+    );
 }
 
 #[test]

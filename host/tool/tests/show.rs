@@ -31,11 +31,56 @@ raw 04 01                               # 00000B  refused: 5, the length is not 
     assert_eq!(ran.status(0).text(), wanted);
 }
 
+/// What no line of words sends is shown as bytes.
+#[test]
+fn a_timed_order_is_shown_in_words() {
+    let shown = |bytes: &[u8], line: &str| {
+        let ran = fed(&["show", "-"], bytes).status(0);
+        assert_eq!(ran.text(), format!("{line}\n"));
+        assert_eq!(
+            fed(&["frames", "-", "-o", "-"], &ran.out).status(0).out,
+            bytes
+        );
+    };
+    let refused = "refused: 6, a field is outside its range, or descend is above ascend";
+    shown(
+        b"\x06\x01\x00\x11\x04\x00\x14",
+        "order ground 17 PAYLOAD on for 20 min   # 000000",
+    );
+    shown(
+        b"\x06\x02\xFF\xFF\x04\x05\xA0",
+        "order payload 65535 PAYLOAD on for 1440 min # 000000",
+    );
+    shown(
+        b"\x06\x01\x00\x11\x00\x00\x14",
+        &format!("order ground 17 0 on for 20 min         # 000000  {refused}"),
+    );
+    shown(
+        b"\x06\x02\x00\x01\x03\x00\x14",
+        "order payload 1 ADCS on for 20 min      # 000000  \
+         refused: 7, the payload asks for what only the ground may",
+    );
+    shown(
+        b"\x06\x01\x00\x11\x04\x00\x00",
+        &format!("raw 06 01 00 11 04 00 00                # 000000  {refused}"),
+    );
+    shown(
+        b"\x06\x01\x00\x11\x04\x05\xA1",
+        &format!("raw 06 01 00 11 04 05 A1                # 000000  {refused}"),
+    );
+}
+
 #[test]
 fn a_report_is_shown_in_words() {
     let report = b"\x81\x04\x01\x00\x11\x08\x02\x27\x27\x00\x00";
     let ran = fed(&["show", "-"], report).status(0);
     let words = "a report: order ground 17: 8 repeat; SAFE; requested 27 MCS,COMM1,COMM2,I2C;";
+    assert!(ran.text().contains(words), "{}", ran.text());
+    assert!(!ran.text().contains("no board"), "{}", ran.text());
+    let report = b"\x81\x06\x01\x00\x11\x00\x02\x37\x27\x00\x00";
+    let ran = fed(&["show", "-"], report).status(0);
+    let words =
+        "a report: timed order ground 17: 0 done; SAFE; requested 37 MCS,COMM1,COMM2,PAYLOAD,I2C;";
     assert!(ran.text().contains(words), "{}", ran.text());
     assert!(!ran.text().contains("no board"), "{}", ran.text());
 }
@@ -71,6 +116,15 @@ fn a_report_that_no_board_sends_is_marked() {
         [5, 1, 0, 1, 10, 1, 0, 0, 0, 0],
         "this kind has no such answer",
     );
+    marked(
+        [6, 1, 0, 1, 10, 2, 0, 0, 0, 0],
+        "in SAFE it is never too early",
+    );
+    marked(
+        [6, 1, 0, 1, 0, 1, 0x37, 0, 0, 0],
+        "it is not done in RECOVERY",
+    );
+    marked([6, 0, 0, 1, 8, 1, 0, 0, 0, 0], "there is no origin 0");
     marked(
         [2, 0, 0, 0, 0, 2, 0, 0, 0, 2],
         "only a tick makes a beacon due",

@@ -16,7 +16,11 @@ use model::State;
 pub fn of(sides: &[Calls; 2], rng: &mut Rng, maker: Maker, calls: u64) -> Verdict {
     let mut made = 0;
     while made < calls {
+        let state = images::state(rng);
         let mut stream = Stream::new(maker);
+        if rng.once_in(2) {
+            stream = stream.after(state.last);
+        }
         let frames = rng.pick(&[1, 10, 100, 2_000]);
         let mut shots: Vec<Shot> = (0..frames).map(|_| stream.next(rng)).collect();
         let start = if rng.once_in(3) {
@@ -26,7 +30,7 @@ pub fn of(sides: &[Calls; 2], rng: &mut Rng, maker: Maker, calls: u64) -> Verdic
             }
             image::save(&State::fresh()).to_vec()
         } else {
-            images::good(rng)
+            image::save(&state).to_vec()
         };
         let (steps, end) = fly(sides, &start, shots)?;
         made += steps + beacons(sides, rng, &end)?;
@@ -67,7 +71,7 @@ pub fn rooms(sides: &[Calls; 2], rng: &mut Rng) -> Verdict {
 }
 
 /// Every serial against lasts around the wrap and the halfway point, of both
-/// origins and both kinds that carry one.
+/// origins and all kinds that carry one.
 pub fn serials(sides: &[Calls; 2], rng: &mut Rng) -> Verdict {
     let mut made = 0;
     let lasts = [0, 1, 2, 32_766, 32_767, 32_768, 32_769, 65_534, 65_535];
@@ -76,6 +80,8 @@ pub fn serials(sides: &[Calls; 2], rng: &mut Rng) -> Verdict {
             (table::ORDER, FROM_GROUND),
             (table::ORDER, FROM_PAYLOAD),
             (table::THRESHOLDS, FROM_GROUND),
+            (table::TIMED, FROM_GROUND),
+            (table::TIMED, FROM_PAYLOAD),
         ] {
             let mut state = images::state(rng);
             state.last = Last {
@@ -88,6 +94,7 @@ pub fn serials(sides: &[Calls; 2], rng: &mut Rng) -> Verdict {
                 let mut frame = vec![kind, origin, high, low];
                 match kind {
                     table::ORDER => frame.extend([table::PAYLOAD, rng.byte() & 1]),
+                    table::TIMED => frame.extend([table::PAYLOAD, 0, rng.byte() | 1]),
                     _ => frame.extend([0x1C, 0xE8, 0x1B, 0x58]),
                 }
                 made += fly(sides, &start, vec![(frame, ROOM)])?.0;

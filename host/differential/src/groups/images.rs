@@ -42,8 +42,8 @@ pub fn image_bytes(sides: &[Calls; 2], rng: &mut Rng) -> Verdict {
     Ok(made)
 }
 
-/// Every number of a mode up to some beyond the last, then others, and every
-/// number of a module: a tick's step.
+/// Every number of a mode and of each end up to some beyond the last, then others,
+/// and every number of a module: a tick's step.
 pub fn codes(sides: &[Calls; 2], rng: &mut Rng) -> Verdict {
     let mut made = 0;
     let mut step = |bytes: &[u8], shorts: u8| -> Result<(), String> {
@@ -52,6 +52,11 @@ pub fn codes(sides: &[Calls; 2], rng: &mut Rng) -> Verdict {
     };
     let beyond = (100_000..1 << 24).step_by(997);
     for number in (0..100_000).chain(beyond) {
+        for place in 0..4 {
+            let mut bytes = images::good(rng);
+            images::set_end(&mut bytes, place, number);
+            step(&bytes, rng.byte())?;
+        }
         let mut bytes = images::good(rng);
         images::set_mode(&mut bytes, number);
         images::clear_counts(&mut bytes);

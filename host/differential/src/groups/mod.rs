@@ -3,6 +3,7 @@
 mod flights;
 mod images;
 mod texts;
+mod timed;
 
 use crate::compare;
 use crate::frames::Maker;
@@ -21,7 +22,7 @@ pub type Verdict = Result<u64, String>;
 pub type Group = (&'static str, fn(&[Calls; 2], &mut Rng) -> Verdict);
 
 /// All groups.
-pub const GROUPS: [Group; 14] = [
+pub const GROUPS: [Group; 17] = [
     ("fresh start, every length", images::fresh_starts),
     ("flights by the table", |sides, rng| {
         flights::of(sides, rng, Maker::Structured, 4_000_000)
@@ -38,8 +39,11 @@ pub const GROUPS: [Group; 14] = [
     ("the longest wait", flights::longest_wait),
     ("every room length", flights::rooms),
     ("every serial", flights::serials),
+    ("timed orders about every limit", timed::timed_orders),
+    ("ends that run out", timed::ends_run_out),
+    ("the longest end", timed::longest_end),
     ("every value of every image byte", images::image_bytes),
-    ("every number of a mode and a module", images::codes),
+    ("every number of a mode, an end and a module", images::codes),
     ("damaged images", images::damaged_images),
     ("every text of up to 2 bytes", texts::short_texts),
     ("texts of up to 70 bytes", texts::any_texts),

@@ -76,7 +76,7 @@ fn came_of(frame: &[u8], step: &Step, report: &Report) -> Option<String> {
     if report.kind != TICK {
         return Some(story::outcome(frame, step, report));
     }
-    let changes = story::changes(&step.before, &step.after, shorts(frame));
+    let changes = story::changes(frame, step);
     (!changes.is_empty()).then(|| changes.join("; "))
 }
 

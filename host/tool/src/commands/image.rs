@@ -61,14 +61,14 @@ fn after(file: &Path, args: &args::Image) -> Result<(), Failure> {
 
 /// Every field: where it begins, its bytes, its name, and what it says.
 fn print(output: &mut Output, image: &Image) -> io::Result<()> {
-    writeln!(output, "at  bytes     field     says")?;
+    writeln!(output, "at  bytes        field          says")?;
     for field in fields() {
         let number = image.number(&field);
         let said = (field.says)(number);
         let said =
             said.unwrap_or_else(|| format!("{}, which no state has", thousands(u64::from(number))));
         let (at, bytes, name) = (field.at, hex(image.bytes(&field)), field.name);
-        writeln!(output, "{at:>2}  {bytes:9} {name:9} {said}")?;
+        writeln!(output, "{at:>2}  {bytes:12} {name:14} {said}")?;
     }
     Ok(())
 }

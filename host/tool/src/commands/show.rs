@@ -115,5 +115,6 @@ fn line(
         text.insert_str(name, &format!(" {times}"));
     }
     let comment = format!("# {at:06X}  {comment}");
+    text.push(' ');
     writeln!(output, "{text:MARGIN$}{}", comment.trim_end())
 }

@@ -5,7 +5,7 @@ use crate::words::{count, thousands};
 use ems::{Mode, Module};
 
 /// The bytes of an image.
-pub const BYTES: usize = 34;
+pub const BYTES: usize = 50;
 
 /// A field: its name, where it begins, its bytes, and what its number says.
 #[derive(Clone, Copy)]
@@ -19,7 +19,7 @@ pub struct Field {
     pub range: &'static str,
 }
 
-pub const VERSION: Field = field("version", 0, 1, version, "2");
+pub const VERSION: Field = field("version", 0, 1, version, "3");
 pub const MODE: Field = field("mode", 1, 3, mode, "0 to 87,301");
 pub const CONTROL: Field = field("control", 4, 1, control, "0 to 29");
 pub const BEACON: Field = field("beacon", 5, 2, beacon, "0 to 299");
@@ -30,8 +30,16 @@ pub const DESCEND: Field = field("descend", 12, 2, millivolts, "5,000 to 9,000")
 pub const GROUND: Field = field("ground", 14, 2, serial, "any");
 pub const PAYLOAD: Field = field("payload", 16, 2, serial, "any");
 
+/// The ends of the mission four.
+const ENDS: [(Module, Field); 4] = [
+    (Module::Adcs, end("ADCS's end", 18)),
+    (Module::Payload, end("PAYLOAD's end", 22)),
+    (Module::Sband1, end("SBAND1's end", 26)),
+    (Module::Sband2, end("SBAND2's end", 30)),
+];
+
 /// The first of the modules; each next one follows the one before.
-const MODULE: Field = field("", 18, 2, module, "0 to 606, nor so much and 32,768");
+const MODULE: Field = field("", 34, 2, module, "0 to 606, nor so much and 32,768");
 
 const fn field(
     name: &'static str,
@@ -49,14 +57,27 @@ const fn field(
     }
 }
 
-/// The fields before the modules.
+const fn end(name: &'static str, at: usize) -> Field {
+    field(name, at, 4, seconds_to_go, "0 to 86,400")
+}
+
+/// The fields before the ends.
 const HEAD: [Field; 10] = [
     VERSION, MODE, CONTROL, BEACON, ANTENNAS, TENSION, ASCEND, DESCEND, GROUND, PAYLOAD,
 ];
 
 /// All fields, in their order.
 pub fn fields() -> impl Iterator<Item = Field> {
-    HEAD.into_iter().chain(Module::ALL.map(of_module))
+    let ends = ENDS.map(|(_, field)| field);
+    HEAD.into_iter()
+        .chain(ends)
+        .chain(Module::ALL.map(of_module))
+}
+
+/// The field of a module's end; a core module has none.
+pub fn of_end(module: Module) -> Option<Field> {
+    let own = ENDS.into_iter().find(|(of, _)| *of == module);
+    own.map(|(_, field)| field)
 }
 
 /// A module's field.
@@ -69,7 +90,7 @@ pub fn of_module(module: Module) -> Field {
 }
 
 fn version(number: u32) -> Option<String> {
-    (number == 2).then(|| "2".to_string())
+    (number == 3).then(|| "3".to_string())
 }
 
 fn mode(number: u32) -> Option<String> {
@@ -106,6 +127,14 @@ fn millivolts(number: u32) -> Option<String> {
 
 fn serial(number: u32) -> Option<String> {
     Some(format!("last number {number}"))
+}
+
+fn seconds_to_go(number: u32) -> Option<String> {
+    match number {
+        0 => Some("none".to_string()),
+        1..=86_400 => Some(format!("in {}", count(u64::from(number), "second"))),
+        _ => None,
+    }
 }
 
 fn module(number: u32) -> Option<String> {

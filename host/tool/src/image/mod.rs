@@ -6,8 +6,8 @@ pub use layout::{fields, Field, Power, BYTES};
 
 use ems::{Mode, Module};
 use layout::{
-    of_module, Supply, Watch, ANTENNAS, ASCEND, BEACON, CONTROL, DESCEND, GROUND, MODE, PAYLOAD,
-    TENSION,
+    of_end, of_module, Supply, Watch, ANTENNAS, ASCEND, BEACON, CONTROL, DESCEND, GROUND, MODE,
+    PAYLOAD, TENSION,
 };
 
 /// What a board in DEPLOY_WAIT does.
@@ -123,6 +123,11 @@ impl Image {
         Supply::of(self.number(&of_module(module)))
     }
 
+    /// The seconds until a module's request goes off; 0 where no end is running.
+    pub fn end(&self, module: Module) -> u32 {
+        of_end(module).map_or(0, |field| self.number(&field))
+    }
+
     /// The modules that are requested on, as a mask.
     pub fn requests(&self) -> u8 {
         self.mask(|supply| supply.requested)
@@ -154,6 +159,7 @@ mod tests {
     use ems::Craft;
     use model::image::save;
     use model::state::{self, Last, State};
+    use model::table::MISSION;
 
     /// Reads a state's image, and compares it with the state.
     fn is_read(state: &State) {
@@ -179,6 +185,9 @@ mod tests {
                 state::Power::Failed(left) => Power::Failed(left),
             };
             assert_eq!(image.power(module), power, "{module}");
+            let end = state.ends.iter().zip(MISSION);
+            let end = end.filter(|(_, own)| *own == module.number());
+            assert_eq!(image.end(module), end.map(|(end, _)| end).sum(), "{module}");
         }
         assert_eq!(image.requests(), state.requested_mask());
         assert_eq!(image.on(), state.on_mask());
@@ -199,6 +208,7 @@ mod tests {
                 ground: 0x1122,
                 payload: 0x3344,
             },
+            ends: [1, 1_200, 86_399, 86_400],
             ..fresh
         };
         let powers = [
@@ -235,12 +245,13 @@ mod tests {
         let near = near
             .into_iter()
             .flat_map(|n: u32| n.saturating_sub(9)..n + 9);
-        let numbers: Vec<u32> = near.chain((0..1 << 24).step_by(4_999)).collect();
+        let far = (1 << 24..u32::MAX).step_by(9_999_991).chain([u32::MAX]);
+        let numbers: Vec<u32> = near.chain((0..1 << 24).step_by(4_999)).chain(far).collect();
         let fresh = Image::of(Craft::fresh().image());
         for start in [fresh, put(fresh, &MODE, 87_301)] {
             for field in fields() {
-                let fitting = numbers.iter().filter(|&&n| n < 1 << (8 * field.bytes));
-                for &number in fitting {
+                let fits = |n: &&u32| u64::from(**n) >> (8 * field.bytes) == 0;
+                for &number in numbers.iter().filter(fits) {
                     let image = put(start, &field, number);
                     let taken = Craft::from_image(&image.0).is_some();
                     let fine = image.faults().is_empty();

@@ -4,7 +4,8 @@ use super::marks::{mark, SHAPES};
 use super::modes::fill;
 use super::modules::{arrow, State};
 use super::svg::{width, Align, Svg};
-use super::{beacons, LEFT, WIDTH};
+use super::view::View;
+use super::{beacons, ends, LEFT, WIDTH};
 use crate::tables;
 use ems::{answer, Beacon, Mode};
 
@@ -21,9 +22,9 @@ type Sign = Box<dyn Fn(&mut Svg, f64, f64)>;
 type Group = (&'static str, Vec<(Sign, String)>);
 
 /// The legend; gives where it ends.
-pub fn draw(svg: &mut Svg, y: f64) -> f64 {
+pub fn draw(svg: &mut Svg, view: &View, y: f64) -> f64 {
     let (mut x, mut y) = (LEFT, y);
-    for (subject, signs) in groups() {
+    for (subject, signs) in groups(view) {
         let wide = |text: &str| width(text, SIZE) + AFTER;
         let all: f64 = signs.iter().map(|(_, meaning)| SIGN + wide(meaning)).sum();
         if x > LEFT && x + wide(subject) + all > WIDTH {
@@ -40,11 +41,11 @@ pub fn draw(svg: &mut Svg, y: f64) -> f64 {
     y + 8.0
 }
 
-fn groups() -> [Group; 6] {
+fn groups(view: &View) -> [Group; 6] {
     [
         ("Mode:", modes()),
         ("Millivolts:", millivolts()),
-        ("Module:", modules()),
+        ("Module:", modules(view)),
         ("Short:", shorts()),
         ("Beacon:", due()),
         ("Order:", orders()),
@@ -80,7 +81,7 @@ fn millivolts() -> Vec<(Sign, String)> {
     ]
 }
 
-fn modules() -> Vec<(Sign, String)> {
+fn modules(view: &View) -> Vec<(Sign, String)> {
     let bars = |states: &'static [State], meaning: &str| {
         let draw = move |svg: &mut Svg, x: f64, y: f64| {
             for state in states {
@@ -89,12 +90,19 @@ fn modules() -> Vec<(Sign, String)> {
         };
         sign(draw, meaning)
     };
-    vec![
+    let mut signs = vec![
         bars(&[State::Requested], "requested"),
         bars(&[State::Requested, State::On], "requested and on"),
         bars(&[State::Requested, State::Failed], "requested and failed"),
         bars(&[State::Failed], "failed"),
-    ]
+    ];
+    if ends::any(view) {
+        let left = |svg: &mut Svg, x: f64, y: f64| {
+            svg.path(&ends::wedge(x, y + 5.0, 20.0, 10.0, 0.0), "box", "");
+        };
+        signs.push(sign(left, "time left"));
+    }
+    signs
 }
 
 fn shorts() -> Vec<(Sign, String)> {

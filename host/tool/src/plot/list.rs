@@ -51,11 +51,13 @@ impl Entry {
             widths.fold(0.0, f64::max)
         };
         let time = 30.0;
+        let sent = time + widest(|event| clock(event.second)) + 8.0;
         let answer = room - widest(|event| said(event.answer));
+        let free = sent + widest(|event| event.sent.clone()) + 7.0;
         Entry {
             time,
-            sent: time + widest(|event| clock(event.second)) + 8.0,
-            answer: answer.min(345.0),
+            sent,
+            answer: answer.min(free.max(345.0)),
         }
     }
 

@@ -3,6 +3,7 @@
 
 mod axis;
 mod beacons;
+mod ends;
 mod events;
 mod layout;
 mod legend;
@@ -34,7 +35,7 @@ const GAP: f64 = 14.0;
 pub fn draw(view: &View, title: &str) -> String {
     let mut svg = Svg::new();
     head(&mut svg, view, title);
-    let y = legend::draw(&mut svg, 46.0) + GAP;
+    let y = legend::draw(&mut svg, view, 46.0) + GAP;
 
     let behind = svg.here();
     let events = Events::of(view);

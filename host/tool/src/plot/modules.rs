@@ -1,6 +1,7 @@
-//! A lane for each module: requested, on or failed, and under that the shorts it
-//! saw and the tries it has left.
+//! A lane for each module: requested, on or failed, and under that the time left to
+//! its end, the shorts it saw and the tries it has left.
 
+use super::ends;
 use super::layout::groups;
 use super::record::Stretch;
 use super::svg::{polygon, Align, Svg};
@@ -44,6 +45,7 @@ fn lane(svg: &mut Svg, view: &View, module: Module, top: f64) -> f64 {
         }
     }
     let mut bottom = top + LANE;
+    bottom = ends::draw(svg, view, module, bottom);
     bottom = shorts(svg, view, module, bottom);
     bottom = tries(svg, view, module, bottom);
     svg.line(LEFT, bottom, RIGHT, bottom, "faint");

@@ -73,6 +73,8 @@ pub struct Record {
     pub shorts: Track<u8>,
     /// The tries that a module has left, where it has spent some.
     pub tries: [Track<Option<u16>>; Module::ALL.len()],
+    /// The second at which a module's end comes, while one is running.
+    pub ends: [Track<Option<u64>>; Module::ALL.len()],
     /// Orders, thresholds, and what was refused.
     pub events: Vec<Event>,
     /// When a beacon was due, and which.
@@ -96,6 +98,7 @@ impl Record {
             failed: Track::new(),
             shorts: Track::new(),
             tries: Module::ALL.map(|_| Track::new()),
+            ends: Module::ALL.map(|_| Track::new()),
             events: Vec::new(),
             beacons: Vec::new(),
             fresh: *fresh,
@@ -147,6 +150,10 @@ impl Record {
         self.requested.at(now, image.requests());
         self.on.at(now, image.on());
         self.failed.at(now, image.failed());
+        for (module, ends) in Module::ALL.into_iter().zip(&mut self.ends) {
+            let left = u64::from(image.end(module));
+            ends.at(now, (left > 0).then_some(now + left));
+        }
         for (module, tries) in Module::ALL.into_iter().zip(&mut self.tries) {
             let power = image.power(module);
             tries.at(

@@ -21,7 +21,8 @@ pub enum Expected {
         times: bool,
     },
     Byte,
-    End,
+    /// The end, or the word that would tell of another kind.
+    End(Option<&'static str>),
     Text,
 }
 
@@ -29,8 +30,9 @@ impl fmt::Display for Expected {
     fn fmt(&self, f: &mut fmt::Formatter<'_>) -> fmt::Result {
         match self {
             Expected::Frame => {
-                let names = KINDS.map(|kind| kind.name).join(", ");
-                write!(f, "expected a frame: {names} or {RAW}")
+                let kinds = KINDS.iter().filter(|kind| kind.told_by.is_none());
+                let words: Vec<&str> = kinds.map(|kind| kind.word).collect();
+                write!(f, "expected a frame: {} or {RAW}", words.join(", "))
             }
             Expected::Times => {
                 write!(
@@ -45,7 +47,8 @@ impl fmt::Display for Expected {
                 write!(f, "expected {times}{} or the end of the line", field.name)
             }
             Expected::Byte => f.write_str("expected a byte: two hexadecimal digits"),
-            Expected::End => f.write_str("expected the end of the line"),
+            Expected::End(None) => f.write_str("expected the end of the line"),
+            Expected::End(Some(word)) => write!(f, "expected {word} or the end of the line"),
             Expected::Text => f.write_str(
                 "expected text in UTF-8; if these are frames, `--as bytes` flies them and \
                  `ems show` makes a script of them",
@@ -60,6 +63,11 @@ fn value(f: &mut fmt::Formatter<'_>, field: &Field) -> fmt::Result {
     let numbers = format!("a number 0 to {}", thousands(field.greatest()));
     match field.written {
         Written::Number => write!(f, "expected {name}: {numbers}"),
+        Written::Within(least, greatest) => {
+            let greatest = thousands(greatest);
+            write!(f, "expected {name}: a number {least} to {greatest}")
+        }
+        Written::Word(example) => write!(f, "expected {name}, as in `{example}`"),
         Written::Named(names) => {
             let names: Vec<&str> = names.iter().map(|row| row.1).collect();
             write!(f, "expected {name}: {}, or {numbers}", names.join(", "))

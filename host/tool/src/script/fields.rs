@@ -8,6 +8,10 @@ use ems::Module;
 pub fn value(field: &Field, word: &str) -> Option<u64> {
     match field.written {
         Written::Number => decimal(word, field.greatest()),
+        Written::Within(least, greatest) => {
+            decimal(word, greatest).filter(|&number| number >= least)
+        }
+        Written::Word(_) => word.eq_ignore_ascii_case(field.name).then_some(0),
         Written::Named(names) => {
             let named = names.iter().find(|row| row.1.eq_ignore_ascii_case(word));
             named.map_or_else(
@@ -30,17 +34,27 @@ pub fn decimal(word: &str, greatest: u64) -> Option<u64> {
     (number <= greatest).then_some(number)
 }
 
-/// A frame as a line of a script, without what says how often: in words if it is
-/// whole, else as bytes.
+/// A frame as a line of a script, without what says how often: in words if there
+/// are words for it, else as bytes.
 pub fn in_words(frame: &[u8]) -> String {
-    match kind_of(frame[0]).filter(|kind| kind.total() == frame.len()) {
+    match kind_of(frame[0]).filter(|kind| has_words(kind, frame)) {
         Some(kind) => {
             let words = words_of(kind, frame);
             let words = words.into_iter().map(|(_, word)| format!(" {word}"));
-            kind.name.to_string() + &words.collect::<String>()
+            kind.word.to_string() + &words.collect::<String>()
         }
         None => format!("raw {}", words::hex(frame)),
     }
+}
+
+/// Whether a line of words sends this frame: it is whole, and its numbers are
+/// within what may be written.
+fn has_words(kind: &Kind, frame: &[u8]) -> bool {
+    let fits = |(field, value): (&Field, u64)| match field.written {
+        Written::Within(least, greatest) => (least..=greatest).contains(&value),
+        _ => true,
+    };
+    kind.total() == frame.len() && values(kind, frame).all(fits)
 }
 
 /// The word for one field of a frame; nothing where there is none.
@@ -53,23 +67,29 @@ pub fn word_of(frame: &[u8], name: &str) -> String {
 
 /// The names and words of a frame's fields, but for those that are left out.
 fn words_of(kind: &Kind, frame: &[u8]) -> Vec<(&'static str, String)> {
-    let mut words = Vec::new();
+    let words = values(kind, frame)
+        .filter_map(|(field, value)| word(field, value).map(|word| (field.name, word)));
+    words.collect()
+}
+
+/// A frame's fields with their values.
+fn values<'a>(kind: &Kind, frame: &'a [u8]) -> impl Iterator<Item = (&'static Field, u64)> + 'a {
     let mut rest = &frame[1..];
-    for field in kind.fields {
+    kind.fields.iter().map(move |field| {
         let (bytes, after) = rest.split_at(field.bytes.min(rest.len()));
         rest = after;
         let value = bytes
             .iter()
             .fold(0, |value, &byte| value << 8 | u64::from(byte));
-        words.extend(word(field, value).map(|word| (field.name, word)));
-    }
-    words
+        (field, value)
+    })
 }
 
 /// A field's value as it is written; nothing where it is left out.
 fn word(field: &Field, value: u64) -> Option<String> {
     match field.written {
-        Written::Number => Some(value.to_string()),
+        Written::Number | Written::Within(..) => Some(value.to_string()),
+        Written::Word(_) => Some(field.name.to_string()),
         Written::Named(names) => {
             let named = names.iter().find(|row| u64::from(row.0) == value);
             Some(named.map_or_else(|| value.to_string(), |&(_, name)| name.to_string()))

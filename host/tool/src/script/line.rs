@@ -12,14 +12,16 @@ pub fn parse(number: usize, text: &str) -> Result<Option<Line>, Wrong<'_>> {
     if reader.peek().is_none() {
         return Ok(None);
     }
-    let (bytes, times) = if reader.peek().is_some_and(|word| same(word, RAW)) {
-        (raw(&mut reader)?, 1)
+    let (bytes, times, end) = if reader.peek().is_some_and(|word| same(word, RAW)) {
+        (raw(&mut reader)?, 1, Expected::End(None))
     } else {
-        let kind = reader.take(kind_named, Expected::Frame)?;
-        frame(&mut reader, kind)?
+        let ahead = reader.clone();
+        let kind = reader.take(|word| kind_named(word, &ahead), Expected::Frame)?;
+        let (bytes, times) = frame(&mut reader, kind)?;
+        (bytes, times, Expected::End(other_word(kind)))
     };
     if reader.peek().is_some() {
-        return Err(reader.wrong(Expected::End));
+        return Err(reader.wrong(end));
     }
     Ok(Some(Line {
         number,
@@ -36,8 +38,21 @@ fn same(word: &str, name: &str) -> bool {
     word.eq_ignore_ascii_case(name)
 }
 
-fn kind_named(word: &str) -> Option<&'static Kind> {
-    KINDS.iter().find(|kind| same(word, kind.name))
+/// The kind that a word begins a line of; of two, the one whose own word is ahead.
+fn kind_named(word: &str, ahead: &Reader) -> Option<&'static Kind> {
+    let is_ahead = |own: &str| ahead.has(|word| same(word, own));
+    let named = KINDS.iter().filter(|kind| same(word, kind.word));
+    named
+        .filter(|kind| kind.told_by.is_none_or(is_ahead))
+        .max_by_key(|kind| kind.told_by.is_some())
+}
+
+/// The word that would make another kind of a line.
+fn other_word(kind: &Kind) -> Option<&'static str> {
+    let mut alike = KINDS.iter().filter(|other| other.word == kind.word);
+    alike
+        .find_map(|other| other.told_by)
+        .filter(|_| kind.told_by.is_none())
 }
 
 /// The bytes of a kind's frame, and how often it is sent.

@@ -3,6 +3,7 @@
 use super::expected::Expected;
 
 /// What is left of a line that is being read.
+#[derive(Clone)]
 pub struct Reader<'a> {
     number: usize,
     text: &'a str,
@@ -39,6 +40,18 @@ impl<'a> Reader<'a> {
 
     pub fn peek(&self) -> Option<&'a str> {
         self.next.map(|(_, word)| word)
+    }
+
+    /// Whether one of the words that are left is meant.
+    pub fn has(&self, is_meant: impl Fn(&str) -> bool) -> bool {
+        let mut ahead = self.clone();
+        while let Some(word) = ahead.peek() {
+            if is_meant(word) {
+                return true;
+            }
+            ahead.skip();
+        }
+        false
     }
 
     /// Leaves the next word.

@@ -1,18 +1,22 @@
 //! What a frame did to a board, in words: the difference of two images, and the
 //! answer.
 
+mod ends;
 mod powers;
 
 use crate::board::Step;
 use crate::image::{Image, Phase};
 use crate::script::word_of;
-use crate::tables;
+use crate::tables::{self, shorts};
 use crate::words::{list, modules, thousands};
 use ems::{answer, Report};
+use ends::Ends;
 use std::cmp::Ordering;
 
-/// What changed from one image to the next, in a tick with these shorts.
-pub fn changes(before: &Image, after: &Image, shorts: u8) -> Vec<String> {
+/// What a frame changed, from one image to the next.
+pub fn changes(frame: &[u8], step: &Step) -> Vec<String> {
+    let (before, after) = (&step.before, &step.after);
+    let ends = Ends::of(step);
     let mut said = Vec::new();
     if after.deployed() != before.deployed() {
         let position = if after.deployed() {
@@ -34,11 +38,13 @@ pub fn changes(before: &Image, after: &Image, shorts: u8) -> Vec<String> {
     if after.phase() == Phase::Settling && before.phase() == Phase::Waiting {
         said.push("waiting is over, settling begins".to_string());
     }
+    said.extend(ends.came);
     if after.mode() != before.mode() {
         said.push(crossing(before, after));
     }
-    said.extend(requests(before, after));
-    said.extend(powers::changes(before, after, shorts));
+    said.extend(requests(before, after, ends.told));
+    said.extend(ends.others);
+    said.extend(powers::changes(before, after, shorts(frame)));
     said
 }
 
@@ -76,9 +82,9 @@ fn judged(tension: u16, name: &str, threshold: u16) -> String {
     format!("tension {tension} {stands} {name} {threshold}")
 }
 
-/// The modules whose requests changed.
-fn requests(before: &Image, after: &Image) -> Vec<String> {
-    let changed = before.requests() ^ after.requests();
+/// The modules whose requests changed, but for those of which it is told already.
+fn requests(before: &Image, after: &Image, told: u8) -> Vec<String> {
+    let changed = (before.requests() ^ after.requests()) & !told;
     [("on", after.requests()), ("off", before.requests())]
         .into_iter()
         .filter(|(_, mask)| changed & mask != 0)
@@ -91,7 +97,7 @@ pub fn outcome(frame: &[u8], step: &Step, report: &Report) -> String {
     let serial = report.serial;
     match report.answer {
         answer::DONE => {
-            let changes = changes(&step.before, &step.after, 0);
+            let changes = changes(frame, step);
             if changes.is_empty() {
                 "done, nothing changed".to_string()
             } else {

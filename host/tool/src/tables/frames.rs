@@ -7,12 +7,18 @@ use ems::Module;
 pub enum Written {
     /// As a decimal number.
     Number,
+    /// As a decimal number from the least to the greatest: a person has chosen it,
+    /// and another one is a slip. What the board refuses is written as bytes.
+    Within(u64, u64),
     /// By the name of its value; or as a number, so that a script can hold what
     /// the board refuses.
     Named(&'static [(u8, &'static str)]),
     /// As names of modules with commas between, after the field's own name; left
     /// out where no bit is set.
     Modules,
+    /// As the field's own name: a word that stands for no byte, and an example of
+    /// how it is used.
+    Word(&'static str),
 }
 
 /// A field of a frame: a big-endian number.
@@ -28,8 +34,12 @@ pub struct Field {
 pub struct Kind {
     /// The frame's first byte.
     pub byte: u8,
-    /// What it is called in a pass script.
+    /// What it is called.
     pub name: &'static str,
+    /// What a line of a pass script begins with that sends it.
+    pub word: &'static str,
+    /// The word in it that tells it from another kind whose lines begin alike.
+    pub told_by: Option<&'static str>,
     /// What follows the kind's byte.
     pub fields: &'static [Field],
     /// Whether a number after the name says how often it is sent.
@@ -82,29 +92,48 @@ const fn modules(name: &'static str) -> Field {
     }
 }
 
+const fn word(name: &'static str) -> Field {
+    let written = Written::Word("on for 20 min");
+    Field {
+        name,
+        bytes: 0,
+        written,
+    }
+}
+
 /// Who sends orders.
 const ORIGINS: [(u8, &str); 2] = [(1, "ground"), (2, "payload")];
 
 const ORIGIN: Field = named("origin", &ORIGINS);
 const SERIAL: Field = number("serial", 2);
-const MODULE: Field = named("module", &MODULES);
 
 /// The modules' numbers and names.
-const MODULES: [(u8, &str); Module::ALL.len()] = {
-    let mut rows = [(0, ""); Module::ALL.len()];
-    let mut i = 0;
-    while i < rows.len() {
-        rows[i] = (Module::ALL[i].number(), Module::ALL[i].name());
+const MODULES: [(u8, &str); Module::ALL.len()] = names_of(u8::MAX);
+/// Those of the mission four.
+const MISSION: [(u8, &str); Module::MISSION.count_ones() as usize] = names_of(Module::MISSION);
+
+/// The numbers and names of a mask's modules.
+const fn names_of<const N: usize>(mask: u8) -> [(u8, &'static str); N] {
+    let mut rows = [(0, ""); N];
+    let (mut row, mut i) = (0, 0);
+    while i < Module::ALL.len() {
+        let module = Module::ALL[i];
+        if mask & module.bit() != 0 {
+            rows[row] = (module.number(), module.name());
+            row += 1;
+        }
         i += 1;
     }
     rows
-};
+}
 
 const fn kind(byte: u8, name: &'static str, fields: &'static [Field]) -> Kind {
     let repeats = false;
     Kind {
         byte,
         name,
+        word: name,
+        told_by: None,
         fields,
         repeats,
     }
@@ -120,9 +149,17 @@ const ANTENNAS: u8 = 0x03;
 pub const ORDER: u8 = 0x04;
 /// The kind that sets both thresholds.
 const THRESHOLDS: u8 = 0x05;
+/// The kind that asks for a module to be on for some minutes.
+pub const TIMED: u8 = 0x06;
+
+/// The minutes of a timed order.
+const MINUTES: Field = Field {
+    written: Written::Within(1, 1_440),
+    ..number("minutes", 2)
+};
 
 /// The kinds that are read.
-pub const KINDS: [Kind; 5] = [
+pub const KINDS: [Kind; 6] = [
     Kind {
         repeats: true,
         ..kind(TICK, "tick", &[modules("shorts")])
@@ -139,7 +176,7 @@ pub const KINDS: [Kind; 5] = [
         &[
             ORIGIN,
             SERIAL,
-            MODULE,
+            named("module", &MODULES),
             named("wanted", &[(0, "off"), (1, "on")]),
         ],
     ),
@@ -148,6 +185,23 @@ pub const KINDS: [Kind; 5] = [
         "thresholds",
         &[ORIGIN, SERIAL, number("ascend", 2), number("descend", 2)],
     ),
+    Kind {
+        word: "order",
+        told_by: Some("for"),
+        ..kind(
+            TIMED,
+            "timed order",
+            &[
+                ORIGIN,
+                SERIAL,
+                named("module", &MISSION),
+                word("on"),
+                word("for"),
+                MINUTES,
+                word("min"),
+            ],
+        )
+    },
 ];
 
 /// The shorts of a frame that is a tick; none of any other.
@@ -155,6 +209,14 @@ pub fn shorts(frame: &[u8]) -> u8 {
     match frame {
         [TICK, mask] => *mask,
         _ => 0,
+    }
+}
+
+/// The module that a frame orders, if it is a timed order for one.
+pub fn timed(frame: &[u8]) -> Option<Module> {
+    match frame {
+        [TIMED, _, _, _, module, ..] => Module::of(*module),
+        _ => None,
     }
 }
 

@@ -11,6 +11,8 @@ pub struct Drawn {
     pub about: String,
     /// What a text says.
     pub text: String,
+    /// The commands of a path.
+    pub path: String,
     pub left: f64,
     pub right: f64,
     pub top: f64,
@@ -120,6 +122,7 @@ fn drawn(node: &Node) -> Drawn {
             .unwrap_or_default()
             .to_string(),
         text: node.text().unwrap_or_default().to_string(),
+        path: node.attribute("d").unwrap_or_default().to_string(),
         left,
         right,
         top,

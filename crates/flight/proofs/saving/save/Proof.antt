@@ -1,9 +1,9 @@
--- `flight::saving::save` meets its contract: the head, then the modules, fill the image.
+-- `flight::saving::save` meets its contract: the head, then the ends and the modules, fill the image.
 use mathlib.Core.Path.{ap, _∙_}
 use lib.Seq.{sets}
 use Rattle.basics.proofs.EachLaws.{length-mapped}
 use Rattle.supervisor.proofs.ModuleLaws.{Eight}
-use Rattle.flight.specs.Saving.{modulesPlace, modulesBytes}
+use Rattle.flight.specs.Saving.{endsPlace, modulesPlace, endsBytes, modulesBytes}
 use Rattle.flight.proofs.SavingLaws.{modules-in-range, stored-state}
 use borrow.Author.Needs.{needs}
 use Rattle.flight.proofs.saving.save.Statement.{statement}
@@ -18,9 +18,12 @@ slice-aggregate-copy c = search needs
 copy-requires : tie.Need-copy-requires
 copy-requires c κs = search needs
 
+put-ends-requires : tie.Need-put-ends-requires
+put-ends-requires c κs = search needs
+
 put-modules-requires : tie.Need-put-modules-requires
 put-modules-requires c κs =
-    let start : tie.Start = c .before .before .before .before .before .before .before .before .before in
+    let start : tie.Start = c .before .before .before .before .before .before .before .before .before .before .before .before .before in
     (search needs, modules-in-range (start .args .state) (start .pre .1))
 
 same-length : tie.Need-same-length
@@ -28,12 +31,14 @@ same-length c = search needs
 
 returns : tie.Need-returns
 returns c =
-    let start : tie.Start = c .before .before .before .before .before .before .before .before .before .before .before .before in
+    let start : tie.Start = c .before .before .before .before .before .before .before .before .before .before .before .before .before .before .before .before in
     let s = start .args .state in
     let eight : Eight s = search (needs, length-mapped) in
-    let copy = c .before .before .before .before .before .before in
+    let ends = c .before .before .before .before .before .before in
+    let copy = ends .before .before .before .before in
     c .before .before .put-modules .ensures
-    ∙ ap (λ r. sets r modulesPlace (modulesBytes (s .modules))) (copy .copy .ensures .1)
+    ∙ ap (λ r. sets r modulesPlace (modulesBytes (s .modules))) (ends .put-ends .ensures)
+    ∙ ap (λ r. sets (sets r endsPlace (endsBytes (s .ends))) modulesPlace (modulesBytes (s .modules))) (copy .copy .ensures .1)
     ∙ stored-state s _ (start .args .image .now) (copy .before .before .before .head .ensures) eight (start .pre .0)
 
 pub save-spec : {M : Type 1} → statement M
@@ -43,6 +48,7 @@ save-spec =
     head-requires
     slice-aggregate-copy
     copy-requires
+    put-ends-requires
     put-modules-requires
     same-length
     returns)
