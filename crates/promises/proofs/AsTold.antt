@@ -1,7 +1,7 @@
 -- As told, proved.
 -- Assumes nothing.
 use Prim.Native.Nat.{ℕ, _<_}
-use mathlib.Core.Path.{_≡_, refl, sym, ap, _∙_}
+use mathlib.Core.Path.{_≡_, refl, sym, _∙_}
 use mathlib.Core.Bool.{Bool, true, false, not, true≢false}
 use mathlib.Core.List.{List, [], _∷_, _++_}
 use lib.Dec.{T}
@@ -9,33 +9,47 @@ use Rattle.basics.specs.Choice.{bit}
 use Rattle.basics.proofs.ChoiceLaws.{and-left}
 use Rattle.modules.specs.Power.{isOn}
 use Rattle.modules.specs.Groups.{isMission, moduleCount}
+use Rattle.modules.proofs.EndsLaws.{none-at}
 use Rattle.supervisor.specs.Fresh.{freshState}
 use Rattle.supervisor.specs.Tick.{allowedIn}
 use Rattle.supervisor.specs.History.{Call, called, after, aboutOf, doneTick}
-use Rattle.supervisor.specs.State.{moduleAt, inDeployWait}
+use Rattle.supervisor.specs.State.{moduleAt, endAt, inDeployWait}
 use Rattle.supervisor.specs.declared.state.State.{State}
 use Rattle.supervisor.proofs.FreshLaws.{fresh-eight, fresh-requested, fresh-off}
 use Rattle.supervisor.proofs.HistoryLaws.{called-eight, after-append}
 use Rattle.supervisor.proofs.ModuleLaws.{Eight}
 use Rattle.supervisor.proofs.TickLaws.{waits}
-use Rattle.promises.specs.AsTold.{AsTold, Requested, OnAfter, crossing, said, lastWord}
+use Rattle.promises.specs.AsTold.{AsTold, Word, plain, Requested, OnAfter, crossing, said, lastWord}
 use Rattle.promises.specs.TwoCraft.{shorted}
 use Rattle.promises.specs.Deployment.{deployed}
 use Rattle.promises.specs.ForAReason.{wantedIn}
 use Rattle.promises.proofs.Deployment.{stays-over}
 use Rattle.promises.proofs.ForAReason.{deploy-power, for-a-reason}
-use Rattle.promises.proofs.Requests.{called-said}
+use Rattle.promises.proofs.Requests.{Held, called-held}
 
--- the requests of a history
-after-said :
-    (i : ℕ) → i < moduleCount → (cs : List Call) (s : State) (word : Bool) → Eight s → moduleAt i s .requested ≡ word →
-    moduleAt i (after s cs) .requested ≡ lastWord crossing i word s cs
-after-said i low [] s word n h = h
-after-said i low (c ∷ cs) s word n h =
-    after-said i low cs (called s c .result .state) (said crossing i s c word) (called-eight s c n) (called-said i low s n c ∙ ap (said crossing i s c) h)
+-- the last word of a history is held after it
+pub after-held :
+    (i : ℕ) → i < moduleCount → (cs : List Call) (s : State) (word : Word) → Eight s → Held i s word → Held i (after s cs) (lastWord crossing i word s cs)
+after-held i low [] s word n h = h
+after-held i low (c ∷ cs) s word n h =
+    after-held i low cs (called s c .result .state) (said crossing i s c word) (called-eight s c n) (called-held i low s n word h c)
+
+-- at the fresh start no end is running
+fresh-end : (i : ℕ) → endAt i freshState ≡ 0
+unfolding freshState
+fresh-end i = none-at i
+
+-- the last word of a flight
+pub fresh-held : (i : ℕ) → i < moduleCount → (cs : List Call) → Held i (after freshState cs) (lastWord crossing i (plain (not (isMission i))) freshState cs)
+fresh-held i low cs =
+    after-held i low cs freshState (plain (not (isMission i))) fresh-eight (record { requested = fresh-requested i low; end = fresh-end i })
 
 fresh-said : Requested crossing
-fresh-said i low cs = after-said i low cs freshState (not (isMission i)) fresh-eight (fresh-requested i low)
+fresh-said i low cs = fresh-held i low cs .requested
+
+pub is-false : (b : Bool) → (T b → ⊥) → b ≡ false
+is-false true h = absurd (h tt)
+is-false false h = refl
 
 module _ (i : ℕ) where
   -- in DEPLOY_WAIT the module is off
@@ -64,6 +78,12 @@ module _ (i : ℕ) where
   pub called-asked :
       (s : State) (c : Call) → Dark s → T (doneTick s c) → T (isOn (moduleAt i (called s c .result .state) .power)) → T (moduleAt i (called s c .result .state) .requested)
   called-asked s c dark = asked-by s c dark (inDeployWait s) refl
+
+  -- and one that is not requested is off
+  pub called-off :
+      (s : State) (c : Call) → Dark s → T (doneTick s c) → moduleAt i (called s c .result .state) .requested ≡ false →
+      isOn (moduleAt i (called s c .result .state) .power) ≡ false
+  called-off s c dark d e = is-false (isOn (moduleAt i (called s c .result .state) .power)) (λ t. rw e at (called-asked s c dark d t))
 
 -- from the fresh start
 pub fresh-dark : (i : ℕ) → i < moduleCount → (cs : List Call) → Dark i (after freshState cs)

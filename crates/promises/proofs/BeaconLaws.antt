@@ -29,7 +29,7 @@ use Rattle.supervisor.proofs.ReportLaws.{report-due}
 use Rattle.promises.specs.NeverSilent.{beaconDue}
 use Rattle.promises.proofs.OnlyTicks.{Turn, moves, still, only-ticks}
 
--- the three stages, with none due
+-- the stages, with none due
 module _ (shorts : ℕ) (s : State) where
   staged : State
   staged = moduleStage shorts (beforeModules s)

@@ -3,37 +3,37 @@
 use Prim.Native.Nat.{ℕ, _+_, _≤_, _<_}
 use native.Mathlib.Omega.{arith}
 use mathlib.Core.Path.{_≡_, refl, sym, ap, _∙_}
-use mathlib.Core.Bool.{Bool, true, false, _&&_, true≢false}
+use mathlib.Core.Bool.{Bool, true, false, not, _&&_, true≢false}
 use mathlib.Core.List.{List, [], _∷_, _++_, append-assoc}
-use lib.Dec.{T, eqb, leb, eqb→eq}
+use lib.Dec.{eqb, leb}
 use lib.ListN.{length}
-use borrow.Author.Tests.{leb-true}
+use borrow.Author.Tests.{leb-true, eqb-true}
 use Rattle.basics.specs.Choice.{if_then_else_}
-use Rattle.basics.proofs.ChoiceLaws.{holds, either}
+use Rattle.basics.proofs.ChoiceLaws.{is-true, holds, either, decided}
 use Rattle.basics.specs.Outcome.{Outcome}
 use Rattle.modules.specs.Groups.{isMission, moduleCount}
 use Rattle.modules.specs.Power.{isOn}
 use Rattle.frames.specs.Answer.{answerNumber}
 use Rattle.frames.specs.Kind.{reportBytes}
 use Rattle.frames.specs.About.{About, aTick, aCommand, neither}
-use Rattle.frames.specs.declared.command.Command.the-variants.{Order, Thresholds}
+use Rattle.frames.specs.declared.command.Command.the-variants.{Order, Timed, Thresholds}
 use Rattle.frames.specs.declared.sender.Origin.{Origin}
 use Rattle.supervisor.specs.State.{isRecovery, isSafe, moduleAt}
 use Rattle.supervisor.specs.Fresh.{freshState}
 use Rattle.supervisor.specs.Range.{inRange}
 use Rattle.supervisor.specs.Step.{stepOf}
 use Rattle.supervisor.specs.History.{Call, called, answered, isDone, after, aboutOf, HasRoom, doneTick, doneTicks}
-use Rattle.supervisor.specs.declared.state.Mode.{Mode}
 use Rattle.supervisor.specs.declared.state.State.{State}
 use Rattle.supervisor.specs.declared.step.Stepped.{Stepped}
 use Rattle.supervisor.proofs.FreshLaws.{fresh-eight}
 use Rattle.supervisor.proofs.HistoryLaws.{called-eight, after-eight, after-append}
 use Rattle.supervisor.proofs.ModuleLaws.{Eight, mission-low}
-use Rattle.promises.specs.AsTold.{orders, ordered, crossing}
+use Rattle.promises.specs.AsTold.{Word, plain, timed, says, orders, SaysOn, SaysOff, runningTick, ordered, later, crossing, said, lastWord}
 use Rattle.promises.specs.Dawn.{Dawn, OrderedOff, StillOff, memory}
 use Rattle.promises.proofs.OnlyTicks.{only-ticks}
-use Rattle.promises.proofs.Requests.{called-said}
-use Rattle.promises.proofs.AsTold.{Dark, after-dark, called-asked, fresh-dark}
+use Rattle.promises.proofs.WordLaws.{aged-off}
+use Rattle.promises.proofs.Requests.{Held, called-held}
+use Rattle.promises.proofs.AsTold.{is-false, Dark, after-dark, called-off, fresh-dark, fresh-held}
 use Rattle.promises.proofs.Late.{old}
 
 -- what is done had room
@@ -49,53 +49,59 @@ done-room : (s : State) (c : Call) → answered s c ≡ 0 → HasRoom c
 done-room s c = room-by s c (leb reportBytes (length (c .room))) refl
 
 -- an "off" says so whatever was said before
-off-says : (i : ℕ) (a : About) (word : Bool) → orders i a true ≡ false → orders i a word ≡ false
+off-new : (here : Bool) (ordered word : Word) → says (if here then ordered else plain true) ≡ false → says (if here then ordered else word) ≡ false
+off-new true ordered word e = e
+off-new false ordered word e = absurd (true≢false e)
+
+off-says : (i : ℕ) (a : About) (word : Word) → SaysOff i a → says (orders i a word) ≡ false
 off-says i (aTick shorts) word e = absurd (true≢false e)
-off-says i (aCommand sender (Order which on)) word e = by (eqb i which) e
-  where
-    by : (here : Bool) → (if here then on else true) ≡ false → (if here then on else word) ≡ false
-    by true e = e
-    by false e = absurd (true≢false e)
+off-says i (aCommand sender (Order which on)) word e = off-new (eqb i which) (plain on) word e
+off-says i (aCommand sender (Timed which minutes)) word e = off-new (eqb i which) (timed minutes 0) word e
 off-says i (aCommand sender (Thresholds ascend descend)) word e = absurd (true≢false e)
 off-says i neither word e = absurd (true≢false e)
 
-is-false : (b : Bool) → (T b → ⊥) → b ≡ false
-is-false true h = absurd (h tt)
-is-false false h = refl
+-- what is said after an "off" does not hang on how that was said
+same-new : (here : Bool) (ordered word : Word) → says word ≡ false → says (if here then ordered else word) ≡ says (if here then ordered else plain false)
+same-new true ordered word e = refl
+same-new false ordered word e = e
+
+same-says : (i : ℕ) (a : About) (word : Word) → says word ≡ false → says (orders i a word) ≡ says (orders i a (plain false))
+same-says i (aTick shorts) word e = e
+same-says i (aCommand sender (Order which on)) word e = same-new (eqb i which) (plain on) word e
+same-says i (aCommand sender (Timed which minutes)) word e = same-new (eqb i which) (timed minutes 0) word e
+same-says i (aCommand sender (Thresholds ascend descend)) word e = e
+same-says i neither word e = e
 
 module _ (which : ℕ) (mission : isMission which ≡ true) where
   low : which < moduleCount
   low = mission-low which mission
 
-  abbrev Quiet : State → Type 0
-  Quiet s = moduleAt which s .requested ≡ false
+  -- a call says "off" if what it orders is "off"
+  said-off : (s : State) (c : Call) (word : Word) → says (ordered which s c (later s c word)) ≡ false → says (said crossing which s c word) ≡ false
+  said-off s c word e =
+      rw mission (either (λ (w : Word). says w ≡ false) (isSafe (s .watch .mode) && isRecovery (called s c .result .state .watch .mode)) refl e)
 
-  -- one call leaves the module unrequested if all that it says, once done, is "off"
-  no-crossing : (before after : Mode) → crossing true before after false ≡ false
-  no-crossing before after = either (λ (w : Bool). w ≡ false) (isSafe before && isRecovery after) refl refl
+  off-done : (s : State) (c : Call) (word : Word) → answered s c ≡ 0 → SaysOff which (aboutOf c) → says (ordered which s c word) ≡ false
+  off-done s c word z e = rw z (off-says which (aboutOf c) word e)
 
-  called-quiet : (s : State) (c : Call) → Eight s → ordered which s c (moduleAt which s .requested) ≡ false → Quiet (called s c .result .state)
-  called-quiet s c n e = called-said which low s n c ∙ rw (mission, e) (no-crossing (s .watch .mode) (called s c .result .state .watch .mode))
-
-  -- an "on" that is not done leaves it so
-  said-quiet : (done on : Bool) → (T done → on ≡ true → ⊥) → (if done then on else false) ≡ false
-  said-quiet true true h = absurd (h tt refl)
-  said-quiet true false h = refl
-  said-quiet false on h = refl
-
-  no-on : (s : State) (c : Call) → Eight s → Quiet s → (answered s c ≡ 0 → orders which (aboutOf c) false ≡ true → ⊥) → Quiet (called s c .result .state)
-  no-on s c n q h =
-      called-quiet s c n
-      (rw q (said-quiet (isDone (answered s c)) (orders which (aboutOf c) false) (λ d. h (eqb→eq (answered s c) 0 d))))
+  -- and it stays "off" where no "on" is done
+  no-on : (s : State) (c : Call) (word : Word) → says word ≡ false → (answered s c ≡ 0 → SaysOn which (aboutOf c) → ⊥) → says (said crossing which s c word) ≡ false
+  no-on s c word q h =
+      let w : Word = later s c word in
+      let on : Bool = says (orders which (aboutOf c) (plain false)) in
+      let off : says w ≡ false = either (λ (v : Word). says v ≡ false) (runningTick s c) (aged-off word q) q in
+      said-off s c word
+      (decided (λ (v : Word). says v ≡ false) (isDone (answered s c))
+      (λ d. same-says which (aboutOf c) w off ∙ is-false on (λ t. h (eqb-true (answered s c) 0 d) (is-true on t))) (λ d. off))
 
   -- it is off after a done tick, and stays off
   abbrev Off : State → Type 0
   Off s = isOn (moduleAt which s .power) ≡ false
 
   off-by :
-      (s : State) (c : Call) → Dark which s → Quiet (called s c .result .state) → (tick : Bool) → doneTick s c ≡ tick → (d : ℕ) → (1 ≤ d → Off s) →
+      (s : State) (c : Call) → Dark which s → moduleAt which (called s c .result .state) .requested ≡ false → (tick : Bool) → doneTick s c ≡ tick → (d : ℕ) → (1 ≤ d → Off s) →
       1 ≤ d + (if tick then 1 else 0) → Off (called s c .result .state)
-  off-by s c dark q true e d p h = is-false (isOn (moduleAt which (called s c .result .state) .power)) (λ t. rw q at (called-asked which s c dark (holds (doneTick s c) e) t))
+  off-by s c dark q true e d p h = called-off which s c dark (holds (doneTick s c) e) q
   off-by s c dark q false e d p h = rw (only-ticks .power which s c e) (p (omega arith))
 
   module _ (origin : Origin) (cs : List Call) (off : Call) (since : List Call) (o : OrderedOff memory origin which cs off since) where
@@ -103,35 +109,35 @@ module _ (which : ℕ) (mission : isMission which ≡ true) where
     first = called (after freshState cs) off .result .state
 
     -- an "on" since then is not done
-    late-on : (before later : List Call) (c : Call) → since ≡ before ++ c ∷ later → answered (after first before) c ≡ 0 → orders which (aboutOf c) false ≡ true → ⊥
+    late-on : (before later : List Call) (c : Call) → since ≡ before ++ c ∷ later → answered (after first before) c ≡ 0 → SaysOn which (aboutOf c) → ⊥
     unfolding first
     late-on before later c e z says = rw z at (old origin (after freshState cs) off before c (o .lateOns before later c e says (done-room (after first before) c z)) .answer)
 
     still :
-        (before rest : List Call) (s : State) → s ≡ after first before → since ≡ before ++ rest → Eight s → Dark which s → Quiet s → (d : ℕ) → (1 ≤ d → Off s) →
-        Quiet (after s rest) × (1 ≤ d + doneTicks s rest → Off (after s rest))
-    still before [] s e f n dark q d p = (q, λ h. p (omega arith))
-    still before (c ∷ rest) s e f n dark q d p =
+        (before rest : List Call) (s : State) → s ≡ after first before → since ≡ before ++ rest → Eight s → Dark which s → (word : Word) → Held which s word →
+        says word ≡ false → (d : ℕ) → (1 ≤ d → Off s) →
+        (moduleAt which (after s rest) .requested ≡ false) × (1 ≤ d + doneTicks s rest → Off (after s rest))
+    still before [] s e f n dark word held q d p = (held .requested ∙ q, λ h. p (omega arith))
+    still before (c ∷ rest) s e f n dark word held q d p =
         let next : State = called s c .result .state in
-        let quiet : Quiet next = no-on s c n q (rw e (late-on before rest c f)) in
+        let quiet : says (said crossing which s c word) ≡ false = no-on s c word q (rw e (late-on before rest c f)) in
+        let holds : Held which next (said crossing which s c word) = called-held which low s n word held c in
         let (requested, power) =
         still (before ++ (c ∷ [])) rest next (ap (λ (t : State). called t c .result .state) e ∙ sym (after-append before c first))
-        (f ∙ sym (append-assoc before (c ∷ []) rest)) (called-eight s c n) (after-dark which (c ∷ []) s dark) quiet (d + (if doneTick s c then 1 else 0))
-        (off-by s c dark quiet (doneTick s c) refl d p) in
+        (f ∙ sym (append-assoc before (c ∷ []) rest)) (called-eight s c n) (after-dark which (c ∷ []) s dark) (said crossing which s c word) holds quiet
+        (d + (if doneTick s c then 1 else 0)) (off-by s c dark (holds .requested ∙ quiet) (doneTick s c) refl d p) in
         (requested, λ h. power (omega arith))
-
-    first-quiet : Quiet first
-    unfolding first
-    first-quiet =
-        let s : State = after freshState cs in
-        called-quiet s off (after-eight cs freshState fresh-eight) (rw (o .done) (off-says which (aboutOf off) (moduleAt which s .requested) (o .order)))
 
     stays-off : StillOff 1 which first since
     unfolding first
     stays-off =
+        let s : State = after freshState cs in
+        let n : Eight s = after-eight cs freshState fresh-eight in
+        let word : Word = lastWord crossing which (plain (not (isMission which))) freshState cs in
+        let quiet : says (said crossing which s off word) ≡ false = said-off s off word (off-done s off (later s off word) (o .done) (o .order)) in
         let (requested, power) =
-        still [] since first refl refl (called-eight (after freshState cs) off (after-eight cs freshState fresh-eight))
-        (after-dark which (off ∷ []) (after freshState cs) (fresh-dark which low cs)) first-quiet 0 (λ h. absurd (omega arith)) in
+        still [] since first refl refl (called-eight s off n) (after-dark which (off ∷ []) s (fresh-dark which low cs)) (said crossing which s off word)
+        (called-held which low s n word (fresh-held which low cs) off) quiet 0 (λ h. absurd (omega arith)) in
         record { requested = requested; power = λ h. power (omega arith) }
 
 pub dawn : Dawn

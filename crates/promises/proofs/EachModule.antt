@@ -9,10 +9,12 @@ use lib.ListN.{getD}
 use Rattle.basics.specs.Each.{each, eachFrom}
 use Rattle.modules.specs.Power.{switched}
 use Rattle.modules.specs.Groups.{coreFour, missionFour}
+use Rattle.modules.specs.Ends.{endsOver}
 use Rattle.modules.specs.Stage.{moduleSecond, moduleRequested, moduleAsked, stageOf, requestedBy, requestedOne}
 use Rattle.modules.specs.declared.power.Module.{Module}
 use Rattle.supervisor.specs.State.{offModule, moduleAt}
 use Rattle.supervisor.specs.Command.{requestSet}
+use Rattle.supervisor.specs.Ending.{ended}
 use Rattle.supervisor.specs.Control.{controlled}
 use Rattle.supervisor.specs.Tick.{beforeModules, moduleStage, allowedIn}
 use Rattle.supervisor.specs.declared.state.State.{State}
@@ -53,20 +55,20 @@ at-stage s i shorts =
     at-any (moduleSecond (allowedIn (s .watch .mode)) shorts) offModule (second-off (allowedIn (s .watch .mode)) shorts) (s .modules) i
 
 -- its power, which no request changes
-pub asked-power : (s : State) (i which : ℕ) (on : Bool) → moduleAt i (requestSet which on s) .power ≡ moduleAt i s .power
+pub asked-power : (s : State) (i which : ℕ) (on : Bool) (end : ℕ) → moduleAt i (requestSet which on end s) .power ≡ moduleAt i s .power
 unfolding requestSet requestedOne
-asked-power s i which on = kept-each (moduleAsked which on) offModule (λ (m : Module). m .power) (λ k m. refl) (s .modules) i
+asked-power s i which on end = kept-each (moduleAsked which on) offModule (λ (m : Module). m .power) (λ k m. refl) (s .modules) i
 
-crossed-power : (ms : List Module) (i mask : ℕ) (on : Bool) → getD (requestedBy mask on ms) i offModule .power ≡ getD ms i offModule .power
+requested-power : (ms : List Module) (i mask : ℕ) (on : Bool) → getD (requestedBy mask on ms) i offModule .power ≡ getD ms i offModule .power
 unfolding requestedBy
-crossed-power ms i mask on = kept-each (moduleRequested mask on) offModule (λ (m : Module). m .power) (λ k m. refl) ms i
+requested-power ms i mask on = kept-each (moduleRequested mask on) offModule (λ (m : Module). m .power) (λ k m. refl) ms i
 
 power-by : (s : State) (i : ℕ) → Controls s → moduleAt i (controlled s) .power ≡ moduleAt i s .power
 power-by s i (level count low none w) = rw w
-power-by s i (upward j e t w) = rw w (crossed-power (s .modules) i coreFour true)
-power-by s i (downward j e t w) = rw w (crossed-power (s .modules) i missionFour false)
+power-by s i (upward j e t w) = rw w (requested-power (s .modules) i coreFour true)
+power-by s i (downward j e t w) = rw w (requested-power (s .modules) i missionFour false)
 
 -- and nothing before the module stage
 pub before-power : (s : State) (i : ℕ) → moduleAt i (beforeModules s) .power ≡ moduleAt i s .power
-unfolding beforeModules
-before-power s i = power-by s i (controls s)
+unfolding beforeModules ended
+before-power s i = power-by (ended s) i (controls (ended s)) ∙ requested-power (s .modules) i (endsOver (s .ends)) false

@@ -20,9 +20,9 @@ use Rattle.flight.specs.Saving.{saved}
 use Rattle.flight.proofs.Images.{step-image}
 use Rattle.promises.specs.ImageFlies.{imageAfter, ImageFlies}
 
-fresh-written : (image : List ℕ) → length image ≡ 34 → freshImage image ≡ imaged 0 (saved freshState)
+fresh-written : (image : List ℕ) → length image ≡ 50 → freshImage image ≡ imaged 0 (saved freshState)
 unfolding freshImage
-fresh-written image e = simp (eq-eqb (length image) 34 e)
+fresh-written image e = simp (eq-eqb (length image) 50 e)
 
 -- one call
 one-call : (s : State) → T (inRange s) → Eight s → (c : Call) → stepImage (saved s) (c .input) (c .room) ≡ steppedTo (called s c)

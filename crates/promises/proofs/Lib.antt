@@ -10,13 +10,17 @@ pub mod OutOfRange
 pub mod Deployment
 pub mod TwoModes
 pub mod TwoControl
+pub mod TwoEnds
 pub mod TwoTick
 pub mod TwoFrames
 pub mod TwoPower
 pub mod TwoCraft
 pub mod Serials
+pub mod WordLaws
 pub mod Requests
 pub mod AsTold
+pub mod Begins
+pub mod ItEnds
 pub mod Late
 pub mod Dawn
 pub mod BeaconLaws

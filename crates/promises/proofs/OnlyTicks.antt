@@ -1,27 +1,42 @@
 -- Only ticks, proved.
 -- Assumes nothing.
-use Prim.Native.Nat.{ℕ}
+use Prim.Native.Nat.{ℕ, _*_}
 use mathlib.Core.Path.{_≡_, refl, sym, _∙_}
-use mathlib.Core.Bool.{false, true≢false}
+use mathlib.Core.Bool.{Bool, true, false, _&&_, true≢false}
+use mathlib.Core.List.{List}
 use lib.Dec.{T}
+use lib.ListN.{getD}
+use Rattle.basics.proofs.ChoiceLaws.{either}
+use Rattle.modules.specs.declared.ends.Ends.{Ends}
+use Rattle.modules.specs.declared.power.Module.{Module}
+use Rattle.frames.specs.Answer.{answerNumber}
 use Rattle.frames.specs.About.{about, isTick}
+use Rattle.frames.specs.declared.answer.Answer.the-variants.{NotNow}
+use Rattle.frames.specs.declared.sender.Sender.{Sender}
+use Rattle.frames.specs.declared.command.Command.{Command}
+use Rattle.frames.specs.declared.command.Command.the-variants.{Order, Timed, Thresholds}
 use Rattle.frames.specs.declared.frame.Frame.{Frame}
 use Rattle.frames.specs.declared.reading.Reading.the-variants.{Accepted}
 use Rattle.frames.specs.declared.frame.Frame.the-variants as frame
 use Rattle.frames.proofs.ReadingLaws.{Fits}
-use Rattle.supervisor.specs.State.{moduleAt}
+use Rattle.supervisor.specs.State.{offModule, moduleAt}
+use Rattle.supervisor.specs.Acted.{silent, done}
 use Rattle.supervisor.specs.Act.{actOf}
+use Rattle.supervisor.specs.Command.{isIllTimed, requestSet, orderTaken, minuteSeconds, taken, serialUsed}
+use Rattle.supervisor.specs.Ending.{ended}
 use Rattle.supervisor.specs.Control.{controlled}
 use Rattle.supervisor.specs.Due.{beaconStage}
 use Rattle.supervisor.specs.Tick.{ticked, beforeModules, moduleStage}
-use Rattle.supervisor.specs.History.{Call, called, doneTick}
+use Rattle.supervisor.specs.History.{Call, called, isDone, doneTick}
+use Rattle.supervisor.specs.declared.acted.Acted.{Acted}
 use Rattle.supervisor.specs.declared.state.State.{State}
 use Rattle.supervisor.proofs.ActLaws.{act-still, watch-still}
 use Rattle.supervisor.proofs.BeforeModulesLaws.{before-battery}
+use Rattle.supervisor.proofs.CommandLaws.{by-serial}
 use Rattle.supervisor.proofs.ControlLaws.{Controls, level, upward, downward, controls}
 use Rattle.supervisor.proofs.HistoryLaws.{Works, Comes, stopped, ticking, other, comes}
 use Rattle.supervisor.proofs.TickLaws.{Ticks, waits, runs, ticks, ticked-serials}
-use Rattle.promises.specs.OnlyTicks.{OnlyTicks, OthersLeave, TicksLeave}
+use Rattle.promises.specs.OnlyTicks.{OnlyTicks, OthersLeave, TicksLeave, RestLeaves, isOrder, doneOrder, any}
 use Rattle.promises.proofs.EachModule.{asked-power}
 
 -- a call is a done tick, or it is none
@@ -61,7 +76,13 @@ module _ {Part : Type 0} (part : State → Part) where
 pub power-still : (i : ℕ) (f : Frame) → Fits f → isTick (about (Accepted f)) ≡ false → (s : State) → moduleAt i (actOf f s .state) .power ≡ moduleAt i s .power
 power-still i f fits e s =
     act-still (λ t. moduleAt i t .power ≡ moduleAt i s .power)
-    (record { tension = λ n r t h. h; antennas = λ d t h. h; serial = λ o t h. h; request = λ which on t e h. asked-power t i which on ∙ h; thresholds = λ a d r t h. h })
+    (record {
+      tension = λ n r t h. h;
+      antennas = λ d t h. h;
+      serial = λ o t h. h;
+      request = λ which on end short t e h. asked-power t i which on end ∙ h;
+      thresholds = λ a d r t h. h;
+    })
     f fits e s refl
 
 -- a tick, in DEPLOY_WAIT or by its stages
@@ -76,9 +97,45 @@ controlled-antennas s (upward j e t w) = rw w
 controlled-antennas s (downward j e t w) = rw w
 
 antennas-by : (shorts : ℕ) (s : State) → Ticks shorts s → ticked shorts s .state .antennas ≡ s .antennas
-unfolding beaconStage moduleStage beforeModules
+unfolding beaconStage moduleStage beforeModules ended
 antennas-by shorts s (waits phase e w) = rw w
-antennas-by shorts s (runs e w) = rw w (controlled-antennas s (controls s))
+antennas-by shorts s (runs e w) = rw w (controlled-antennas (ended s) (controls (ended s)))
+
+-- what hangs on ends and modules alone is left by what is neither a tick nor a done order
+module _ {Part : Type 0} (look : Ends → List Module → Part) where
+  abbrev part : State → Part
+  part s = look (s .ends) (s .modules)
+
+  abbrev Leaves : Frame → State → Acted → Type 0
+  Leaves f s a = isOrder any (about (Accepted f)) && isDone (answerNumber (a .answer)) ≡ false → part (a .state) ≡ part s
+
+  order-leaves :
+      (f : Frame) → isOrder any (about (Accepted f)) ≡ true → (which : ℕ) (on : Bool) (end : ℕ) (s t : State) → part t ≡ part s →
+      Leaves f s (orderTaken which on end t)
+  order-leaves f order which on end s t same =
+      either (Leaves f s) (isIllTimed which on (t .watch .mode)) {x = silent NotNow t} {y = done (requestSet which on end t)} (λ e. same)
+      (λ e. absurd (true≢false (rw order at e)))
+
+  taken-leaves : (sender : Sender) (command : Command) (s t : State) → part t ≡ part s → Leaves (frame.Command sender command) s (taken command t)
+  taken-leaves sender (Order which on) s t same = order-leaves (frame.Command sender (Order which on)) refl which on 0 s t same
+  taken-leaves sender (Timed which minutes) s t same = order-leaves (frame.Command sender (Timed which minutes)) refl which true (minuteSeconds * minutes) s t same
+  taken-leaves sender (Thresholds ascend descend) s t same = λ e. same
+
+  act-leaves : (f : Frame) → isTick (about (Accepted f)) ≡ false → (s : State) → Leaves f s (actOf f s)
+  unfolding actOf
+  act-leaves (frame.Tick shorts) t s = absurd (true≢false t)
+  act-leaves (frame.Battery tension) t s = λ e. refl
+  act-leaves (frame.Antennas deployed) t s = λ e. refl
+  act-leaves (frame.Command sender command) t s =
+      by-serial sender command s (λ class. Leaves (frame.Command sender command) s) (λ e. refl) (λ e. refl) (taken-leaves sender command s (serialUsed sender s) refl)
+
+  by-rest : (s : State) (c : Call) → doneTick s c ≡ false → doneOrder any s c ≡ false → Comes s c → part (called s c .result .state) ≡ part s
+  by-rest s c d o (stopped answer w) = rw (w .leaves)
+  by-rest s c d o (ticking shorts w) = absurd (true≢false (sym (w .tick) ∙ d))
+  by-rest s c d o (other f t w) = rw (w .leaves) (act-leaves f t s (rw (w .read, w .leaves) at o))
+
+  rest-leaves : RestLeaves Part part
+  rest-leaves s c d o = by-rest s c d o (comes s c)
 
 pub only-ticks : OnlyTicks
 only-ticks =
@@ -88,4 +145,6 @@ only-ticks =
       serials = ticks-leave (λ s. s .serials) ticked-serials;
       battery = ticks-leave (λ s. s .battery) (λ shorts s. battery-by shorts s (ticks shorts s));
       antennas = ticks-leave (λ s. s .antennas) (λ shorts s. antennas-by shorts s (ticks shorts s));
+      requested = λ i. rest-leaves (λ ends modules. getD modules i offModule .requested);
+      ends = rest-leaves (λ ends modules. ends);
     }

@@ -1,27 +1,29 @@
 -- A refusal moves nothing, proved.
 -- Assumes nothing.
-use Prim.Native.Nat.{ℕ}
+use Prim.Native.Nat.{ℕ, _*_}
 use native.Mathlib.Omega.{arith}
 use mathlib.Core.Path.{_≡_, refl}
 use mathlib.Core.Bool.{Bool, true, false, not, _&&_, true≢false, false≢true}
 use lib.Dec.{T}
-use borrow.Author.Tests.{eq-eqb}
+use borrow.Author.Tests.{eq-eqb, lt-ltb}
 use Rattle.basics.specs.Choice.{within}
 use Rattle.basics.proofs.ChoiceLaws.{decided, within-low, within-high, within-of}
 use Rattle.modules.specs.Groups.{isMission}
 use Rattle.frames.specs.Answer.{answerNumber}
 use Rattle.frames.specs.About.{about, isTick}
+use Rattle.frames.specs.Reading.{mostMinutes}
 use Rattle.frames.specs.declared.answer.Answer.the-variants.{NotNow}
 use Rattle.frames.specs.declared.command.Command.{Command}
-use Rattle.frames.specs.declared.command.Command.the-variants.{Order, Thresholds}
+use Rattle.frames.specs.declared.command.Command.the-variants.{Order, Timed, Thresholds}
 use Rattle.frames.specs.declared.frame.Frame.{Frame}
 use Rattle.frames.specs.declared.reading.Reading.the-variants.{Accepted}
 use Rattle.frames.specs.declared.sender.Sender.{Sender}
 use Rattle.frames.specs.declared.frame.Frame.the-variants as frame
+use Rattle.frames.proofs.ReadingLaws.{FitsCommand}
 use Rattle.supervisor.specs.State.{isSafe}
 use Rattle.supervisor.specs.Acted.{silent, done}
 use Rattle.supervisor.specs.Act.{actOf}
-use Rattle.supervisor.specs.Command.{isIllTimed, requestSet, taken, serialUsed, bySerial}
+use Rattle.supervisor.specs.Command.{isIllTimed, requestSet, orderTaken, minuteSeconds, taken, serialUsed, bySerial}
 use Rattle.supervisor.specs.History.{Call, answered}
 use Rattle.supervisor.specs.Report.{reportOf}
 use Rattle.supervisor.specs.declared.acted.Acted.{Acted}
@@ -30,14 +32,14 @@ use Rattle.supervisor.specs.declared.state.State.{State}
 use Rattle.supervisor.proofs.CommandLaws.{by-serial, act-answers, unrefused}
 use Rattle.supervisor.proofs.HistoryLaws.{Works, Comes, stopped, ticking, other, comes}
 use Rattle.supervisor.proofs.TickLaws.{ticked-done}
-use Rattle.promises.specs.AsTold.{commands}
+use Rattle.promises.specs.AsTold.{plain, says, commands}
 use Rattle.promises.specs.Refusals.{Refusals, Untouched, TurnedDown, IllTimed, nothing, outsideSafe}
 use Rattle.promises.proofs.BeaconRefusals.{beacon-keeps}
 use Rattle.promises.proofs.KeyerRefusals.{keying-keeps, reading-keeps}
 
 -- an "on" for one of the mission four, outside SAFE
 abbrev Ill : Command → State → Type 0
-Ill command s = record { which : ℕ; mission : isMission which ≡ true; on : commands which command false ≡ true; mode : outsideSafe (s .watch .mode) ≡ true }
+Ill command s = record { which : ℕ; mission : isMission which ≡ true; on : says (commands which command (plain false)) ≡ true; mode : outsideSafe (s .watch .mode) ≡ true }
 
 -- what a command comes to, by its answer: 8 and 9 move nothing, 10 the serial alone
 abbrev Turns : Sender → Command → State → Acted → Type 0
@@ -52,28 +54,34 @@ Turns sender command s a =
 not-ten : {P : Type 0} (n : ℕ) → T (within 0 9 n) → n ≡ 10 → P
 not-ten n h e = absurd (rw e at h)
 
-ill-order :
-    (which : ℕ) (on : Bool) (s : State) (on′ m safe : Bool) → on ≡ on′ → isMission which ≡ m → isSafe (s .watch .mode) ≡ safe →
-    on′ && m && not safe ≡ true → Ill (Order which on) s
-ill-order which on s true true false e f g t = record { which = which; mission = f; on = rw (eq-eqb which which refl) e; mode = rw g }
-ill-order which on s true true true e f g t = absurd (false≢true t)
-ill-order which on s true false safe e f g t = absurd (false≢true t)
-ill-order which on s false m safe e f g t = absurd (false≢true t)
+-- an order, if it says "on" wherever it asks so
+module _ (sender : Sender) (command : Command) (which : ℕ) (on : Bool) (end : ℕ) (asks : on ≡ true → says (commands which command (plain false)) ≡ true) (s : State) where
+  ill-order : (asked m safe : Bool) → on ≡ asked → isMission which ≡ m → isSafe (s .watch .mode) ≡ safe → asked && m && not safe ≡ true → Ill command s
+  ill-order true true false e f g t = record { which = which; mission = f; on = asks e; mode = rw g }
+  ill-order true true true e f g t = absurd (false≢true t)
+  ill-order true false safe e f g t = absurd (false≢true t)
+  ill-order false m safe e f g t = absurd (false≢true t)
 
-taken-turns : (sender : Sender) (command : Command) (s : State) → Turns sender command s (taken command (serialUsed sender s))
-unfolding isIllTimed
-taken-turns sender (Order which on) s =
-    decided (Turns sender (Order which on) s) (isIllTimed which on (s .watch .mode))
-    {x = silent NotNow (serialUsed sender s)} {y = done (requestSet which on (serialUsed sender s))}
-    (λ e. record { silent = refl; old = λ t. absurd t; ten = λ z. refl; ill = λ z. ill-order which on s on (isMission which) (isSafe (s .watch .mode)) refl refl refl e })
-    (λ e. record { silent = refl; old = λ t. absurd t; ten = not-ten 0 tt; ill = not-ten 0 tt })
-taken-turns sender (Thresholds ascend descend) s = record { silent = refl; old = λ t. absurd t; ten = not-ten 0 tt; ill = not-ten 0 tt }
+  order-turns : Turns sender command s (orderTaken which on end (serialUsed sender s))
+  unfolding isIllTimed
+  order-turns =
+      decided (Turns sender command s) (isIllTimed which on (s .watch .mode))
+      {x = silent NotNow (serialUsed sender s)} {y = done (requestSet which on end (serialUsed sender s))}
+      (λ e. record { silent = refl; old = λ t. absurd t; ten = λ z. refl; ill = λ z. ill-order on (isMission which) (isSafe (s .watch .mode)) refl refl refl e })
+      (λ e. record { silent = refl; old = λ t. absurd t; ten = not-ten 0 tt; ill = not-ten 0 tt })
 
-command-turns : (sender : Sender) (command : Command) (s : State) → Turns sender command s (bySerial sender command s)
-command-turns sender command s =
+taken-turns : (sender : Sender) (command : Command) → FitsCommand sender command → (s : State) → Turns sender command s (taken command (serialUsed sender s))
+taken-turns sender (Order which on) fits s = order-turns sender (Order which on) which on 0 (λ e. rw (eq-eqb which which refl) e) s
+taken-turns sender (Timed which minutes) fits s =
+    order-turns sender (Timed which minutes) which true (minuteSeconds * minutes)
+    (λ e. rw (eq-eqb which which refl) (lt-ltb 0 (60 * minutes) (omega (arith, within-low 1 mostMinutes minutes (fits .minutes))))) s
+taken-turns sender (Thresholds ascend descend) fits s = record { silent = refl; old = λ t. absurd t; ten = not-ten 0 tt; ill = not-ten 0 tt }
+
+command-turns : (sender : Sender) (command : Command) → FitsCommand sender command → (s : State) → Turns sender command s (bySerial sender command s)
+command-turns sender command fits s =
     by-serial sender command s (λ class. Turns sender command s)
     (record { silent = refl; old = λ t. refl; ten = not-ten 8 tt; ill = not-ten 8 tt })
-    (record { silent = refl; old = λ t. refl; ten = not-ten 9 tt; ill = not-ten 9 tt }) (taken-turns sender command s)
+    (record { silent = refl; old = λ t. refl; ten = not-ten 9 tt; ill = not-ten 9 tt }) (taken-turns sender command fits s)
 
 -- what is answered 8, 9 or 10 is a command
 abbrev Commanded : State → Call → Type 0
@@ -101,7 +109,7 @@ module _ (s : State) (c : Call) where
     old : T (within 8 9 (answered s c)) → TurnedDown nothing s c
     unfolding reportOf
     old h =
-        let t = command-turns (k .sender) (k .command) s in
+        let t = command-turns (k .sender) (k .command) (k .works .fits) s in
         let same : bySerial (k .sender) (k .command) s .state ≡ s = t .old (rw (k .works .leaves) at h) in
         record {
           sender = k .sender;
@@ -114,7 +122,7 @@ module _ (s : State) (c : Call) where
     ten : answered s c ≡ 10 → TurnedDown serialUsed s c
     unfolding reportOf
     ten h =
-        let t = command-turns (k .sender) (k .command) s in
+        let t = command-turns (k .sender) (k .command) (k .works .fits) s in
         let moved : bySerial (k .sender) (k .command) s .state ≡ serialUsed (k .sender) s = t .ten (rw (k .works .leaves) at h) in
         record {
           sender = k .sender;
@@ -126,7 +134,7 @@ module _ (s : State) (c : Call) where
 
     ill-timed : answered s c ≡ 10 → IllTimed outsideSafe s c
     ill-timed h =
-        let i = command-turns (k .sender) (k .command) s .ill (rw (k .works .leaves) at h) in
+        let i = command-turns (k .sender) (k .command) (k .works .fits) s .ill (rw (k .works .leaves) at h) in
         record { which = i .which; mission = i .mission; on = rw (k .works .read) (i .on); mode = i .mode }
 
   old-answer : T (within 8 9 (answered s c)) → T (within 8 10 (answered s c))

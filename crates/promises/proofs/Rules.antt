@@ -2,14 +2,16 @@
 -- Assumes nothing.
 use Rattle.basics.specs.Each.{each, eachFrom}
 use Rattle.modules.specs.Power.{switched}
+use Rattle.modules.specs.Ends.{endOf, endsFallen, endsOver, withEnd, endsInRange}
 use Rattle.modules.specs.Stage.{stageOf, requestedBy, requestedOne, modulesInRange}
 use Rattle.modules.specs.Masks.{maskOf, masksOf}
 use Rattle.frames.specs.Kind.{totalOf}
 use Rattle.frames.specs.Serial.{classOf}
-use Rattle.frames.specs.Reading.{batteryFields, antennasFields, orderFields, thresholdsFields, readFrame}
+use Rattle.frames.specs.Reading.{batteryFields, antennasFields, orderFields, timedFields, thresholdsFields, readFrame}
 use Rattle.supervisor.specs.Range.{inRange}
 use Rattle.supervisor.specs.Fresh.{freshState}
 use Rattle.supervisor.specs.Command.{isIllTimed, requestSet, bySerial}
+use Rattle.supervisor.specs.Ending.{ended}
 use Rattle.supervisor.specs.Control.{controlled}
 use Rattle.supervisor.specs.Due.{beaconStage}
 use Rattle.supervisor.specs.Tick.{beforeModules, moduleStage, ticked}
@@ -19,15 +21,15 @@ use Rattle.supervisor.specs.Step.{stepOf}
 
 -- of the modules
 modules : Unit {0}
-unfolding each eachFrom switched stageOf requestedBy requestedOne modulesInRange maskOf masksOf
+unfolding each eachFrom switched endOf endsFallen endsOver withEnd endsInRange stageOf requestedBy requestedOne modulesInRange maskOf masksOf
 modules = tt
 
 -- of the frames
 frames : Unit {0}
-unfolding totalOf classOf batteryFields antennasFields orderFields thresholdsFields readFrame
+unfolding totalOf classOf batteryFields antennasFields orderFields timedFields thresholdsFields readFrame
 frames = tt
 
 -- all
 unfoldable pub rules : Unit {0}
-unfolding modules frames inRange freshState isIllTimed requestSet bySerial controlled beaconStage beforeModules moduleStage ticked actOf reportOf stepOf
+unfolding modules frames inRange freshState isIllTimed requestSet bySerial ended controlled beaconStage beforeModules moduleStage ticked actOf reportOf stepOf
 rules = tt

@@ -1,4 +1,4 @@
--- What two craft keep between them, for one mission module, and that the control stage keeps it.
+-- What two craft keep between them, for one mission module, and that control keeps it.
 -- Assumes nothing.
 use Prim.Native.Nat.{ℕ, _+_, _≤_, _<_}
 use mathlib.Core.Path.{_≡_, refl, ap, _∙_}
@@ -7,10 +7,10 @@ use lib.Dec.{T, eqb}
 use Rattle.basics.specs.Choice.{bit}
 use Rattle.basics.proofs.ChoiceLaws.{same-test}
 use Rattle.modules.specs.Groups.{coreFour, missionFour, isMission, moduleCount}
+use Rattle.modules.specs.Ends.{noEnds}
 use Rattle.modules.specs.declared.power.Module.{Module}
-use Rattle.supervisor.specs.State.{withControl, isSafe, moduleAt}
+use Rattle.supervisor.specs.State.{withControl, withEnds, isSafe, moduleAt, endAt}
 use Rattle.supervisor.specs.Range.{judgeTicks}
-use Rattle.supervisor.specs.Tick.{beforeModules}
 use Rattle.supervisor.specs.Control.{crossed, controlled}
 use Rattle.supervisor.specs.declared.control.Crossing.{Crossing}
 use Rattle.supervisor.specs.declared.control.Crossing.the-variants.{Upward, Downward}
@@ -30,9 +30,10 @@ Charged a b = record { tension : a .tension ≤ b .tension; ascend : a .ascend �
 abbrev pub Shared : State → State → Type 0
 Shared a b = record { antennas : a .antennas ≡ b .antennas; battery : Charged (a .battery) (b .battery); serials : a .serials ≡ b .serials }
 
--- a mission module is requested on the first craft only in SAFE, and then on the second
-abbrev pub Asked : Mode → Module → Module → Type 0
-Asked mode m n = record { quiet : T (m .requested) → T (isSafe mode); grows : T (m .requested) → T (n .requested) }
+-- a mission module is requested on the first craft only in SAFE, and then on the second, with the same end
+abbrev pub Asked : Mode → (m n : Module) → (end end′ : ℕ) → Type 0
+Asked mode m n end end′ =
+    record { quiet : T (m .requested) → T (isSafe mode); grows : T (m .requested) → T (n .requested); ends : T (m .requested) → end ≡ end′ }
 
 -- the modes in order, the control counts the same, and module i requested on the second if on the first
 abbrev pub Flown : ℕ → State → State → Type 0
@@ -42,7 +43,7 @@ Flown i a b =
       counts : a .watch .control ≡ b .watch .control;
       eight : Eight a;
       eight′ : Eight b;
-      asked : Asked (a .watch .mode) (moduleAt i a) (moduleAt i b);
+      asked : Asked (a .watch .mode) (moduleAt i a) (moduleAt i b) (endAt i a) (endAt i b);
     }
 
 abbrev pub Beside : ℕ → State → State → Type 0
@@ -60,13 +61,13 @@ module _ (i : ℕ) (mission : isMission i ≡ true) where
   up-asked s e = ap (λ m. m .requested) (at-crossed (withControl 0 s) e i low Safe coreFour true) ∙ rw not-core
 
   down-asked : (s : State) → Eight s → moduleAt i (crossed Downward (withControl 0 s)) .requested ≡ false
-  down-asked s e = ap (λ m. m .requested) (at-crossed (withControl 0 s) e i low Recovery missionFour false) ∙ rw mission
+  down-asked s e = ap (λ m. m .requested) (at-crossed (withEnds noEnds (withControl 0 s)) e i low Recovery missionFour false) ∙ rw mission
 
   up-eight : (s : State) → Eight s → Eight (crossed Upward (withControl 0 s))
   up-eight s e = crossed-eight (withControl 0 s) e Safe coreFour true
 
   down-eight : (s : State) → Eight s → Eight (crossed Downward (withControl 0 s))
-  down-eight s e = crossed-eight (withControl 0 s) e Recovery missionFour false
+  down-eight s e = crossed-eight (withEnds noEnds (withControl 0 s)) e Recovery missionFour false
 
   module _ (a b : State) where
     -- control
@@ -83,7 +84,11 @@ module _ (i : ℕ) (mission : isMission i ≡ true) where
             counts = refl;
             eight = up-eight a (h .eight);
             eight′ = up-eight b (h .eight′);
-            asked = record { quiet = λ t. tt; grows = λ t. rw (up-asked b (h .eight′)) (h .asked .grows (rw (up-asked a (h .eight)) at t)) };
+            asked = record {
+              quiet = λ t. tt;
+              grows = λ t. rw (up-asked b (h .eight′)) (h .asked .grows (rw (up-asked a (h .eight)) at t));
+              ends = λ t. h .asked .ends (rw (up-asked a (h .eight)) at t);
+            };
           };
         }
     crossed-beside m n x y e f second-up s h =
@@ -94,10 +99,11 @@ module _ (i : ℕ) (mission : isMission i ≡ true) where
             counts = refl;
             eight = h .eight;
             eight′ = up-eight b (h .eight′);
-            asked = record { quiet = h .asked .quiet; grows = λ t. rw (up-asked b (h .eight′)) (h .asked .grows t) };
+            asked = record { quiet = h .asked .quiet; grows = λ t. rw (up-asked b (h .eight′)) (h .asked .grows t); ends = h .asked .ends };
           };
         }
     crossed-beside m n x y e f both-down s h =
+        let none : T (moduleAt i (crossed Downward (withControl 0 a)) .requested) → ⊥ = λ t. rw (down-asked a (h .eight)) at t in
         record {
           shared = s;
           flown = record {
@@ -105,10 +111,11 @@ module _ (i : ℕ) (mission : isMission i ≡ true) where
             counts = refl;
             eight = down-eight a (h .eight);
             eight′ = down-eight b (h .eight′);
-            asked = record { quiet = λ t. absurd (rw (down-asked a (h .eight)) at t); grows = λ t. absurd (rw (down-asked a (h .eight)) at t) };
+            asked = record { quiet = λ t. absurd (none t); grows = λ t. absurd (none t); ends = λ t. absurd (none t) };
           };
         }
     crossed-beside m n x y e f first-down s h =
+        let none : T (moduleAt i (crossed Downward (withControl 0 a)) .requested) → ⊥ = λ t. rw (down-asked a (h .eight)) at t in
         record {
           shared = s;
           flown = record {
@@ -116,7 +123,7 @@ module _ (i : ℕ) (mission : isMission i ≡ true) where
             counts = refl;
             eight = down-eight a (h .eight);
             eight′ = h .eight′;
-            asked = record { quiet = λ t. absurd (rw (down-asked a (h .eight)) at t); grows = λ t. absurd (rw (down-asked a (h .eight)) at t) };
+            asked = record { quiet = λ t. absurd (none t); grows = λ t. absurd (none t); ends = λ t. absurd (none t) };
           };
         }
     crossed-beside m n x y e f first-up s h =
@@ -127,10 +134,15 @@ module _ (i : ℕ) (mission : isMission i ≡ true) where
             counts = refl;
             eight = up-eight a (h .eight);
             eight′ = h .eight′;
-            asked = record { quiet = λ t. tt; grows = λ t. h .asked .grows (rw (up-asked a (h .eight)) at t) };
+            asked = record {
+              quiet = λ t. tt;
+              grows = λ t. h .asked .grows (rw (up-asked a (h .eight)) at t);
+              ends = λ t. h .asked .ends (rw (up-asked a (h .eight)) at t);
+            };
           };
         }
     crossed-beside m n x y e f second-down s h =
+        let none : T (moduleAt i a .requested) → ⊥ = λ t. rw e at (h .asked .quiet t) in
         record {
           shared = s;
           flown = record {
@@ -138,11 +150,11 @@ module _ (i : ℕ) (mission : isMission i ≡ true) where
             counts = refl;
             eight = h .eight;
             eight′ = down-eight b (h .eight′);
-            asked = record { quiet = h .asked .quiet; grows = λ t. absurd (rw e at (h .asked .quiet t)) };
+            asked = record { quiet = h .asked .quiet; grows = λ t. absurd (none t); ends = λ t. absurd (none t) };
           };
         }
 
-    controlled-beside : Beside i a b → Beside i (controlled a) (controlled b)
+    pub controlled-beside : Beside i a b → Beside i (controlled a) (controlled b)
     unfolding controlled
     controlled-beside h =
         let battery : Charged (a .battery) (b .battery) = h .shared .battery in
@@ -154,8 +166,3 @@ module _ (i : ℕ) (mission : isMission i ≡ true) where
           shared = h .shared;
           flown = record { modes = flown .modes; counts = ap (λ (n : ℕ). n + 1) (flown .counts); eight = flown .eight; eight′ = flown .eight′; asked = flown .asked };
         })
-
-    -- so it is kept by what the module stage finds
-    pub before-beside : Beside i a b → Beside i (beforeModules a) (beforeModules b)
-    unfolding beforeModules
-    before-beside h = controlled-beside h

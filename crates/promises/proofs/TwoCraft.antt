@@ -101,7 +101,7 @@ module _ (i : ℕ) (mission : isMission i ≡ true) where
       let none : moduleAt i freshState .requested ≡ false = rw mission at (fresh-requested i (mission-low i mission)) in
       record {
         shared = record { antennas = refl; battery = record { tension = omega arith; ascend = refl; descend = refl; apart = omega arith }; serials = refl };
-        flown = record { modes = even; counts = refl; eight = refl; eight′ = refl; asked = record { quiet = λ t. absurd (rw none at t); grows = λ t. t } };
+        flown = record { modes = even; counts = refl; eight = refl; eight′ = refl; asked = record { quiet = λ t. absurd (rw none at t); grows = λ t. t; ends = λ t. refl } };
       }
 
   fresh-lit : Bright i mission 0 freshState freshState

@@ -1,11 +1,11 @@
 -- What two craft keep between them is kept by every frame.
 -- Assumes nothing.
-use Prim.Native.Nat.{ℕ, _≤_}
+use Prim.Native.Nat.{ℕ, _*_, _≤_}
 use native.Mathlib.Nat.{le-refl}
 use mathlib.Core.Path.{_≡_, refl, sym, ap, _∙_}
 use mathlib.Core.Bool.{Bool, true, false, not, _&&_, true≢false, false≢true}
 use lib.Dec.{T, eqb, leb, leb→le}
-use borrow.Author.Tests.{eqb-true}
+use borrow.Author.Tests.{eqb-true, eqb-false}
 use Rattle.basics.specs.Choice.{if_then_else_}
 use Rattle.basics.proofs.ChoiceLaws.{and-right, sooner}
 use Rattle.modules.specs.Groups.{isMission}
@@ -15,16 +15,16 @@ use Rattle.frames.specs.declared.answer.Answer.the-variants.{NotNow}
 use Rattle.frames.specs.declared.frame.Frame.{Frame}
 use Rattle.frames.specs.declared.sender.Sender.{Sender}
 use Rattle.frames.specs.declared.command.Command.{Command}
-use Rattle.frames.specs.declared.command.Command.the-variants.{Order, Thresholds}
+use Rattle.frames.specs.declared.command.Command.the-variants.{Order, Timed, Thresholds}
 use Rattle.frames.specs.declared.frame.Frame.the-variants as frame
 use Rattle.frames.proofs.ReadingLaws.{Fits, FitsCommand}
-use Rattle.supervisor.specs.State.{withTension, isSafe}
+use Rattle.supervisor.specs.State.{withTension, isSafe, moduleAt, endAt}
 use Rattle.supervisor.specs.Acted.{silent, done}
 use Rattle.supervisor.specs.Act.{actOf}
-use Rattle.supervisor.specs.Command.{isIllTimed, requestSet, orderTaken, thresholdsTaken, taken, serialUsed, bySerial}
+use Rattle.supervisor.specs.Command.{isIllTimed, requestSet, orderTaken, minuteSeconds, thresholdsTaken, taken, serialUsed, bySerial}
 use Rattle.supervisor.specs.declared.acted.Acted.{Acted}
 use Rattle.supervisor.specs.declared.state.State.{State}
-use Rattle.supervisor.proofs.ModuleLaws.{asked-eight, at-asked, mission-low}
+use Rattle.supervisor.proofs.ModuleLaws.{asked-eight, at-asked, asked-end, other-end, mission-low}
 use Rattle.supervisor.proofs.CommandLaws.{by-serials}
 use Rattle.promises.proofs.TwoModes.{safe-at-most}
 use Rattle.promises.proofs.TwoControl.{Beside}
@@ -57,54 +57,67 @@ grows-order true on r r′ g x = x
 grows-order false on r r′ g x = g x
 
 module _ (i : ℕ) (mission : isMission i ≡ true) where
+  -- the end that an order sets is the same on both; one for another module leaves both
+  ends-order :
+      (which : ℕ) (on : Bool) (end : ℕ) (a b : State) (r : Bool) → (T r → endAt i a ≡ endAt i b) → (here : Bool) → eqb i which ≡ here →
+      T (if here then on else r) → endAt i (requestSet which on end a) ≡ endAt i (requestSet which on end b)
+  ends-order which on end a b r same true e t =
+      rw (← eqb-true i which e) (asked-end i on end a mission ∙ sym (asked-end i on end b mission))
+  ends-order which on end a b r same false e t =
+      other-end i which on end a (eqb-false i which e) ∙ same t ∙ sym (other-end i which on end b (eqb-false i which e))
+
   -- an order that is done on both
   requested-beside :
-      (which : ℕ) (on : Bool) (a b : State) → isIllTimed which on (a .watch .mode) ≡ false → Beside i a b →
-      Beside i (requestSet which on a) (requestSet which on b)
+      (which : ℕ) (on : Bool) (end : ℕ) (a b : State) → isIllTimed which on (a .watch .mode) ≡ false → Beside i a b →
+      Beside i (requestSet which on end a) (requestSet which on end b)
   unfolding requestSet isIllTimed
-  requested-beside which on a b e h =
+  requested-beside which on end a b e h =
+      let r : Bool = moduleAt i a .requested in
       record {
         shared = h .shared;
         flown = record {
           modes = h .flown .modes;
           counts = h .flown .counts;
-          eight = asked-eight a (h .flown .eight) which on;
-          eight′ = asked-eight b (h .flown .eight′) which on;
+          eight = asked-eight a (h .flown .eight) which on end;
+          eight′ = asked-eight b (h .flown .eight′) which on end;
           asked =
-              rw (at-asked a (h .flown .eight) i (mission-low i mission) which on, at-asked b (h .flown .eight′) i (mission-low i mission) which on)
+              rw (at-asked a (h .flown .eight) i (mission-low i mission) which on end, at-asked b (h .flown .eight′) i (mission-low i mission) which on end)
               (record {
                 quiet =
                     quiet-order (eqb i which) on (isMission which) (isSafe (a .watch .mode)) _ (λ here. ap isMission (sym (eqb-true i which here)) ∙ mission) e
                     (h .flown .asked .quiet);
                 grows = grows-order (eqb i which) on _ _ (h .flown .asked .grows);
+                ends = ends-order which on end a b r (h .flown .asked .ends) (eqb i which) refl;
               });
         };
       }
 
   -- an "on" that is done on the second only, the first not being in SAFE
-  second-beside : (which : ℕ) (on : Bool) (a b : State) → (T (isSafe (a .watch .mode)) → ⊥) → Beside i a b → Beside i a (requestSet which on b)
+  second-beside : (which : ℕ) (on : Bool) (end : ℕ) (a b : State) → (T (isSafe (a .watch .mode)) → ⊥) → Beside i a b → Beside i a (requestSet which on end b)
   unfolding requestSet
-  second-beside which on a b out h =
+  second-beside which on end a b out h =
+      let none : T (moduleAt i a .requested) → ⊥ = λ t. out (h .flown .asked .quiet t) in
       record {
         shared = h .shared;
         flown = record {
           modes = h .flown .modes;
           counts = h .flown .counts;
           eight = h .flown .eight;
-          eight′ = asked-eight b (h .flown .eight′) which on;
-          asked = record { quiet = h .flown .asked .quiet; grows = λ t. absurd (out (h .flown .asked .quiet t)) };
+          eight′ = asked-eight b (h .flown .eight′) which on end;
+          asked = record { quiet = h .flown .asked .quiet; grows = λ t. absurd (none t); ends = λ t. absurd (none t) };
         };
       }
 
-  order-beside : (which : ℕ) (on : Bool) (a b : State) → Beside i a b → Beside i (orderTaken which on a .state) (orderTaken which on b .state)
+  order-beside :
+      (which : ℕ) (on : Bool) (end : ℕ) (a b : State) → Beside i a b → Beside i (orderTaken which on end a .state) (orderTaken which on end b .state)
   unfolding isIllTimed
-  order-beside which on a b h =
+  order-beside which on end a b h =
       sooner (λ (x y : Acted). Beside i (x .state) (y .state)) (isIllTimed which on (a .watch .mode)) (isIllTimed which on (b .watch .mode))
-      {x = silent NotNow a} {y = done (requestSet which on a)} {x′ = silent NotNow b} {y′ = done (requestSet which on b)}
+      {x = silent NotNow a} {y = done (requestSet which on end a)} {x′ = silent NotNow b} {y′ = done (requestSet which on end b)}
       (ill-timed-first on (isMission which) (isSafe (a .watch .mode)) (isSafe (b .watch .mode)) (safe-at-most (h .flown .modes)))
       (λ t. h)
-      (λ e. second-beside which on a b (not-safe on (isMission which) (isSafe (a .watch .mode)) e) h)
-      (λ e. requested-beside which on a b e h)
+      (λ e. second-beside which on end a b (not-safe on (isMission which) (isSafe (a .watch .mode)) e) h)
+      (λ e. requested-beside which on end a b e h)
 
   pub tension-beside : (first second : ℕ) → first ≤ second → (a b : State) → Beside i a b → Beside i (withTension first a) (withTension second b)
   tension-beside first second r a b h =
@@ -134,7 +147,8 @@ module _ (i : ℕ) (mission : isMission i ≡ true) where
   taken-beside :
       (sender : Sender) (command : Command) → FitsCommand sender command → (a b : State) → Beside i a b →
       Beside i (taken command a .state) (taken command b .state)
-  taken-beside sender (Order which on) fits a b h = order-beside which on a b h
+  taken-beside sender (Order which on) fits a b h = order-beside which on 0 a b h
+  taken-beside sender (Timed which minutes) fits a b h = order-beside which true (minuteSeconds * minutes) a b h
   taken-beside sender (Thresholds ascend descend) fits a b h =
       thresholds-beside ascend descend (leb→le descend ascend (and-right (isReading ascend && isReading descend) (leb descend ascend) (fits .fair))) a b h
 

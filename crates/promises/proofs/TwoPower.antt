@@ -31,7 +31,8 @@ use Rattle.promises.specs.TwoCraft.{shorted, shortsBorne}
 use Rattle.promises.proofs.EachModule.{at-stage, before-power}
 use Rattle.promises.proofs.OnlyTicks.{power-still}
 use Rattle.promises.proofs.TwoModes.{AtMost, even, behind, safe-at-most}
-use Rattle.promises.proofs.TwoControl.{Beside, before-beside}
+use Rattle.promises.proofs.TwoControl.{Beside}
+use Rattle.promises.proofs.TwoEnds.{before-beside}
 
 -- after n shorts a module has lost n tries at most, and is not failed
 abbrev pub isSturdy : (n : ℕ) → Power → Bool

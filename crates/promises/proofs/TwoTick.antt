@@ -16,7 +16,8 @@ use Rattle.supervisor.specs.declared.state.State.{State}
 use Rattle.supervisor.proofs.ModuleLaws.{stage-eight}
 use Rattle.promises.proofs.EachModule.{at-stage}
 use Rattle.promises.proofs.TwoModes.{AtMost, even, behind}
-use Rattle.promises.proofs.TwoControl.{Beside, before-beside}
+use Rattle.promises.proofs.TwoControl.{Beside}
+use Rattle.promises.proofs.TwoEnds.{before-beside}
 
 module _ (i : ℕ) (mission : isMission i ≡ true) where
   module _ (a b : State) where
@@ -48,7 +49,7 @@ module _ (i : ℕ) (mission : isMission i ≡ true) where
             counts = h .flown .counts;
             eight = h .flown .eight;
             eight′ = h .flown .eight′;
-            asked = record { quiet = λ t. absurd (none t); grows = λ t. absurd (none t) };
+            asked = record { quiet = λ t. absurd (none t); grows = λ t. absurd (none t); ends = λ t. absurd (none t) };
           };
         }
 

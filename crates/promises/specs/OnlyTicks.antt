@@ -1,14 +1,18 @@
 -- Only ticks: a call that is no done tick leaves the mode, both counts and every module's power; a tick leaves serials,
--- tension, thresholds and antennas.
+-- tension, thresholds and antennas; and what is neither a done tick nor a done order leaves every request and end.
 -- Assumes nothing.
 use Prim.Native.Nat.{ℕ}
 use mathlib.Core.Path.{_≡_}
-use mathlib.Core.Bool.{Bool, false}
+use mathlib.Core.Bool.{Bool, true, false, _&&_}
 use lib.Dec.{T}
+use Rattle.modules.specs.declared.ends.Ends.{Ends}
 use Rattle.modules.specs.declared.power.Power.{Power}
+use Rattle.frames.specs.About.{About, aTick, aCommand, neither}
+use Rattle.frames.specs.declared.command.Command.{Command}
+use Rattle.frames.specs.declared.command.Command.the-variants.{Order, Timed, Thresholds}
 use Rattle.frames.specs.declared.serial.Serials.{Serials}
 use Rattle.supervisor.specs.State.{moduleAt}
-use Rattle.supervisor.specs.History.{Call, called, doneTick}
+use Rattle.supervisor.specs.History.{Call, aboutOf, called, answered, isDone, doneTick}
 use Rattle.supervisor.specs.declared.state.Watch.{Watch}
 use Rattle.supervisor.specs.declared.state.Battery.{Battery}
 use Rattle.supervisor.specs.declared.state.State.{State}
@@ -20,6 +24,32 @@ OthersLeave Part part = (s : State) (c : Call) → doneTick s c ≡ false → pa
 -- a done tick leaves it as it was
 abbrev pub TicksLeave : (Part : Type 0) → (State → Part) → Type 0
 TicksLeave Part part = (s : State) (c : Call) → T (doneTick s c) → part (called s c .result .state) ≡ part s
+
+-- a command is an order, plain or timed, for a module that passes a test
+abbrev pub orderCommand : (modules : ℕ → Bool) → Command → Bool
+orderCommand modules (Order which on) = modules which
+orderCommand modules (Timed which minutes) = modules which
+orderCommand modules (Thresholds ascend descend) = false
+
+-- so is a frame, of either origin
+abbrev pub isOrder : (modules : ℕ → Bool) → About → Bool
+isOrder modules (aTick shorts) = false
+isOrder modules (aCommand sender command) = orderCommand modules command
+isOrder modules neither = false
+
+-- a done order: the input is an order for such a module, and the answer 0
+abbrev pub doneOrder : (modules : ℕ → Bool) → State → Call → Bool
+doneOrder modules s c = isOrder modules (aboutOf c) && isDone (answered s c)
+
+-- any module
+abbrev pub any : ℕ → Bool
+any which = true
+
+-- a call that is neither a done tick nor a done order leaves it as it was
+abbrev pub RestLeaves : (Part : Type 0) → (State → Part) → Type 0
+RestLeaves Part part =
+    (s : State) (c : Call) → doneTick s c ≡ false → doneOrder any s c ≡ false →
+    part (called s c .result .state) ≡ part s
 
 -- who changes what
 pub record OnlyTicks : Type 0 where
@@ -33,3 +63,7 @@ pub record OnlyTicks : Type 0 where
   pub battery : TicksLeave Battery (λ s. s .battery)
   -- the antennas' last report
   pub antennas : TicksLeave Bool (λ s. s .antennas)
+  -- each module's request
+  pub requested : (i : ℕ) → RestLeaves Bool (λ s. moduleAt i s .requested)
+  -- the ends of the mission four
+  pub ends : RestLeaves Ends (λ s. s .ends)

@@ -40,7 +40,8 @@ reportOn sender command answer s room =
     bytesOf (headOf (frame.Command sender command)) answer (modeNumber (s .watch .mode)) (masksOf (s .modules)) 0
     ++ drop 11 room
 
--- the frame is a command, an order or thresholds; nothing was moved but what `moves` says, and its report is there
+-- the frame is a command, an order, plain or timed, or thresholds; nothing was moved but what `moves` says, and its
+-- report is there
 pub record TurnedDown (moves : Sender → State → State) (s : State) (c : Call) : Type 0 where
   pub sender : Sender
   pub command : Command
@@ -52,7 +53,7 @@ pub record TurnedDown (moves : Sender → State → State) (s : State) (c : Call
 abbrev pub nothing : Sender → State → State
 nothing sender s = s
 
--- the frame is an "on" for one of the mission four, in a mode that passes a test
+-- the frame is an "on", plain or timed, for one of the mission four, in a mode that passes a test
 pub record IllTimed (modes : Mode → Bool) (s : State) (c : Call) : Type 0 where
   pub which : ℕ
   pub mission : isMission which ≡ true

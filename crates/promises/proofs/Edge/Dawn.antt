@@ -13,7 +13,7 @@ use Rattle.frames.specs.declared.sender.Origin.the-variants.{Ground}
 use Rattle.supervisor.specs.Fresh.{freshState}
 use Rattle.supervisor.specs.History.{Call, aboutOf, answered, after}
 use Rattle.supervisor.specs.State.{moduleAt}
-use Rattle.promises.specs.AsTold.{orders}
+use Rattle.promises.specs.AsTold.{plain, says, orders, SaysOn, SaysOff}
 use Rattle.promises.specs.Dawn.{Old, StaysOff, OrderedOff, Late, memory}
 use Rattle.promises.proofs.Rules.{rules}
 use Rattle.promises.proofs.Edge.Flights.{battery, comm2, camera, comm2Off, cameraOff, cameraOn, seconds, toRecovery, toSafe, cameraRuns, send, sent}
@@ -22,28 +22,28 @@ use Rattle.promises.proofs.Edge.Flights.{battery, comm2, camera, comm2O
 module _ (which : ℕ) (Fits : (before : List Call) (on : Call) → Type 0) where
   abbrev Ons : (before rest : List Call) → Type 0
   Ons before [] = Unit {0}
-  Ons before (c ∷ rest) = (orders which (aboutOf c) false ≡ true → Fits before c) × Ons (before ++ (c ∷ [])) rest
+  Ons before (c ∷ rest) = (SaysOn which (aboutOf c) → Fits before c) × Ons (before ++ (c ∷ [])) rest
 
-  at-on : (first before later rest : List Call) (on : Call) → Ons first rest → rest ≡ before ++ on ∷ later → orders which (aboutOf on) false ≡ true → Fits (first ++ before) on
-  at-on first [] later [] on h e says = let z : _≡_ {A = ℕ} 0 1 = cc in absurd (omega arith)
-  at-on first [] later (c ∷ rest) on h e says =
+  at-on : (first before later rest : List Call) (on : Call) → Ons first rest → rest ≡ before ++ on ∷ later → SaysOn which (aboutOf on) → Fits (first ++ before) on
+  at-on first [] later [] on h e asks = let z : _≡_ {A = ℕ} 0 1 = cc in absurd (omega arith)
+  at-on first [] later (c ∷ rest) on h e asks =
       let same : on ≡ c = cc in
-      rw (append-nil, same) (h .0 (rw same at says))
-  at-on first (b ∷ before) later [] on h e says = let z : _≡_ {A = ℕ} 0 1 = cc in absurd (omega arith)
-  at-on first (b ∷ before) later (c ∷ rest) on h e says =
+      rw (append-nil, same) (h .0 (rw same at asks))
+  at-on first (b ∷ before) later [] on h e asks = let z : _≡_ {A = ℕ} 0 1 = cc in absurd (omega arith)
+  at-on first (b ∷ before) later (c ∷ rest) on h e asks =
       let same : b ≡ c = cc in
       let tail : rest ≡ before ++ on ∷ later = cc in
-      rw same (rw append-assoc at (at-on (first ++ (c ∷ [])) before later rest on (h .1) tail says))
+      rw same (rw append-assoc at (at-on (first ++ (c ∷ [])) before later rest on (h .1) tail asks))
 
   -- none at all
   abbrev noOns : List Call → Bool
   noOns [] = true
-  noOns (c ∷ rest) = not (orders which (aboutOf c) false) && noOns rest
+  noOns (c ∷ rest) = not (says (orders which (aboutOf c) (plain false))) && noOns rest
 
   no-ons : (before rest : List Call) → T (noOns rest) → Ons before rest
   no-ons before [] t = tt
   no-ons before (c ∷ rest) t =
-      let on : Bool = orders which (aboutOf c) false in
+      let on : Bool = says (orders which (aboutOf c) (plain false)) in
       (λ e. absurd (rw e at (and-left (not on) (noOns rest) t)), no-ons (before ++ (c ∷ [])) rest (and-right (not on) (noOns rest) t))
 
 -- a done "off" of ground's, with the "on"s since
@@ -51,7 +51,7 @@ module _ (reach which : ℕ) (cs : List Call) (off : Call) (since : List Call) w
   abbrev IsLate : (before : List Call) (on : Call) → Type 0
   IsLate = Late reach Ground (after freshState cs) off
 
-  ordered-off : orders which (aboutOf off) true ≡ false → answered (after freshState cs) off ≡ 0 → Ons which IsLate [] since → OrderedOff reach Ground which cs off since
+  ordered-off : SaysOff which (aboutOf off) → answered (after freshState cs) off ≡ 0 → Ons which IsLate [] since → OrderedOff reach Ground which cs off since
   ordered-off e z ons = record { order = e; done = z; lateOns = λ before later on f asks room. at-on which IsLate [] before later since on ons f asks }
 
 -- in SAFE the camera's "off", serial 5, is done, then an "off" with 32,772 (32,767 on): serial 3, 2 behind the first, is now 32,767 ahead of
@@ -65,14 +65,14 @@ late3 = record { serial = 5; firstSerial = refl; taken = tt; old = 3; lateSerial
 
 pub not-old-at-32769 : Old 32769 → ⊥
 unfolding rules
-not-old-at-32769 says = says Ground (after freshState (sent toSafe)) (send (cameraOff 5)) (send (cameraOff 32772) ∷ []) (send (cameraOn 3)) late3 .answer
+not-old-at-32769 old = old Ground (after freshState (sent toSafe)) (send (cameraOff 5)) (send (cameraOff 32772) ∷ []) (send (cameraOn 3)) late3 .answer
 
 pub not-dark-at-32769 : StaysOff 32769 isMission 1 → ⊥
 unfolding rules
-not-dark-at-32769 says =
+not-dark-at-32769 dark =
     let off : OrderedOff 32769 Ground camera (sent toSafe) (send (cameraOff 5)) (sent overtaken) =
     ordered-off 32769 camera (sent toSafe) (send (cameraOff 5)) (sent overtaken) refl refl (λ on. absurd (false≢true on), (λ on. late3, tt)) in
-    true≢false (says Ground camera (sent toSafe) (send (cameraOff 5)) (sent overtaken) refl off .requested)
+    true≢false (dark Ground camera (sent toSafe) (send (cameraOff 5)) (sent overtaken) refl off .requested)
 
 -- COMM2, ordered off in RECOVERY, is requested again by a crossing up
 abbrev pub judgedUp : List (List ℕ)
@@ -80,19 +80,19 @@ judgedUp = battery 8000 ∷ seconds 30
 
 pub not-dark-with-comm2 : StaysOff memory (λ i. bit i 0xDC) 1 → ⊥
 unfolding rules
-not-dark-with-comm2 says =
+not-dark-with-comm2 dark =
     let off : OrderedOff memory Ground comm2 (sent toRecovery) (send (comm2Off 1)) (sent judgedUp) =
     ordered-off memory comm2 (sent toRecovery) (send (comm2Off 1)) (sent judgedUp) refl refl
     (no-ons comm2 (IsLate memory comm2 (sent toRecovery) (send (comm2Off 1)) (sent judgedUp)) [] (sent judgedUp) tt) in
-    true≢false (says Ground comm2 (sent toRecovery) (send (comm2Off 1)) (sent judgedUp) refl off .requested)
+    true≢false (dark Ground comm2 (sent toRecovery) (send (comm2Off 1)) (sent judgedUp) refl off .requested)
 
 -- the camera is on and is ordered off: it stays on until the next tick
 pub not-dark-at-once : StaysOff memory isMission 0 → ⊥
 unfolding rules
-not-dark-at-once says =
+not-dark-at-once dark =
     let off : OrderedOff memory Ground camera (sent cameraRuns) (send (cameraOff 2)) [] =
     ordered-off memory camera (sent cameraRuns) (send (cameraOff 2)) [] refl refl tt in
-    true≢false (says Ground camera (sent cameraRuns) (send (cameraOff 2)) [] refl off .power (lit≤ tt))
+    true≢false (dark Ground camera (sent cameraRuns) (send (cameraOff 2)) [] refl off .power (lit≤ tt))
 
 -- the payload's own "on" is done after ground's "off"
 abbrev pub payloadsOwn : List (List ℕ)

@@ -43,6 +43,10 @@ cameraOff serial = order serial camera 0
 abbrev pub cameraOn : (serial : ℕ) → List ℕ
 cameraOn serial = order serial camera 1
 
+-- ground's order for the camera to run for so many minutes
+abbrev pub cameraFor : (serial minutes : ℕ) → List ℕ
+cameraFor serial minutes = 6 ∷ 1 ∷ serial / 256 ∷ serial % 256 ∷ camera ∷ minutes / 256 ∷ minutes % 256 ∷ []
+
 -- so many seconds without shorts
 abbrev pub seconds : ℕ → List (List ℕ)
 seconds n = replicate n quiet

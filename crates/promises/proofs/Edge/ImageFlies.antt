@@ -10,8 +10,8 @@ use Rattle.supervisor.specs.State.{withMode}
 use Rattle.supervisor.specs.declared.state.Phase.the-variants.{Settling}
 use Rattle.supervisor.specs.declared.state.Mode.the-variants.{DeployWait}
 use Rattle.supervisor.specs.declared.state.State.{State}
-use Rattle.flight.specs.Saving.{modulesBytes, headBytes, saved}
-use Rattle.flight.specs.Loading.{hasLayout, modulesIn, decoded, loaded}
+use Rattle.flight.specs.Saving.{modulesBytes, endsBytes, headBytes, saved}
+use Rattle.flight.specs.Loading.{hasLayout, endsIn, modulesIn, decoded, loaded}
 use Rattle.flight.specs.Calls.{Imaged, stepImage}
 use Rattle.promises.specs.ImageFlies.{FliesFrom}
 use Rattle.promises.proofs.Rules.{rules}
@@ -23,5 +23,5 @@ settled = withMode (DeployWait (Settling 0)) freshState
 
 -- so a tick is done on its bytes, and refused on it
 pub not-from-settled : FliesFrom settled → ⊥
-unfolding rules modulesBytes headBytes saved hasLayout modulesIn decoded loaded stepImage
+unfolding rules modulesBytes endsBytes headBytes saved hasLayout endsIn modulesIn decoded loaded stepImage
 not-from-settled says = let e : _≡_ {A = ℕ} 0 1 = ap (λ (o : Outcome Imaged). o .result .number) (says [] (send quiet)) in omega arith

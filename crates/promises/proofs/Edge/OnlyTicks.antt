@@ -1,13 +1,16 @@
--- Only ticks, a hair more: requests are changed by others than ticks, and by ticks too.
+-- Only ticks, a hair more: requests are changed by others than ticks, and by ticks too; so are ends.
 -- Assumes nothing.
-use mathlib.Core.Path.{refl}
+use Prim.Native.Nat.{ℕ}
+use native.Mathlib.Omega.{arith}
+use mathlib.Core.Path.{_≡_, refl}
 use mathlib.Core.Bool.{Bool, true≢false, false≢true}
+use mathlib.Core.List.{List, [], _∷_, _++_}
 use Rattle.supervisor.specs.Fresh.{freshState}
-use Rattle.supervisor.specs.State.{moduleAt}
+use Rattle.supervisor.specs.State.{moduleAt, endAt}
 use Rattle.supervisor.specs.History.{after}
 use Rattle.promises.specs.OnlyTicks.{OthersLeave, TicksLeave}
 use Rattle.promises.proofs.Rules.{rules}
-use Rattle.promises.proofs.Edge.Flights.{quiet, comm2, comm2Off, aboutToCross, send, sent}
+use Rattle.promises.proofs.Edge.Flights.{quiet, comm2, camera, comm2Off, cameraFor, toSafe, aboutToCross, send, sent}
 
 -- the fresh board and an "off" for COMM2: its request goes at once
 pub not-requests-by-others : OthersLeave Bool (λ s. moduleAt comm2 s .requested) → ⊥
@@ -18,3 +21,15 @@ not-requests-by-others says = false≢true (says freshState (send (comm2Off 1)) 
 pub not-requests-by-ticks : TicksLeave Bool (λ s. moduleAt comm2 s .requested) → ⊥
 unfolding rules
 not-requests-by-ticks says = true≢false (says (after freshState (sent aboutToCross)) (send quiet) tt)
+
+-- in SAFE the camera is ordered on for a minute: its end is 60, and 59 after a tick
+pub not-ends-by-others : OthersLeave ℕ (λ s. endAt camera s) → ⊥
+unfolding rules
+not-ends-by-others says = let e : _≡_ {A = ℕ} 60 0 = says (after freshState (sent toSafe)) (send (cameraFor 1 1)) refl in omega arith
+
+abbrev pub minuteBegun : List (List ℕ)
+minuteBegun = toSafe ++ (cameraFor 1 1 ∷ [])
+
+pub not-ends-by-ticks : TicksLeave ℕ (λ s. endAt camera s) → ⊥
+unfolding rules
+not-ends-by-ticks says = let e : _≡_ {A = ℕ} 59 60 = says (after freshState (sent minuteBegun)) (send quiet) tt in omega arith
