@@ -2,7 +2,7 @@
 -- Assumes nothing.
 use Prim.Native.Nat.{ℕ, _-_, _+_, _≤_, _<_}
 use native.Mathlib.Omega.{arith}
-use mathlib.Core.Path.{_≡_, refl, sym, _∙_}
+use mathlib.Core.Path.{_≡_, refl, sym, ap, _∙_}
 use mathlib.Core.Bool.{Bool, true, false, not, _&&_, true≢false, false≢true}
 use lib.Dec.{T, eqb, leb, ltb, lit<, leb→le, le→leb}
 use borrow.Author.Tests.{eqb-true, eqb-false, ne-eqb, ltb-true, ltb-false, leb-true, le-leb}
@@ -152,6 +152,30 @@ over-at i low ends =
     by (sband1 e) = rw e
     by (sband2 e) = rw e
     by (nowhere a b c d) = rw (a, b, c, d)
+
+-- no core module is over, and none that is none of the eight
+pub over-mission : (i : ℕ) (ends : Ends) → bit i (endsOver ends) ≡ true → isMission i ≡ true
+unfolding endsOver
+over-mission i ends over = by (isMission i) (ltb i moduleCount) refl refl
+  where
+    small : (t : Bool) (n : ℕ) → (if t then n else 0) ≤ n
+    small t n = either (λ k. k ≤ n) t (omega arith) (omega arith)
+
+    few : endsOver ends < 256
+    few =
+        omega (
+          arith,
+          small (eqb (ends .adcs) 1) 8,
+          small (eqb (ends .payload) 1) 16,
+          small (eqb (ends .sband1) 1) 64,
+          small (eqb (ends .sband2) 1) 128,
+        )
+
+    by : (mission low : Bool) → isMission i ≡ mission → ltb i moduleCount ≡ low → isMission i ≡ true
+    by true low e h = e
+    by false true e h =
+        absurd (true≢false (sym over ∙ over-at i (ltb-true i moduleCount h) ends ∙ ap (λ n. eqb n 1) (core-none i ends e)))
+    by false false e h = absurd (true≢false (sym over ∙ bit-past moduleCount (endsOver ends) i few (ltb-false i moduleCount h)))
 
 -- all in range by each, and each by all
 abbrev short : ℕ → Bool

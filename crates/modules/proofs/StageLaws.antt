@@ -3,7 +3,7 @@
 -- Assumes nothing.
 use Prim.Native.Nat.{ℕ, zero, suc, _+_, _≤_, _<_}
 use mathlib.Core.Path.{_≡_, refl, sym, ap, _∙_}
-use mathlib.Core.Bool.{Bool, true, false, _&&_}
+use mathlib.Core.Bool.{Bool, true, false, _&&_, true≢false}
 use mathlib.Core.List.{List, [], _∷_}
 use native.Mathlib.Omega.{arith}
 use native.Mathlib.Nat.{le-of-suc-le-suc}
@@ -11,11 +11,11 @@ use lib.Dec.{T, lit<}
 use lib.ListN.{length, getD, set}
 use lib.Seq.{set-out, set-getD}
 use borrow.Author.Tests.{ne-eqb, eq-eqb}
-use Rattle.basics.specs.Choice.{bit}
+use Rattle.basics.specs.Choice.{if_then_else_, bit}
 use Rattle.basics.specs.Each.{each, eachFrom}
 use Rattle.basics.proofs.ChoiceLaws.{and-left, and-right, and-both}
 use Rattle.basics.proofs.BitLaws.{bit-past}
-use Rattle.basics.proofs.EachLaws.{each-kept, each-one, worked, worked-turn}
+use Rattle.basics.proofs.EachLaws.{each-kept, each-one, each-twice, worked, worked-turn}
 use Rattle.modules.specs.Power.{powerInRange, withRequest}
 use Rattle.modules.specs.Stage.{isWanted, moduleSecond, stageOf, moduleRequested, requestedBy, moduleAsked, requestedOne, modulesInRange}
 use Rattle.modules.proofs.PowerLaws.{switched-in-range}
@@ -52,6 +52,40 @@ module _ (mask : ℕ) (on : Bool) (i : ℕ) (ms : List Module) (d : Module) wher
 pub requested-none : (on : Bool) (ms : List Module) → requestedBy 0 on ms ≡ ms
 unfolding requestedBy
 requested-none on ms = each-kept (moduleRequested 0 on) ms (λ i m. rw (bit-past 0 0 i (lit< tt) (omega arith)))
+
+-- requests set by two masks that have no module in common may be set in either order
+module _ (a b : ℕ) (on off : Bool) (apart : (i : ℕ) → bit i a ≡ true → bit i b ≡ false) where
+  abbrev bothSet : ℕ → Module → Module
+  bothSet i m = withRequest (if bit i a then on else if bit i b then off else m .requested) m
+
+  second-first : (i : ℕ) (m : Module) → moduleRequested b off i (moduleRequested a on i m) ≡ bothSet i m
+  second-first i m = by (bit i a) (bit i b) refl refl
+    where
+      by : (s t : Bool) → bit i a ≡ s → bit i b ≡ t → moduleRequested b off i (moduleRequested a on i m) ≡ bothSet i m
+      by true true e f = absurd (true≢false (sym f ∙ apart i e))
+      by true false e f = rw (e, f)
+      by false true e f = rw (e, f)
+      by false false e f = rw (e, f)
+
+  pub requested-either : (ms : List Module) → requestedBy a on (requestedBy b off ms) ≡ requestedBy b off (requestedBy a on ms)
+  unfolding requestedBy
+  requested-either ms =
+      each-twice (moduleRequested a on) (moduleRequested b off) bothSet (λ i m. refl) ms
+      ∙ sym (each-twice (moduleRequested b off) (moduleRequested a on) bothSet second-first ms)
+
+-- of two masks, one within the other, set to the same, the wider is enough
+module _ (a b : ℕ) (on : Bool) (inside : (i : ℕ) → bit i b ≡ true → bit i a ≡ true) where
+  wider : (i : ℕ) (m : Module) → moduleRequested a on i (moduleRequested b on i m) ≡ moduleRequested a on i m
+  wider i m = by (bit i a) (bit i b) refl refl
+    where
+      by : (s t : Bool) → bit i a ≡ s → bit i b ≡ t → moduleRequested a on i (moduleRequested b on i m) ≡ moduleRequested a on i m
+      by true t e f = rw e
+      by false true e f = absurd (true≢false (sym (inside i f) ∙ e))
+      by false false e f = rw (e, f)
+
+  pub requested-wider : (ms : List Module) → requestedBy a on (requestedBy b on ms) ≡ requestedBy a on ms
+  unfolding requestedBy
+  requested-wider ms = each-twice (moduleRequested a on) (moduleRequested b on) (moduleRequested a on) wider ms
 
 -- one module out of range
 and-false : (a : Bool) → a && false ≡ false

@@ -3,6 +3,7 @@ pub mod ControlLaws
 pub mod ModuleLaws
 pub mod FreshLaws
 pub mod BeforeModulesLaws
+pub mod EndingLaws
 pub mod DueLaws
 pub mod TickLaws
 pub mod CommandLaws

@@ -10,7 +10,7 @@ use Rattle.basics.specs.Choice.{if_then_else_}
 use Rattle.basics.specs.Each.{each, eachFrom}
 use Rattle.basics.specs.Outcome.{Outcome, outcome}
 use Rattle.modules.specs.Power.{isOn, switched}
-use Rattle.modules.specs.Ends.{endsInRange, endsOver}
+use Rattle.modules.specs.Ends.{endOf, endsFallen, endsInRange, endsOver}
 use Rattle.modules.specs.Stage.{stageOf, requestedBy, modulesInRange}
 use Rattle.modules.specs.Masks.{maskOf, masksOf}
 use Rattle.modules.specs.declared.power.Power.the-variants.{On}
@@ -19,7 +19,7 @@ use Rattle.frames.specs.Kind.{reportBytes, totalOf}
 use Rattle.frames.specs.Reading.{antennasFields, readFrame}
 use Rattle.frames.specs.About.{About, about, aTick, aCommand, neither}
 use Rattle.supervisor.specs.Fresh.{freshState}
-use Rattle.supervisor.specs.State.{isDeployWait, moduleAt, withMode, withControl, withTension, withModules}
+use Rattle.supervisor.specs.State.{inDeployWait, moduleAt, endAt, withMode, withControl, withTension, withEnds, withModules}
 use Rattle.supervisor.specs.Range.{inRange}
 use Rattle.supervisor.specs.Ending.{ended}
 use Rattle.supervisor.specs.Control.{controlled}
@@ -54,20 +54,31 @@ onlyReports worksIn s input room =
     if worksIn s then stepOf s input room
     else outcome (record { answer = stepOf s input room .result .answer; state = s }) (stepOf s input room .room)
 
--- it runs the module stage before control: in a done tick outside DEPLOY_WAIT the state is that of the stages swapped
-abbrev pub swapped : (shorts : ℕ) → State → State
-swapped shorts s = beaconStage (beforeModules (moduleStage shorts s)) .state
+-- it leaves another state after a done tick from a state that passes a test
+abbrev pub tickedOtherwise : (leaves : (shorts : ℕ) → State → State) → About → (here : Bool) → State → Outcome Stepped → Outcome Stepped
+tickedOtherwise leaves (aTick shorts) here s right =
+    if here then outcome (record { answer = right .result .answer; state = leaves shorts s }) (right .room) else right
+tickedOtherwise leaves (aCommand sender command) here s right = right
+tickedOtherwise leaves neither here s right = right
 
-abbrev pub runsModulesFirst : About → (moves : Bool) → State → Outcome Stepped → Outcome Stepped
-runsModulesFirst (aTick shorts) moves s right =
-    if moves then outcome (record { answer = right .result .answer; state = swapped shorts s }) (right .room) else right
-runsModulesFirst (aCommand sender command) moves s right = right
-runsModulesFirst neither moves s right = right
+abbrev pub ticksOtherwise : (from : State → Bool) → (leaves : (shorts : ℕ) → State → State) → Supervisor
+ticksOtherwise from leaves s input room =
+    tickedOtherwise leaves (about (readFrame input)) (isReported (stepOf s input room .result .answer) && from s) s (stepOf s input room)
 
+abbrev flying : State → Bool
+flying s = not (inDeployWait s)
+
+-- it runs the module stage before ends and control
 abbrev pub modulesFirst : Supervisor
-modulesFirst s input room =
-    runsModulesFirst (about (readFrame input))
-    (isReported (stepOf s input room .result .answer) && not (isDeployWait (s .watch .mode))) s (stepOf s input room)
+modulesFirst = ticksOtherwise flying (λ shorts s. beaconStage (beforeModules (moduleStage shorts s)) .state)
+
+-- it runs the ends stage last
+abbrev pub endsLast : Supervisor
+endsLast = ticksOtherwise flying (λ shorts s. ended (beaconStage (moduleStage shorts (controlled s)) .state))
+
+-- it runs the ends stage in DEPLOY_WAIT too
+abbrev pub endsWhileWaiting : Supervisor
+endsWhileWaiting = ticksOtherwise inDeployWait (λ shorts s. ended (ticked shorts s .state))
 
 room : List ℕ
 room = replicate 11 0
@@ -148,3 +159,40 @@ payload-on = refl
 
 pub modules-first : ShutOut modulesFirst
 modules-first meets = true≢false (sym payload-on ∙ ap payloadOn (meets aboutToFall tick room) ∙ payload-off)
+
+-- SAFE with every module on, in the last second of PAYLOAD's end
+abbrev pub lastSecond : State
+lastSecond = withTension 8000 (withControl 0 (withEnds (record { adcs = 0; payload = 1; sband1 = 0; sband2 = 0 }) aboutToFall))
+
+-- PAYLOAD after the next tick: off by the rules, and still on
+ended-off : payloadOn (stepOf lastSecond tick room) ≡ false
+unfolding payloadOn room stepOf freshState requestedBy each eachFrom inRange endsInRange modulesInRange readFrame totalOf actOf ticked beforeModules ended endsOver controlled moduleStage stageOf switched beaconStage
+ended-off = refl
+
+ended-on : payloadOn (endsLast lastSecond tick room) ≡ true
+unfolding payloadOn room stepOf freshState requestedBy each eachFrom inRange endsInRange modulesInRange readFrame totalOf actOf ticked beforeModules ended endsOver controlled moduleStage stageOf switched beaconStage
+ended-on = refl
+
+pub ends-last : ShutOut endsLast
+ends-last meets = true≢false (sym ended-on ∙ ap payloadOn (meets lastSecond tick room) ∙ ended-off)
+
+-- a second into the wait, with an end that runs: no flight gets there, but check 1 allows it
+abbrev pub waitingWithEnd : State
+waitingWithEnd = withEnds (record { adcs = 0; payload = 2; sband1 = 0; sband2 = 0 }) waiting
+
+-- the end after the next tick: as it was by the rules, and a second less
+endLeft : Outcome Stepped → ℕ
+endLeft o = endAt 4 (o .result .state)
+
+end-stands : endLeft (stepOf waitingWithEnd tick room) ≡ 2
+unfolding endLeft endOf endsFallen room stepOf freshState requestedBy each eachFrom inRange endsInRange modulesInRange readFrame totalOf actOf ticked ended endsOver
+end-stands = refl
+
+end-falls : endLeft (endsWhileWaiting waitingWithEnd tick room) ≡ 1
+unfolding endLeft endOf endsFallen room stepOf freshState requestedBy each eachFrom inRange endsInRange modulesInRange readFrame totalOf actOf ticked ended endsOver
+end-falls = refl
+
+pub ends-while-waiting : ShutOut endsWhileWaiting
+ends-while-waiting meets =
+    let one : _≡_ {A = ℕ} 1 2 = sym end-falls ∙ ap endLeft (meets waitingWithEnd tick room) ∙ end-stands in
+    omega arith
