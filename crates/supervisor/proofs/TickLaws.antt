@@ -1,4 +1,4 @@
--- A tick by its cases: a second of DEPLOY_WAIT, or the three stages; and what it leaves.
+-- A tick by its cases: a second of DEPLOY_WAIT, or the four stages; and what it leaves.
 -- Assumes nothing.
 use Prim.Native.Nat.{ℕ}
 use mathlib.Core.Path.{_≡_, refl, sym}
@@ -39,7 +39,7 @@ module _ (shorts : ℕ) (s : State) where
   stages-by e (waits phase m w) = absurd (true≢false (rw m at e))
   stages-by e (runs f w) = sym w
 
-  -- outside DEPLOY_WAIT the three stages run
+  -- outside DEPLOY_WAIT the four stages run
   pub ticked-stages : isDeployWait (s .watch .mode) ≡ false → stages shorts s ≡ ticked shorts s
   ticked-stages e = stages-by e ticks
 
