@@ -3,35 +3,37 @@
 use Prim.Native.Nat.{ℕ, _-_, _+_, _≤_, _<_}
 use native.Mathlib.Omega.{arith}
 use mathlib.Core.Path.{_≡_, refl, sym, ap, _∙_}
-use mathlib.Core.Bool.{Bool, true, false, not, _&&_, true≢false, false≢true}
+use mathlib.Core.Bool.{Bool, true, false, not, _&&_, true≢false}
 use lib.Dec.{T, eqb, leb, ltb, lit<, leb→le, le→leb}
-use borrow.Author.Tests.{eqb-true, eqb-false, ne-eqb, ltb-true, ltb-false, leb-true, le-leb}
+use borrow.Author.Tests.{eqb-true, ne-eqb, ltb-true, ltb-false}
 use Rattle.basics.specs.Choice.{if_then_else_, bit}
-use Rattle.basics.specs.Tables.{allBelow}
 use Rattle.basics.proofs.BitLaws.{bit-past}
-use Rattle.basics.proofs.ChoiceLaws.{agreed, and-left, and-right, and-both, holds, is-true, either}
+use Rattle.basics.proofs.ChoiceLaws.{agreed, and-left, and-right, and-both, either}
 use Rattle.basics.proofs.TablesLaws.{upto}
 use Rattle.modules.specs.Groups.{moduleCount, missionFour, isMission, adcsModule, payloadModule, sband1Module, sband2Module}
 use Rattle.modules.specs.Ends.{longestEnd, noEnds, endOf, endsFallen, endsOver, withEnd, endsInRange}
 use Rattle.modules.specs.declared.ends.Ends.{Ends}
 
--- a module number is that of one of the four, or of none
-pub data Place (i : ℕ) : Type 0 where
-  adcs : i ≡ adcsModule → Place i
-  payload : i ≡ payloadModule → Place i
-  sband1 : i ≡ sband1Module → Place i
-  sband2 : i ≡ sband2Module → Place i
-  nowhere : eqb i adcsModule ≡ false → eqb i payloadModule ≡ false → eqb i sband1Module ≡ false → eqb i sband2Module ≡ false → Place i
+-- a module that is none of the four
+abbrev Nowhere : ℕ → Type 0
+Nowhere i = (eqb i adcsModule ≡ false) × (eqb i payloadModule ≡ false) × (eqb i sband1Module ≡ false) × (eqb i sband2Module ≡ false)
 
-pub place : (i : ℕ) → Place i
-place i = by (eqb i adcsModule) (eqb i payloadModule) (eqb i sband1Module) (eqb i sband2Module) refl refl refl refl
+-- what holds of each of the four, and of every module that is none of them, holds of all
+by-place :
+    (P : ℕ → Type 0) → P adcsModule → P payloadModule → P sband1Module → P sband2Module → ((i : ℕ) → Nowhere i → P i) →
+    (i : ℕ) → P i
+by-place P adcs payload sband1 sband2 nowhere i =
+    by (eqb i adcsModule) (eqb i payloadModule) (eqb i sband1Module) (eqb i sband2Module) refl refl refl refl
   where
-    by : (a b c d : Bool) → eqb i adcsModule ≡ a → eqb i payloadModule ≡ b → eqb i sband1Module ≡ c → eqb i sband2Module ≡ d → Place i
-    by true b c d e f g h = adcs (eqb-true i adcsModule e)
-    by false true c d e f g h = payload (eqb-true i payloadModule f)
-    by false false true d e f g h = sband1 (eqb-true i sband1Module g)
-    by false false false true e f g h = sband2 (eqb-true i sband2Module h)
-    by false false false false e f g h = nowhere e f g h
+    here : (k : ℕ) → eqb i k ≡ true → P k → P i
+    here k e p = rw (eqb-true i k e) p
+
+    by : (a b c d : Bool) → eqb i adcsModule ≡ a → eqb i payloadModule ≡ b → eqb i sband1Module ≡ c → eqb i sband2Module ≡ d → P i
+    by true b c d e f g h = here adcsModule e adcs
+    by false true c d e f g h = here payloadModule f payload
+    by false false true d e f g h = here sband1Module g sband1
+    by false false false true e f g h = here sband2Module h sband2
+    by false false false false e f g h = nowhere i (e, f, g, h)
 
 abbrev oneOfFour : ℕ → Bool
 oneOfFour i = if eqb i adcsModule then true else if eqb i payloadModule then true else if eqb i sband1Module then true else eqb i sband2Module
@@ -41,75 +43,49 @@ mission-four i low =
     agreed (isMission i) (oneOfFour i) (upto (λ k. if isMission k then oneOfFour k else not (oneOfFour k)) moduleCount tt i low)
 
 -- a module that is none of the four is not of the mission: of the eight by one test, and no mask has a module from 8 on
-outside : (i : ℕ) → eqb i adcsModule ≡ false → eqb i payloadModule ≡ false → eqb i sband1Module ≡ false → eqb i sband2Module ≡ false → isMission i ≡ false
-outside i a b c d = by (ltb i moduleCount) refl
+outside : (i : ℕ) → Nowhere i → isMission i ≡ false
+outside i n = by (ltb i moduleCount) refl
   where
     by : (low : Bool) → ltb i moduleCount ≡ low → isMission i ≡ false
-    by true e = mission-four i (ltb-true i moduleCount e) ∙ rw (a, b, c, d)
+    by true e = mission-four i (ltb-true i moduleCount e) ∙ rw (n .0, n .1, n .2, n .3)
     by false e = bit-past moduleCount missionFour i (lit< tt) (ltb-false i moduleCount e)
 
 -- a core module has no end
 pub core-none : (i : ℕ) (ends : Ends) → isMission i ≡ false → endOf i ends ≡ 0
 unfolding endOf
-core-none i ends core = by (place i)
-  where
-    by : Place i → endOf i ends ≡ 0
-    by (adcs e) = absurd (true≢false (rw e at core))
-    by (payload e) = absurd (true≢false (rw e at core))
-    by (sband1 e) = absurd (true≢false (rw e at core))
-    by (sband2 e) = absurd (true≢false (rw e at core))
-    by (nowhere a b c d) = rw (a, b, c, d)
+core-none i ends =
+    by-place (λ k. isMission k ≡ false → endOf k ends ≡ 0)
+    (λ core. absurd (true≢false core)) (λ core. absurd (true≢false core)) (λ core. absurd (true≢false core)) (λ core. absurd (true≢false core))
+    (λ k n core. rw (n .0, n .1, n .2, n .3)) i
 
 -- no module has one where none is running
 pub none-at : (i : ℕ) → endOf i noEnds ≡ 0
 unfolding endOf
-none-at i = by (place i)
-  where
-    by : Place i → endOf i noEnds ≡ 0
-    by (adcs e) = rw e
-    by (payload e) = rw e
-    by (sband1 e) = rw e
-    by (sband2 e) = rw e
-    by (nowhere a b c d) = rw (a, b, c, d)
+none-at = by-place (λ k. endOf k noEnds ≡ 0) refl refl refl refl (λ k n. rw (n .0, n .1, n .2, n .3))
 
 -- a second takes one off each
 pub fallen-at : (i : ℕ) (ends : Ends) → endOf i (endsFallen ends) ≡ endOf i ends - 1
 unfolding endOf endsFallen
-fallen-at i ends = by (place i)
-  where
-    by : Place i → endOf i (endsFallen ends) ≡ endOf i ends - 1
-    by (adcs e) = rw e
-    by (payload e) = rw e
-    by (sband1 e) = rw e
-    by (sband2 e) = rw e
-    by (nowhere a b c d) = rw (a, b, c, d)
+fallen-at i ends =
+    by-place (λ k. endOf k (endsFallen ends) ≡ endOf k ends - 1) refl refl refl refl (λ k n. rw (n .0, n .1, n .2, n .3)) i
 
 -- the end that is set
 pub set-at : (which seconds : ℕ) (ends : Ends) → isMission which ≡ true → endOf which (withEnd which seconds ends) ≡ seconds
 unfolding endOf withEnd
-set-at which seconds ends mission = by (place which)
-  where
-    by : Place which → endOf which (withEnd which seconds ends) ≡ seconds
-    by (adcs e) = rw e
-    by (payload e) = rw e
-    by (sband1 e) = rw e
-    by (sband2 e) = rw e
-    by (nowhere a b c d) = absurd (true≢false (sym mission ∙ outside which a b c d))
+set-at which seconds ends =
+    by-place (λ k. isMission k ≡ true → endOf k (withEnd k seconds ends) ≡ seconds)
+    (λ m. refl) (λ m. refl) (λ m. refl) (λ m. refl) (λ k n m. absurd (true≢false (sym m ∙ outside k n))) which
 
 -- and every other
 pub others-at : (i which seconds : ℕ) (ends : Ends) → (i ≡ which → ⊥) → endOf i (withEnd which seconds ends) ≡ endOf i ends
 unfolding endOf withEnd
-others-at i which seconds ends other = by (place i)
+others-at i which seconds ends =
+    by-place (λ k. (k ≡ which → ⊥) → endOf k (withEnd which seconds ends) ≡ endOf k ends)
+    (λ o. rw (apart adcsModule o)) (λ o. rw (apart payloadModule o)) (λ o. rw (apart sband1Module o)) (λ o. rw (apart sband2Module o))
+    (λ k n o. rw (n .0, n .1, n .2, n .3)) i
   where
-    no : (k : ℕ) → i ≡ k → eqb which k ≡ false
-    no k e = ne-eqb which k (λ w. other (e ∙ sym w))
-
-    by : Place i → endOf i (withEnd which seconds ends) ≡ endOf i ends
-    by (adcs e) = rw (no adcsModule e, e)
-    by (payload e) = rw (no payloadModule e, e)
-    by (sband1 e) = rw (no sband1Module e, e)
-    by (sband2 e) = rw (no sband2Module e, e)
-    by (nowhere a b c d) = rw (a, b, c, d)
+    apart : (k : ℕ) → (k ≡ which → ⊥) → eqb which k ≡ false
+    apart k o = ne-eqb which k (λ e. o (sym e))
 
 -- the mask of four tests, and the test of module i among them
 abbrev fourBits : (a b c d : Bool) → ℕ
@@ -142,16 +118,12 @@ four-bits i low a b c d =
 pub over-at : (i : ℕ) → i < moduleCount → (ends : Ends) → bit i (endsOver ends) ≡ eqb (endOf i ends) 1
 unfolding endOf endsOver
 over-at i low ends =
-    four-bits i low (eqb (ends .adcs) 1) (eqb (ends .payload) 1) (eqb (ends .sband1) 1) (eqb (ends .sband2) 1) ∙ by (place i)
-  where
-    by :
-        Place i →
-        testOf i (eqb (ends .adcs) 1) (eqb (ends .payload) 1) (eqb (ends .sband1) 1) (eqb (ends .sband2) 1) ≡ eqb (endOf i ends) 1
-    by (adcs e) = rw e
-    by (payload e) = rw e
-    by (sband1 e) = rw e
-    by (sband2 e) = rw e
-    by (nowhere a b c d) = rw (a, b, c, d)
+    let a : Bool = eqb (ends .adcs) 1 in
+    let b : Bool = eqb (ends .payload) 1 in
+    let c : Bool = eqb (ends .sband1) 1 in
+    let d : Bool = eqb (ends .sband2) 1 in
+    four-bits i low a b c d
+    ∙ by-place (λ k. testOf k a b c d ≡ eqb (endOf k ends) 1) refl refl refl refl (λ k n. rw (n .0, n .1, n .2, n .3)) i
 
 -- no core module is over, and none that is none of the eight
 pub over-mission : (i : ℕ) (ends : Ends) → bit i (endsOver ends) ≡ true → isMission i ≡ true

@@ -1,4 +1,3 @@
-pub mod Rules
 pub mod InRange
 pub mod KeyerRefusals
 pub mod BeaconRefusals

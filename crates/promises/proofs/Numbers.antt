@@ -5,8 +5,8 @@ use Rattle.morse.specs.Signs.{signs, signOf}
 use Rattle.morse.specs.Texts.{faultOf}
 use Rattle.morse.specs.Units.{unitsOf}
 use Rattle.morse.specs.Keying.{keyUnits, keyOf}
+use Rattle.supervisor.proofs.Rules.{rules}
 use Rattle.promises.specs.Numbers.{Numbers}
-use Rattle.promises.proofs.Rules.{rules}
 
 pub numbers : Numbers
 unfolding rules signs signOf faultOf unitsOf keyUnits keyOf

@@ -7,7 +7,7 @@ use lib.Dec.{eqb, ltb, lit<}
 use borrow.Author.Tests.{ltb-true, ltb-false}
 use Rattle.basics.specs.Choice.{bit}
 use Rattle.basics.proofs.BitLaws.{bit-past}
-use Rattle.modules.specs.Groups.{moduleCount, coreFour, missionFour, isMission}
+use Rattle.modules.specs.Groups.{moduleCount, coreFour, missionFour}
 use Rattle.modules.specs.Ends.{noEnds, endsFallen, endsOver}
 use Rattle.modules.specs.Stage.{requestedBy}
 use Rattle.modules.proofs.EndsLaws.{over-mission}

@@ -13,4 +13,5 @@ pub mod ReportLaws
 pub mod RangeKept
 pub mod HistoryLaws
 pub mod Outcomes
+pub mod Rules
 pub mod ShutOut

@@ -7,32 +7,26 @@ use mathlib.Core.Bool.{Bool, true, false, _&&_, not, true≢false}
 use mathlib.Core.List.{List, [], _∷_, _++_}
 use lib.ListN.{getD, drop, replicate}
 use Rattle.basics.specs.Choice.{if_then_else_}
-use Rattle.basics.specs.Each.{each, eachFrom}
 use Rattle.basics.specs.Outcome.{Outcome, outcome}
-use Rattle.modules.specs.Power.{isOn, switched}
-use Rattle.modules.specs.Ends.{endOf, endsFallen, endsInRange, endsOver}
-use Rattle.modules.specs.Stage.{stageOf, requestedBy, modulesInRange}
-use Rattle.modules.specs.Masks.{maskOf, masksOf}
+use Rattle.modules.specs.Power.{isOn}
 use Rattle.modules.specs.declared.power.Power.the-variants.{On}
 use Rattle.frames.specs.Answer.{isReported}
-use Rattle.frames.specs.Kind.{reportBytes, totalOf}
-use Rattle.frames.specs.Reading.{antennasFields, readFrame}
+use Rattle.frames.specs.Kind.{reportBytes}
+use Rattle.frames.specs.Reading.{readFrame}
 use Rattle.frames.specs.About.{About, about, aTick, aCommand, neither}
 use Rattle.supervisor.specs.Fresh.{freshState}
 use Rattle.supervisor.specs.State.{inDeployWait, moduleAt, endAt, withMode, withControl, withTension, withEnds, withModules}
-use Rattle.supervisor.specs.Range.{inRange}
 use Rattle.supervisor.specs.Ending.{ended}
 use Rattle.supervisor.specs.Control.{controlled}
 use Rattle.supervisor.specs.Due.{beaconStage}
 use Rattle.supervisor.specs.Tick.{beforeModules, moduleStage, ticked}
-use Rattle.supervisor.specs.Act.{actOf}
-use Rattle.supervisor.specs.Report.{reportOf}
 use Rattle.supervisor.specs.Step.{stepOf}
 use Rattle.supervisor.specs.declared.state.Phase.the-variants.{Waiting, Settling}
 use Rattle.supervisor.specs.declared.state.Mode.{Mode}
 use Rattle.supervisor.specs.declared.state.Mode.the-variants.{DeployWait, Recovery, Safe}
 use Rattle.supervisor.specs.declared.state.State.{State}
 use Rattle.supervisor.specs.declared.step.Stepped.{Stepped}
+use Rattle.supervisor.proofs.Rules.{rules}
 
 -- a supervisor, as a contract sees it
 abbrev Supervisor : Type 0
@@ -94,19 +88,19 @@ abbrev antennas : List ℕ
 antennas = 3 ∷ 1 ∷ []
 
 tickKind-told : kindOf (stepOf freshState tick room) ≡ 1
-unfolding room kindOf stepOf freshState requestedBy each eachFrom inRange endsInRange modulesInRange readFrame totalOf actOf ticked reportOf masksOf maskOf
+unfolding rules room kindOf
 tickKind-told = refl
 
 antennasKind-told : kindOf (stepOf freshState antennas room) ≡ 3
-unfolding room kindOf stepOf freshState requestedBy each eachFrom inRange endsInRange modulesInRange readFrame totalOf antennasFields actOf reportOf masksOf maskOf
+unfolding rules room kindOf
 antennasKind-told = refl
 
 tick-reported : isReported (stepOf freshState tick room .result .answer) ≡ true
-unfolding room stepOf freshState requestedBy each eachFrom inRange endsInRange modulesInRange readFrame totalOf actOf ticked
+unfolding rules room
 tick-reported = refl
 
 antennas-reported : isReported (stepOf freshState antennas room .result .answer) ≡ true
-unfolding room stepOf freshState requestedBy each eachFrom inRange endsInRange modulesInRange readFrame totalOf antennasFields actOf
+unfolding rules room
 antennas-reported = refl
 
 -- their reports are of different kinds
@@ -129,7 +123,7 @@ waitedOf Recovery = 0
 waitedOf Safe = 0
 
 two-waited : waitedOf (stepOf waiting tick room .result .state .watch .mode) ≡ 2
-unfolding room waitedOf stepOf freshState requestedBy each eachFrom inRange endsInRange modulesInRange readFrame totalOf actOf ticked
+unfolding rules room waitedOf
 two-waited = refl
 
 -- the second tick moves the state too
@@ -150,11 +144,11 @@ payloadOn : Outcome Stepped → Bool
 payloadOn o = isOn (moduleAt 4 (o .result .state) .power)
 
 payload-off : payloadOn (stepOf aboutToFall tick room) ≡ false
-unfolding payloadOn room stepOf freshState requestedBy each eachFrom inRange endsInRange modulesInRange readFrame totalOf actOf ticked beforeModules ended endsOver controlled moduleStage stageOf switched beaconStage
+unfolding rules payloadOn room
 payload-off = refl
 
 payload-on : payloadOn (modulesFirst aboutToFall tick room) ≡ true
-unfolding payloadOn room stepOf freshState requestedBy each eachFrom inRange endsInRange modulesInRange readFrame totalOf actOf ticked beforeModules ended endsOver controlled moduleStage stageOf switched beaconStage
+unfolding rules payloadOn room
 payload-on = refl
 
 pub modules-first : ShutOut modulesFirst
@@ -166,11 +160,11 @@ lastSecond = withTension 8000 (withControl 0 (withEnds (record { adcs = 0; paylo
 
 -- PAYLOAD after the next tick: off by the rules, and still on
 ended-off : payloadOn (stepOf lastSecond tick room) ≡ false
-unfolding payloadOn room stepOf freshState requestedBy each eachFrom inRange endsInRange modulesInRange readFrame totalOf actOf ticked beforeModules ended endsOver controlled moduleStage stageOf switched beaconStage
+unfolding rules payloadOn room
 ended-off = refl
 
 ended-on : payloadOn (endsLast lastSecond tick room) ≡ true
-unfolding payloadOn room stepOf freshState requestedBy each eachFrom inRange endsInRange modulesInRange readFrame totalOf actOf ticked beforeModules ended endsOver controlled moduleStage stageOf switched beaconStage
+unfolding rules payloadOn room
 ended-on = refl
 
 pub ends-last : ShutOut endsLast
@@ -185,11 +179,11 @@ endLeft : Outcome Stepped → ℕ
 endLeft o = endAt 4 (o .result .state)
 
 end-stands : endLeft (stepOf waitingWithEnd tick room) ≡ 2
-unfolding endLeft endOf endsFallen room stepOf freshState requestedBy each eachFrom inRange endsInRange modulesInRange readFrame totalOf actOf ticked ended endsOver
+unfolding rules endLeft room
 end-stands = refl
 
 end-falls : endLeft (endsWhileWaiting waitingWithEnd tick room) ≡ 1
-unfolding endLeft endOf endsFallen room stepOf freshState requestedBy each eachFrom inRange endsInRange modulesInRange readFrame totalOf actOf ticked ended endsOver
+unfolding rules endLeft room
 end-falls = refl
 
 pub ends-while-waiting : ShutOut endsWhileWaiting

@@ -4,8 +4,8 @@ use Prim.Native.Nat.{ℕ}
 use mathlib.Core.Bool.{true, true≢false}
 use mathlib.Core.List.{List, _∷_, _++_}
 use lib.Dec.{lit<}
+use Rattle.supervisor.proofs.Rules.{rules}
 use Rattle.promises.specs.AsTold.{Requested, OnAfter}
-use Rattle.promises.proofs.Rules.{rules}
 use Rattle.promises.proofs.Edge.Flights.{battery, comm2, camera, comm2Off, cameraOff, cameraRuns, seconds, toRecovery, send, sent}
 
 -- COMM2, ordered off in RECOVERY, is requested on again by a crossing up

@@ -13,9 +13,9 @@ use Rattle.frames.specs.declared.sender.Origin.the-variants.{Ground}
 use Rattle.supervisor.specs.Fresh.{freshState}
 use Rattle.supervisor.specs.History.{Call, aboutOf, answered, after}
 use Rattle.supervisor.specs.State.{moduleAt}
+use Rattle.supervisor.proofs.Rules.{rules}
 use Rattle.promises.specs.AsTold.{plain, says, orders, SaysOn, SaysOff}
 use Rattle.promises.specs.Dawn.{Old, StaysOff, OrderedOff, Late, memory}
-use Rattle.promises.proofs.Rules.{rules}
 use Rattle.promises.proofs.Edge.Flights.{battery, comm2, camera, comm2Off, cameraOff, cameraOn, seconds, toRecovery, toSafe, cameraRuns, send, sent}
 
 -- every "on" of a history for a module, with what came before it: each where it stands, or none

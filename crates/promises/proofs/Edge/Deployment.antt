@@ -14,8 +14,8 @@ use Rattle.supervisor.specs.History.{called, after, doneTick, doneTicks}
 use Rattle.supervisor.specs.declared.state.Phase.the-variants.{Waiting}
 use Rattle.supervisor.specs.declared.state.Mode.the-variants.{DeployWait}
 use Rattle.supervisor.specs.declared.state.State.{State}
+use Rattle.supervisor.proofs.Rules.{rules}
 use Rattle.promises.specs.Deployment.{EndsIn}
-use Rattle.promises.proofs.Rules.{rules}
 use Rattle.promises.proofs.Edge.Flights.{quiet, seconds, send, sent}
 
 -- the antennas are never reported: after 87,299 ticks the board still settles, with 1 second left

@@ -9,9 +9,9 @@ use Rattle.supervisor.specs.Fresh.{freshState}
 use Rattle.supervisor.specs.State.{withModules}
 use Rattle.supervisor.specs.History.{after}
 use Rattle.supervisor.specs.declared.state.State.{State}
+use Rattle.supervisor.proofs.Rules.{rules}
 use Rattle.promises.specs.Deployment.{deployed}
 use Rattle.promises.specs.ForAReason.{OnMeansWanted, WantedMeansOn, afterwards}
-use Rattle.promises.proofs.Rules.{rules}
 use Rattle.promises.proofs.Edge.Flights.{quiet, short, comm2, camera, cameraOn, toSafe, aboutToCross, send, sent}
 
 -- a state in range, of no flight: all modules on in DEPLOY_WAIT, where a tick switches nothing

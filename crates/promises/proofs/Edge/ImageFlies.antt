@@ -10,11 +10,11 @@ use Rattle.supervisor.specs.State.{withMode}
 use Rattle.supervisor.specs.declared.state.Phase.the-variants.{Settling}
 use Rattle.supervisor.specs.declared.state.Mode.the-variants.{DeployWait}
 use Rattle.supervisor.specs.declared.state.State.{State}
+use Rattle.supervisor.proofs.Rules.{rules}
 use Rattle.flight.specs.Saving.{modulesBytes, endsBytes, headBytes, saved}
 use Rattle.flight.specs.Loading.{hasLayout, endsIn, modulesIn, decoded, loaded}
 use Rattle.flight.specs.Calls.{Imaged, stepImage}
 use Rattle.promises.specs.ImageFlies.{FliesFrom}
-use Rattle.promises.proofs.Rules.{rules}
 use Rattle.promises.proofs.Edge.Flights.{quiet, send}
 
 -- settling with no second left, which no board is: its bytes are those of the last second of waiting

@@ -9,8 +9,8 @@ use Rattle.supervisor.specs.State.{withMode, withControl}
 use Rattle.supervisor.specs.History.{Call}
 use Rattle.supervisor.specs.declared.state.Mode.the-variants.{Recovery}
 use Rattle.supervisor.specs.declared.state.State.{State}
+use Rattle.supervisor.proofs.Rules.{rules}
 use Rattle.promises.specs.InRange.{Kept, Never}
-use Rattle.promises.proofs.Rules.{rules}
 use Rattle.promises.proofs.Edge.Flights.{quiet, send}
 
 -- a first call with a room of 10 bytes

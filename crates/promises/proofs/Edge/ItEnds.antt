@@ -8,8 +8,8 @@ use Rattle.frames.specs.declared.sender.Origin.the-variants.{Ground}
 use Rattle.supervisor.specs.Fresh.{freshState}
 use Rattle.supervisor.specs.History.{Call, called, after}
 use Rattle.supervisor.specs.declared.state.State.{State}
+use Rattle.supervisor.proofs.Rules.{rules}
 use Rattle.promises.specs.ItEnds.{StillAsked, OverBy, Runs, leftAlone}
-use Rattle.promises.proofs.Rules.{rules}
 use Rattle.promises.proofs.Edge.Flights.{camera, cameraFor, seconds, toSafe, send, sent}
 
 -- in SAFE the camera is ordered on for a minute, with serial 1

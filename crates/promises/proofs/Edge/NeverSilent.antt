@@ -8,9 +8,9 @@ use Rattle.supervisor.specs.Fresh.{freshState}
 use Rattle.supervisor.specs.State.{isSafe}
 use Rattle.supervisor.specs.History.{Call, called, after}
 use Rattle.supervisor.specs.declared.state.State.{State}
+use Rattle.supervisor.proofs.Rules.{rules}
 use Rattle.promises.specs.Deployment.{deployed}
 use Rattle.promises.specs.NeverSilent.{DueIn, DueInSafe, SafeTicks}
-use Rattle.promises.proofs.Rules.{rules}
 use Rattle.promises.proofs.Edge.Flights.{seconds, toRecovery, toSafe, sent}
 
 -- a board that enters RECOVERY has its first beacon due in the 300th tick after it

@@ -13,6 +13,7 @@ use Rattle.supervisor.specs.State.{withMode}
 use Rattle.supervisor.specs.History.{after}
 use Rattle.supervisor.specs.declared.state.Mode.the-variants.{Recovery}
 use Rattle.supervisor.specs.declared.state.State.{State}
+use Rattle.supervisor.proofs.Rules.{rules}
 use Rattle.morse.specs.Signs.{signs, signOf}
 use Rattle.morse.specs.Units.{unitsOf}
 use Rattle.beacon.specs.Text.{basicText, completeText}
@@ -20,7 +21,6 @@ use Rattle.beacon.specs.Writing.{beaconOf, writtenReply}
 use Rattle.beacon.specs.declared.text.Form.the-variants.{Basic, Complete}
 use Rattle.beacon.specs.declared.writing.Written.{Written}
 use Rattle.promises.specs.OnTheGround.{HeardWith, Tells}
-use Rattle.promises.proofs.Rules.{rules}
 use Rattle.promises.proofs.Edge.Flights.{quiet, comm2Off, send}
 
 -- the fresh board's complete text into a page of 15 bytes is refused with 14

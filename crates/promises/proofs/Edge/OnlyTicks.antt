@@ -8,8 +8,8 @@ use mathlib.Core.List.{List, [], _∷_, _++_}
 use Rattle.supervisor.specs.Fresh.{freshState}
 use Rattle.supervisor.specs.State.{moduleAt, endAt}
 use Rattle.supervisor.specs.History.{after}
+use Rattle.supervisor.proofs.Rules.{rules}
 use Rattle.promises.specs.OnlyTicks.{OthersLeave, TicksLeave}
-use Rattle.promises.proofs.Rules.{rules}
 use Rattle.promises.proofs.Edge.Flights.{quiet, comm2, camera, comm2Off, cameraFor, toSafe, aboutToCross, send, sent}
 
 -- the fresh board and an "off" for COMM2: its request goes at once

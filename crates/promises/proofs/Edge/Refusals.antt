@@ -11,6 +11,7 @@ use Rattle.supervisor.specs.Fresh.{freshState}
 use Rattle.supervisor.specs.State.{isDeployWait}
 use Rattle.supervisor.specs.History.{Call, after}
 use Rattle.supervisor.specs.declared.state.State.{State}
+use Rattle.supervisor.proofs.Rules.{rules}
 use Rattle.morse.specs.Signs.{signs, signOf}
 use Rattle.morse.specs.Texts.{faultOf}
 use Rattle.morse.specs.Units.{unitsOf}
@@ -21,7 +22,6 @@ use Rattle.beacon.specs.Text.{basicText}
 use Rattle.beacon.specs.Writing.{beaconOf}
 use Rattle.beacon.specs.declared.text.Form.the-variants.{Basic}
 use Rattle.promises.specs.Refusals.{UntouchedTo, UnmovedTo, TenIn, KeyingFrom, ReadingFrom, BeaconFrom}
-use Rattle.promises.proofs.Rules.{rules}
 use Rattle.promises.proofs.Edge.Flights.{cameraOff, cameraOn, toRecovery, send, sent}
 
 -- the same order twice: the second is answered 8, with a report in the room

@@ -7,8 +7,8 @@ use mathlib.Core.List.{[]}
 use lib.Dec.{lit≤}
 use Rattle.frames.specs.declared.sender.Origin.the-variants.{Ground}
 use Rattle.supervisor.specs.History.{Call}
+use Rattle.supervisor.proofs.Rules.{rules}
 use Rattle.promises.specs.Serials.{SerialsTell}
-use Rattle.promises.proofs.Rules.{rules}
 use Rattle.promises.proofs.Edge.Flights.{cameraOn, toSafe, send, sent, sent-roomy}
 
 -- ground's first frame, an "on" for the camera: answered 10 in DEPLOY_WAIT, and 0 in SAFE

@@ -11,8 +11,8 @@ use Rattle.basics.specs.Choice.{within, bit}
 use Rattle.modules.specs.Groups.{isMission}
 use Rattle.supervisor.specs.Fresh.{freshState}
 use Rattle.supervisor.specs.History.{after}
+use Rattle.supervisor.proofs.Rules.{rules}
 use Rattle.promises.specs.TwoCraft.{TwoCraftOf, Better, AsGood, Paired, start, next, same, higher, inReach, shortsBorne}
-use Rattle.promises.proofs.Rules.{rules}
 use Rattle.promises.proofs.Edge.Flights.{battery, short, comm2, camera, comm2Off, cameraOn, seconds, toRecovery, toSafe, sent, sent-roomy}
 
 -- the same frames but for one

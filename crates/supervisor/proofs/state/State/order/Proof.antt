@@ -27,10 +27,24 @@ returns : tie.Need-returns
 unfolding requestSet
 returns c =
     ⊎-elim
-    (λ w. simp
-    (c .silent .ensures, c .before .with-modules .ensures, w .1 .ensures, w .2 .ensures, w .3, w .4, w .5, sym (c .before .before .before .is-ill-timed .ensures) ∙ not-true (c .before .before .before .is-ill-timed .result) (w .0 .taken)))
-    (λ w. simp
-    (c .silent .ensures, c .before .with-modules .ensures, w .1, w .2, w .3, sym (c .before .before .before .is-ill-timed .ensures) ∙ not-false (c .before .before .before .is-ill-timed .result) (w .0 .left)))
+    (λ w. simp (
+      c .silent .ensures,
+      c .before .with-modules .ensures,
+      w .1 .ensures,
+      w .2 .ensures,
+      w .3,
+      w .4,
+      w .5,
+      sym (c .before .before .before .is-ill-timed .ensures) ∙ not-true (c .before .before .before .is-ill-timed .result) (w .0 .taken),
+    ))
+    (λ w. simp (
+      c .silent .ensures,
+      c .before .with-modules .ensures,
+      w .1,
+      w .2,
+      w .3,
+      sym (c .before .before .before .is-ill-timed .ensures) ∙ not-false (c .before .before .before .is-ill-timed .result) (w .0 .left),
+    ))
     (c .before .before .if1 .came)
 
 pub order-spec : {M : Type 1} → statement M
