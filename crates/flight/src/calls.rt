@@ -45,6 +45,27 @@ pub extern "C" fn ems_step(image: &mut [u8], frame: &[u8], room: &mut [u8]) -> u
     answer.number()
 }
 
+// Takes a whole pass, frames end to end: the image becomes the state's after the last that has a report, the room holds
+// the reports end to end, and it is told how many there are. It answers why the pass stopped.
+#[no_mangle]
+pub extern "C" fn ems_pass(image: &mut [u8], frames: &[u8], room: &mut [u8], reported: &mut usize) -> u8
+    ensures { λ r. ⌜ outcome (imaged (reply r (now (reported .exit))) (now (image .exit))) (now (room .exit))
+        ≡ passImage (now (image .entry)) (now (frames .entry)) (now (room .entry)) ⌝ }
+{
+    if !has_layout(image) {
+        *reported = 0;
+        return Answer::BadState.number();
+    }
+    let state = decode(image);
+    let after = pass::pass(state, frames, room);
+    let answer = after.answer;
+    *reported = after.reported;
+    if 0 < after.reported {
+        save(after.state, image);
+    }
+    answer.number()
+}
+
 // The beacon's text of an image's state.
 fn write_beacon(image: &[u8], form: Form, text: &mut [u8]) -> Written
     ensures { λ r. ⌜ outcome r (now (text .exit)) ≡ beaconImage form (now (image .entry)) (now (text .entry)) ⌝ }

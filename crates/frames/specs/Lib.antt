@@ -5,4 +5,5 @@ pub mod Serial
 pub mod Command
 pub mod Frame
 pub mod Reading
+pub mod Cut
 pub mod About

@@ -1,6 +1,7 @@
 // Frames as they come in: what the bytes say, who sent them, why they are refused, and how a report names them.
 pub mod answer;
 pub mod command;
+pub mod cut;
 pub mod frame;
 pub mod kind;
 pub mod reading;

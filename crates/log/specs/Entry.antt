@@ -9,18 +9,18 @@ use Rattle.basics.specs.Choice.{if_then_else_}
 use Rattle.basics.specs.Outcome.{Outcome, outcome}
 use Rattle.frames.specs.Answer.{isReported}
 use Rattle.frames.specs.Kind.{reportBytes}
+use Rattle.frames.specs.Cut.{cutOf}
 use Rattle.frames.specs.declared.answer.Answer.{Answer}
+use Rattle.frames.specs.declared.cut.Front.{Front}
+use Rattle.frames.specs.declared.cut.Front.the-variants as front
 use Rattle.supervisor.specs.Fresh.{freshState}
 use Rattle.supervisor.specs.Step.{stepOf}
 use Rattle.supervisor.specs.declared.step.Stepped.{Stepped}
 use Rattle.supervisor.specs.declared.state.State.{State}
-use Rattle.log.specs.Cut.{cutOf}
 use Rattle.log.specs.Line.{longest, placed, lineOf, refusedLine}
-use Rattle.log.specs.declared.cut.Front.{Front}
 use Rattle.log.specs.declared.entry.Log.{Log}
 use Rattle.log.specs.declared.entry.Entry.{Entry}
 use Rattle.log.specs.declared.entry.Entered.{Entered}
-use Rattle.log.specs.declared.cut.Front.the-variants as front
 use Rattle.log.specs.declared.entry.Entry.the-variants as entry
 
 -- a log starts from the fresh state and counts frames from 1

@@ -2,11 +2,11 @@
 ghost use mathlib.Core.Path.{_≡_};
 ghost use Rattle.basics.specs.Outcome.{outcome};
 ghost use Rattle.log.specs.Entry.{freshLog, worked, enterOf};
-use crate::cut::Front;
-use crate::cut::cut;
 use crate::line::LONGEST;
 use crate::line::line;
 use crate::line::refused;
+use frames::cut::Front;
+use frames::cut::cut;
 use frames::kind::REPORT_BYTES;
 use supervisor::state::State;
 use supervisor::step::step;

@@ -1,8 +1,9 @@
-// Cutting a stream into frames by kind.
+// Cutting bytes into frames by kind.
 ghost use mathlib.Core.Path.{_≡_};
-ghost use Rattle.log.specs.Cut.{cutOf};
+ghost use Rattle.frames.specs.Cut.{cutOf, frontBytes};
+use crate::kind::total;
 
-// What stands at the front of a stream.
+// What stands at the front of bytes.
 pub enum Front {
     // a whole frame of so many bytes
     Frame(usize),
@@ -14,6 +15,18 @@ pub enum Front {
     Empty,
 }
 
+impl Front {
+    // How many of so many bytes are the frame's: where its kind is unknown, or it is cut off, all of them.
+    pub fn bytes(self, all: usize) -> usize
+        ensures { λ r. ⌜ r ≡ frontBytes self all ⌝ }
+    {
+        match self {
+            Front::Frame(total) => total,
+            _ => all,
+        }
+    }
+}
+
 // Cuts the frame at the front of the bytes.
 pub fn cut(bytes: &[u8]) -> Front
     ensures { λ r. ⌜ r ≡ cutOf (now (bytes .entry)) ⌝ }
@@ -21,7 +34,7 @@ pub fn cut(bytes: &[u8]) -> Front
     if bytes.len() == 0 {
         return Front::Empty;
     }
-    let total = frames::kind::total(bytes[0]);
+    let total = total(bytes[0]);
     if total == 0 {
         return Front::Unknown;
     }

@@ -1,9 +1,9 @@
--- `log::cut::cut` meets its contract: the tests are those of the definition.
+-- `cut` meets its contract: the tests are those of the definition.
 use borrow.Author.Tests.{eq-eqb, ne-eqb, lt-ltb, le-ltb}
 use borrow.Author.Needs.{needs}
-use Rattle.log.specs.Cut.{cutOf}
-use Rattle.log.proofs.cut.cut.Statement.{statement}
-use Rattle.log.proofs.cut.cut.Tie as tie
+use Rattle.frames.specs.Cut.{cutOf}
+use Rattle.frames.proofs.cut.cut.Statement.{statement}
+use Rattle.frames.proofs.cut.cut.Tie as tie
 
 returns : tie.Need-returns
 unfolding cutOf
