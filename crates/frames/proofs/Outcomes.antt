@@ -16,6 +16,10 @@ use Rattle.frames.proofs.serial.Serials.class as class
 use Rattle.frames.proofs.serial.Serials.class.Reads as class-reads
 use Rattle.frames.proofs.serial.Serials.moved as moved
 use Rattle.frames.proofs.serial.Serials.moved.Reads as moved-reads
+use Rattle.frames.proofs.cut.Front.bytes as front-bytes
+use Rattle.frames.proofs.cut.Front.bytes.Reads as front-bytes-reads
+use Rattle.frames.proofs.cut.cut as cut
+use Rattle.frames.proofs.cut.cut.Reads as cut-reads
 use Rattle.frames.proofs.kind.total as total
 use Rattle.frames.proofs.kind.total.Reads as total-reads
 use Rattle.frames.proofs.reading.is_reading as is-reading
@@ -45,6 +49,12 @@ class-one = record { taken = λ κs a. tt; one = λ κs a x y p q i. ((p ∙ sym
 
 pub moved-one : OneOutcome moved.ended moved-reads.Asked moved-reads.Learnt
 moved-one = record { taken = λ κs a. tt; one = λ κs a x y p q i. ((p ∙ sym q) i, (tt, (tt, (tt, tt)))) }
+
+pub cut-one : OneOutcome cut.ended cut-reads.Asked cut-reads.Learnt
+cut-one = record { taken = λ κs a. tt; one = λ κs a x y p q i. ((p ∙ sym q) i, (tt, tt)) }
+
+pub front-bytes-one : OneOutcome front-bytes.ended front-bytes-reads.Asked front-bytes-reads.Learnt
+front-bytes-one = record { taken = λ κs a. tt; one = λ κs a x y p q i. ((p ∙ sym q) i, (tt, (tt, tt))) }
 
 pub total-one : OneOutcome total.ended total-reads.Asked total-reads.Learnt
 total-one = record { taken = λ κs a. tt; one = λ κs a x y p q i. ((p ∙ sym q) i, (tt, tt)) }

@@ -22,7 +22,9 @@ impl Front {
     {
         match self {
             Front::Frame(total) => total,
-            _ => all,
+            Front::Short => all,
+            Front::Unknown => all,
+            Front::Empty => all,
         }
     }
 }

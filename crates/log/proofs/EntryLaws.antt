@@ -6,24 +6,24 @@ use mathlib.Core.Bool.{Bool, true, false}
 use mathlib.Core.List.{List}
 use native.Mathlib.Nat.{le-refl}
 use native.Mathlib.Omega.{arith}
-use borrow.Author.Tests.{le-leb, leb-true, ltb-false, eqb-false}
-use lib.Dec.{leb, eqb, ltb}
+use borrow.Author.Tests.{le-leb, leb-true}
+use lib.Dec.{leb}
 use lib.ListN.{length, take, replicate, length-append, length-drop}
 use lib.Seq.{length-take-le}
 use Rattle.basics.specs.Outcome.{Outcome, outcome}
 use Rattle.basics.proofs.ChoiceLaws.{either, decided}
 use Rattle.frames.specs.Answer.{isReported}
-use Rattle.frames.specs.Kind.{totalOf, reportBytes}
-use Rattle.frames.specs.Reading.{byteAt}
+use Rattle.frames.specs.Kind.{reportBytes}
+use Rattle.frames.specs.Cut.{cutOf}
 use Rattle.frames.specs.declared.answer.Answer.{Answer}
+use Rattle.frames.specs.declared.cut.Front.{Front}
+use Rattle.frames.specs.declared.cut.Front.the-variants as front
+use Rattle.frames.proofs.CutLaws.{FrontWithin, cut-within}
 use Rattle.supervisor.specs.declared.state.State.{State}
 use Rattle.supervisor.specs.Step.{stepOf}
-use Rattle.log.specs.declared.cut.Front.{Front}
-use Rattle.log.specs.declared.cut.Front.the-variants as front
 use Rattle.log.specs.declared.entry.Log.{Log}
 use Rattle.log.specs.declared.entry.Entry.{Entry}
 use Rattle.log.specs.declared.entry.Entry.the-variants.{Line, Last, More, Full}
-use Rattle.log.specs.Cut.{cutOf}
 use Rattle.log.specs.Line.{longest, placed, lineOf, refusedLine}
 use Rattle.log.specs.declared.entry.Entered.{Entered}
 use Rattle.log.specs.Entry.{goesOn, ends, printed, worked, enteredAt, enterOf}
@@ -35,24 +35,6 @@ Within (Line frame line) bytes room = (0 < frame) × (frame ≤ bytes) × (line 
 Within (Last line) bytes room = line ≤ room
 Within More bytes room = Unit {0}
 Within Full bytes room = Unit {0}
-
--- the front of a stream is what the cut says
-abbrev FrontWithin : Front → (bytes : ℕ) → Type 0
-FrontWithin (front.Frame total) bytes = (0 < total) × (total ≤ bytes)
-FrontWithin front.Short bytes = 0 < bytes
-FrontWithin front.Unknown bytes = 0 < bytes
-FrontWithin front.Empty bytes = Unit {0}
-
-pub cut-within : (bytes : List ℕ) → FrontWithin (cutOf bytes) (length bytes)
-unfolding cutOf
-cut-within bytes =
-    let total = totalOf (byteAt 0 bytes) in
-    decided (λ (f : Front). FrontWithin f (length bytes)) (eqb (length bytes) 0) (λ t. tt)
-    (λ some. decided (λ (f : Front). FrontWithin f (length bytes)) (eqb total 0)
-    (λ t. omega (arith, eqb-false (length bytes) 0 some))
-    (λ known. decided (λ (f : Front). FrontWithin f (length bytes)) (ltb (length bytes) total)
-    (λ t. omega (arith, eqb-false (length bytes) 0 some))
-    (λ whole. (omega (arith, eqb-false total 0 known), ltb-false (length bytes) total whole))))
 
 count-within : (text room : List ℕ) → length text ≤ longest → longest ≤ length room → placed text room .result ≤ length room
 unfolding placed

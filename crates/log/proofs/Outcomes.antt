@@ -2,8 +2,6 @@
 -- Assumes nothing.
 use mathlib.Core.Path.{sym, _∙_}
 use Rattle.basics.specs.OneOutcome.{OneOutcome}
-use Rattle.log.proofs.cut.cut as cut
-use Rattle.log.proofs.cut.cut.Reads as cut-reads
 use Rattle.log.proofs.line.line as line
 use Rattle.log.proofs.line.line.Reads as line-reads
 use Rattle.log.proofs.line.refused as refused
@@ -12,9 +10,6 @@ use Rattle.log.proofs.entry.fresh as fresh
 use Rattle.log.proofs.entry.fresh.Reads as fresh-reads
 use Rattle.log.proofs.entry.enter as enter
 use Rattle.log.proofs.entry.enter.Reads as enter-reads
-
-pub cut-one : OneOutcome cut.ended cut-reads.Asked cut-reads.Learnt
-cut-one = record { taken = λ κs a. tt; one = λ κs a x y p q i. ((p ∙ sym q) i, (tt, tt)) }
 
 pub line-one : OneOutcome line.ended line-reads.Asked line-reads.Learnt
 line-one = record { taken = λ κs a. tt; one = λ κs a x y p q i. ((p ∙ sym q) i .result, (tt, (tt, ((p ∙ sym q) i .room, tt)))) }

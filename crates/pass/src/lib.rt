@@ -8,38 +8,39 @@ use frames::kind::REPORT_BYTES;
 use supervisor::state::State;
 use supervisor::step::step;
 
-// Where a pass leaves the board: the state, how many frames got a report, and why it stopped: 0 where no bytes are left.
+// Where a pass leaves the board: the state, how many frames got a report, and why it stopped, 0 if no bytes are left.
 pub struct Passed {
     pub state: State,
     pub reported: usize,
     pub answer: Answer,
 }
 
-// One frame of a pass: its answer, the next state, and how many bytes it has.
+// One frame of a pass: its answer, the state after it, and how many bytes it has.
 struct Worked {
     answer: Answer,
     state: State,
     bytes: usize,
 }
 
-// Works the frame at the front of what is left, with what is left of the room. One that is cut off, like one of
-// unknown kind, is handed over as it is, to be refused.
+// Works the frame at the front of what is left of the input, with what is left of the room. One that is cut off, like
+// one of unknown kind, is handed over as it is, to be refused.
 fn work(state: State, rest: &[u8], room: &mut [u8]) -> Worked
     ensures { λ r. ⌜ outcome r (now (room .exit)) ≡ workOf state (now (rest .entry)) (now (room .entry)) ⌝ }
 {
     let front = cut(rest);
     let bytes = front.bytes(rest.len());
     let stepped = step(state, &rest[0..bytes], room);
+    let answer = stepped.answer;
     let next = stepped.state;
     Worked {
-        answer: stepped.answer,
+        answer,
         state: next,
         bytes,
     }
 }
 
-// Takes frames end to end, and stops before the first that is refused, or has no room for its report. What was done
-// until then stands; the bytes of the room past the last report stay.
+// Takes frames end to end, and stops before the first that gets no report: it is refused, or no room is left for one.
+// What was done stands; the bytes of the room past the last report stay.
 pub fn pass(mut state: State, input: &[u8], room: &mut [u8]) -> Passed
     ensures { λ r. ⌜ outcome r (now (room .exit)) ≡ passOf state (now (input .entry)) (now (room .entry)) ⌝ }
 {
@@ -51,13 +52,10 @@ pub fn pass(mut state: State, input: &[u8], room: &mut [u8]) -> Passed
         };
     }
     let mut at = 0;
-    let mut written = 0;
     let mut reported = 0;
     while at < input.len() {
-        let worked = work(state, &input[at..], &mut room[written..]);
-        let next = worked.state;
+        let worked = work(state, &input[at..], &mut room[reported * REPORT_BYTES..]);
         let answer = worked.answer;
-        state = next;
         if !answer.is_reported() {
             return Passed {
                 state,
@@ -65,8 +63,9 @@ pub fn pass(mut state: State, input: &[u8], room: &mut [u8]) -> Passed
                 answer,
             };
         }
+        let next = worked.state;
+        state = next;
         at += worked.bytes;
-        written += REPORT_BYTES;
         reported += 1;
     }
     Passed {

@@ -53,7 +53,8 @@ pub data Comes (s : State) (c : Call) : Type 0 where
   ticking : (shorts : ℕ) → Works s c (frame.Tick shorts) (ticked shorts s) → Comes s c
   other : (f : Frame) → isTick (about (Accepted f)) ≡ false → Works s c f (actOf f s) → Comes s c
 
-wider : (n : ℕ) → T (within 3 7 n) → T (within 1 7 n)
+-- refusals 3 to 7 are among 1 to 7
+pub wider : (n : ℕ) → T (within 3 7 n) → T (within 1 7 n)
 wider n t = within-of 1 7 n (omega (arith, within-low 3 7 n t)) (within-high 3 7 n t)
 
 not-zero : (tick : Bool) (n : ℕ) → T (within 1 7 n) → tick && eqb n 0 ≡ false

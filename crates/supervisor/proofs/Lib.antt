@@ -12,6 +12,7 @@ pub mod SerialLaws
 pub mod ReportLaws
 pub mod RangeKept
 pub mod HistoryLaws
+pub mod StepLaws
 pub mod Outcomes
 pub mod Rules
 pub mod ShutOut

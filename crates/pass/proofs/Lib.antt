@@ -1,0 +1,2 @@
+pub mod FramesLaws
+pub mod PassLaws
