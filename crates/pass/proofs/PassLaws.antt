@@ -1,6 +1,6 @@
 -- Laws of a pass under way: what was done of it, and what is left, make up the whole.
 -- Assumes nothing.
-use Prim.Native.Nat.{ℕ, suc, _+_, _-_, _*_, _<_, _≤_}
+use Prim.Native.Nat.{ℕ, _+_, _-_, _*_, _<_, _≤_}
 use mathlib.Core.Path.{_≡_, refl, ap, sym, _∙_}
 use mathlib.Core.Bool.{true, false}
 use mathlib.Core.List.{List, [], _∷_, _++_, append-assoc, append-nil}
@@ -24,7 +24,7 @@ use Rattle.supervisor.specs.declared.state.State.{State}
 use Rattle.supervisor.specs.declared.step.Stepped.{Stepped}
 use Rattle.supervisor.proofs.HistoryLaws.{called-in-range}
 use Rattle.supervisor.proofs.StepLaws.{step-written, refused-left}
-use Rattle.pass.specs.Pass.{framesIn, following, inOrder, passOf, workOf}
+use Rattle.pass.specs.Pass.{framesIn, ahead, inOrder, passOf, workOf}
 use Rattle.pass.specs.declared.Passed.{Passed}
 use Rattle.pass.specs.declared.Worked.{Worked}
 use Rattle.pass.proofs.FramesLaws.{frames-none, frames-first}
@@ -40,26 +40,16 @@ work-made s rest room bytes stepped later b k =
     let front : length (take bytes rest) ≡ bytes = length-take-le bytes rest (rw b (front-within rest)) in
     rw (← b, front) (rw (← (rw z at k)))
 
--- so many reports at the front of a room, then what the rest of the pass gives
-abbrev pub ahead : (reports : ℕ) (room : List ℕ) → Outcome Passed → Outcome Passed
-ahead reports room rest =
-    outcome (record {
-      state = rest .result .state;
-      reported = reports + rest .result .reported;
-      answer = rest .result .answer;
-    }) (take (reports * reportBytes) room ++ rest .room)
-
--- one report more
-ahead-following :
-    (reports : ℕ) (room later : List ℕ) (rest : Outcome Passed) → reports * reportBytes ≤ length room →
-    ahead reports room (following later rest) ≡ ahead (reports + 1) (take (reports * reportBytes) room ++ later) rest
-ahead-following reports room later rest h =
+-- two stretches are one
+pub ahead-both :
+    (reports more : ℕ) (room later : List ℕ) (rest : Outcome Passed) → reports * reportBytes ≤ length room →
+    ahead reports room (ahead more later rest) ≡ ahead (reports + more) (take (reports * reportBytes) room ++ later) rest
+ahead-both reports more room later rest h =
     let front : length (take (reports * reportBytes) room) ≡ reports * reportBytes = length-take-le (reports * reportBytes) room h in
-    let more : (reports + 1) * reportBytes ≡ reports * reportBytes + reportBytes = omega arith in
-    let one : reports + suc (rest .result .reported) ≡ reports + 1 + rest .result .reported = omega arith in
-    let both : take ((reports + 1) * reportBytes) (take (reports * reportBytes) room ++ later) ≡ take (reports * reportBytes) room ++ take reportBytes later =
-    rw more (rw front at (take-append-add (take (reports * reportBytes) room) later reportBytes)) in
-    rw (both, append-assoc, one)
+    let all : (reports + more) * reportBytes ≡ reports * reportBytes + more * reportBytes = omega arith in
+    let both : take ((reports + more) * reportBytes) (take (reports * reportBytes) room ++ later) ≡ take (reports * reportBytes) room ++ take (more * reportBytes) later =
+    rw all (rw front at (take-append-add (take (reports * reportBytes) room) later (more * reportBytes))) in
+    rw (both, append-assoc, add-assoc reports more)
 
 -- where a pass stands: what is used of the bytes and of the room lies within, and what is left makes up the whole
 pub record Underway (s₀ : State) (input room₀ : List ℕ) (s : State) (room : List ℕ) (at reports : ℕ) : Type 0 where
@@ -145,7 +135,7 @@ module _ {s₀ : State} {input room₀ : List ℕ} {s : State} {room : List ℕ}
     frames = rw measures (frames-first left (omega (arith, length-left)))
 
     -- with a report the pass goes on
-    goes-on : isReported (worked .answer) ≡ true → inOrder s (framesIn left) spare ≡ following later (inOrder (worked .state) (framesIn (drop (worked .bytes) left)) (drop reportBytes later))
+    goes-on : isReported (worked .answer) ≡ true → inOrder s (framesIn left) spare ≡ ahead 1 later (inOrder (worked .state) (framesIn (drop (worked .bytes) left)) (drop reportBytes later))
     unfolding inOrder
     goes-on e = rw (frames, ← steps, e)
 
@@ -163,7 +153,7 @@ module _ {s₀ : State} {input room₀ : List ℕ} {s : State} {room : List ℕ}
           same-length = length-back ∙ u .same-length;
           rest =
               rw (past, ← drop-drop (worked .bytes) at input)
-              (sym (ahead-following reports room later (inOrder (worked .state) (framesIn (drop (worked .bytes) left)) (drop reportBytes later)) (u .reports-within))
+              (sym (ahead-both reports 1 room later (inOrder (worked .state) (framesIn (drop (worked .bytes) left)) (drop reportBytes later)) (u .reports-within))
               ∙ ap (ahead reports room) (sym (goes-on e)) ∙ u .rest);
         })
 

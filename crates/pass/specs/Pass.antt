@@ -1,6 +1,6 @@
 -- A pass: frames end to end, each taken as a single call would, until one gets no report.
 -- Assumes nothing.
-use Prim.Native.Nat.{ℕ, zero, suc}
+use Prim.Native.Nat.{ℕ, zero, suc, _+_, _*_}
 use mathlib.Core.List.{List, [], _∷_, _++_}
 use lib.ListN.{length, take, drop}
 use Rattle.basics.specs.Choice.{if_then_else_}
@@ -32,19 +32,19 @@ framesIn bytes = framesUpTo (length bytes) bytes
 abbrev pub stopped : State → Answer → (room : List ℕ) → Outcome Passed
 stopped s answer room = outcome (record { state = s; reported = 0; answer = answer }) room
 
--- a report more, at the front of the room, then what the rest of the pass gives
-abbrev pub following : (room : List ℕ) → Outcome Passed → Outcome Passed
-following room rest =
+-- so many reports at the front of the room, then what the rest of the pass gives
+abbrev pub ahead : (reports : ℕ) → (room : List ℕ) → Outcome Passed → Outcome Passed
+ahead reports room rest =
     outcome (record {
       state = rest .result .state;
-      reported = suc (rest .result .reported);
+      reported = reports + rest .result .reported;
       answer = rest .result .answer;
-    }) (take reportBytes room ++ rest .room)
+    }) (take (reports * reportBytes) room ++ rest .room)
 
 -- a frame that gets a report is followed by the rest of the pass; before any other it stops
 abbrev pub continued : Outcome Stepped → (rest : Outcome Passed) → Outcome Passed
 continued after rest =
-    if isReported (after .result .answer) then following (after .room) rest
+    if isReported (after .result .answer) then ahead 1 (after .room) rest
     else stopped (after .result .state) (after .result .answer) (after .room)
 
 -- single calls in order, each with the room that is left: where no frame is left, the answer is 0
