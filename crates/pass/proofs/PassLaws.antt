@@ -24,7 +24,7 @@ use Rattle.supervisor.specs.declared.state.State.{State}
 use Rattle.supervisor.specs.declared.step.Stepped.{Stepped}
 use Rattle.supervisor.proofs.HistoryLaws.{called-in-range}
 use Rattle.supervisor.proofs.StepLaws.{step-written, refused-left}
-use Rattle.pass.specs.Pass.{framesIn, ahead, inOrder, passOf, workOf}
+use Rattle.pass.specs.Pass.{framesIn, stopped, ahead, inOrder, passOf, workOf}
 use Rattle.pass.specs.declared.Passed.{Passed}
 use Rattle.pass.specs.declared.Worked.{Worked}
 use Rattle.pass.proofs.FramesLaws.{frames-none, frames-first}
@@ -39,6 +39,23 @@ work-made s rest room bytes stepped later b k =
     let z : bytes - 0 ≡ bytes = omega arith in
     let front : length (take bytes rest) ≡ bytes = length-take-le bytes rest (rw b (front-within rest)) in
     rw (← b, front) (rw (← (rw z at k)))
+
+-- one frame of those in order: with a report the others follow, with none it stops there
+module _ (s : State) (frame : List ℕ) (frames : List (List ℕ)) (room : List ℕ) where
+  abbrev one : Outcome Stepped
+  one = stepOf s frame room
+
+  pub order-follows :
+      isReported (one .result .answer) ≡ true →
+      inOrder s (frame ∷ frames) room ≡ ahead 1 (one .room) (inOrder (one .result .state) frames (drop reportBytes (one .room)))
+  unfolding inOrder
+  order-follows e = rw e
+
+  pub order-stops : isReported (one .result .answer) ≡ false → inOrder s (frame ∷ frames) room ≡ stopped s (one .result .answer) room
+  unfolding inOrder
+  order-stops e =
+      let left = refused-left s (record { input = frame; room = room }) e in
+      rw e (ap (λ (o : Outcome Stepped). stopped (o .result .state) (o .result .answer) (o .room)) left)
 
 -- two stretches are one
 pub ahead-both :
@@ -136,8 +153,7 @@ module _ {s₀ : State} {input room₀ : List ℕ} {s : State} {room : List ℕ}
 
     -- with a report the pass goes on
     goes-on : isReported (worked .answer) ≡ true → inOrder s (framesIn left) spare ≡ ahead 1 later (inOrder (worked .state) (framesIn (drop (worked .bytes) left)) (drop reportBytes later))
-    unfolding inOrder
-    goes-on e = rw (frames, ← steps, e)
+    goes-on e = rw (frames, order-follows s (frontOf left) (framesIn (drop (worked .bytes) left)) spare (rw answers e), ← steps)
 
     pub underway-frame :
         isReported (worked .answer) ≡ true →
@@ -158,12 +174,11 @@ module _ {s₀ : State} {input room₀ : List ℕ} {s : State} {room : List ℕ}
         })
 
     -- with none it stops before the frame
-    stops : isReported (worked .answer) ≡ false → inOrder s (framesIn left) spare ≡ outcome (record { state = s; reported = 0; answer = worked .answer }) later
-    unfolding inOrder
+    stops : isReported (worked .answer) ≡ false → inOrder s (framesIn left) spare ≡ stopped s (worked .answer) later
     stops e =
-        let same : worked .state ≡ s =
-        ap (λ (o : Outcome Stepped). o .result .state) (steps ∙ refused-left s (record { input = frontOf left; room = spare }) (rw answers e)) in
-        rw (frames, ← steps, e, same)
+        let refusal = refused-left s (record { input = frontOf left; room = spare }) (rw answers e) in
+        let same : later ≡ spare = ap (λ (o : Outcome Stepped). o .room) (steps ∙ refusal) in
+        rw (frames, order-stops s (frontOf left) (framesIn (drop (worked .bytes) left)) spare (rw answers e), answers, same)
 
     pub underway-stop :
         isReported (worked .answer) ≡ false →

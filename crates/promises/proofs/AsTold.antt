@@ -91,7 +91,7 @@ fresh-dark i low cs = after-dark i cs freshState (λ h. fresh-off i low)
 
 asked-for : OnAfter doneTick
 asked-for i low cs c d t =
-    rw (← fresh-said i low (cs ++ c ∷ []), after-append cs c freshState) (called-asked i (after freshState cs) c (fresh-dark i low cs) d t)
+    rw (← fresh-said i low (cs ++ c ∷ []), after-append cs (c ∷ []) freshState) (called-asked i (after freshState cs) c (fresh-dark i low cs) d t)
 
 pub as-told : AsTold
 as-told = record { requested = fresh-said; askedFor = asked-for }

@@ -123,7 +123,7 @@ module _ (which : ℕ) (mission : isMission which ≡ true) where
         let quiet : says (said crossing which s c word) ≡ false = no-on s c word q (rw e (late-on before rest c f)) in
         let holds : Held which next (said crossing which s c word) = called-held which low s n word held c in
         let (requested, power) =
-        still (before ++ (c ∷ [])) rest next (ap (λ (t : State). called t c .result .state) e ∙ sym (after-append before c first))
+        still (before ++ (c ∷ [])) rest next (ap (λ (t : State). called t c .result .state) e ∙ sym (after-append before (c ∷ []) first))
         (f ∙ sym (append-assoc before (c ∷ []) rest)) (called-eight s c n) (after-dark which (c ∷ []) s dark) (said crossing which s c word) holds quiet
         (d + (if doneTick s c then 1 else 0)) (off-by s c dark (holds .requested ∙ quiet) (doneTick s c) refl d p) in
         (requested, λ h. power (omega arith))

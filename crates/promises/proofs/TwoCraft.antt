@@ -116,11 +116,6 @@ take-paired p zero = start
 take-paired start (suc n) = start
 take-paired (next good p) (suc n) = next good (take-paired p n)
 
-take-roomy : (n : ℕ) (cs : List Call) → Roomy cs → Roomy (take n cs)
-take-roomy zero cs r = tt
-take-roomy (suc n) [] r = tt
-take-roomy (suc n) (c ∷ cs) r = (r .0, take-roomy n cs (r .1))
-
 pub two-craft : TwoCraft
 two-craft cs ds r r′ p n =
     let q : Paired inReach (take n cs) (take n ds) = take-paired p n in

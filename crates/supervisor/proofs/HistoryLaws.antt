@@ -1,11 +1,11 @@
 -- What a call comes to: it is refused and moves nothing, or it is a done tick, or it works another frame; and what every call keeps.
 -- Assumes nothing.
-use Prim.Native.Nat.{ℕ}
+use Prim.Native.Nat.{ℕ, zero, suc}
 use native.Mathlib.Omega.{arith}
 use mathlib.Core.Path.{_≡_, refl}
 use mathlib.Core.Bool.{Bool, true, false, _&&_}
 use mathlib.Core.List.{List, [], _∷_, _++_}
-use lib.ListN.{length}
+use lib.ListN.{length, take}
 use lib.Dec.{T, eqb, leb}
 use borrow.Author.Tests.{ne-eqb, le-leb}
 use Rattle.basics.specs.Choice.{within}
@@ -25,7 +25,7 @@ use Rattle.supervisor.specs.Range.{inRange}
 use Rattle.supervisor.specs.Tick.{ticked}
 use Rattle.supervisor.specs.Act.{actOf}
 use Rattle.supervisor.specs.Step.{stepOf, stepRead, refused, reported}
-use Rattle.supervisor.specs.History.{Call, aboutOf, called, after, HasRoom, doneTick}
+use Rattle.supervisor.specs.History.{Call, aboutOf, called, after, HasRoom, Roomy, doneTick}
 use Rattle.supervisor.specs.declared.state.State.{State}
 use Rattle.supervisor.specs.declared.acted.Acted.{Acted}
 use Rattle.supervisor.proofs.ModuleLaws.{Eight, asked-eight}
@@ -102,10 +102,20 @@ pub called-read : (s : State) (c : Call) → T (inRange s) → HasRoom c → cal
 unfolding stepOf
 called-read s c h r = rw (is-true (inRange s) h, le-leb reportBytes (length (c .room)) r)
 
--- one call more
-pub after-append : (cs : List Call) (c : Call) (s : State) → after s (cs ++ c ∷ []) ≡ called (after s cs) c .result .state
-after-append [] c s = refl
-after-append (d ∷ cs) c s = after-append cs c (called s d .result .state)
+-- two histories in a row
+pub after-append : (cs ds : List Call) (s : State) → after s (cs ++ ds) ≡ after (after s cs) ds
+after-append [] ds s = refl
+after-append (c ∷ cs) ds s = after-append cs ds (called s c .result .state)
+
+pub roomy-append : (cs ds : List Call) → Roomy cs → Roomy ds → Roomy (cs ++ ds)
+roomy-append [] ds r r′ = r′
+roomy-append (c ∷ cs) ds r r′ = (r .0, roomy-append cs ds (r .1) r′)
+
+-- the first calls of one
+pub take-roomy : (n : ℕ) (cs : List Call) → Roomy cs → Roomy (take n cs)
+take-roomy zero cs r = tt
+take-roomy (suc n) [] r = tt
+take-roomy (suc n) (c ∷ cs) r = (r .0, take-roomy n cs (r .1))
 
 -- a property of states that every done tick and every other frame keeps is kept by every call, and so by every history
 module _

@@ -1,11 +1,11 @@
 -- Laws of a step by whether it gets a report: with one it is worked and the report fills 11 bytes; with none it moves nothing.
 -- Assumes nothing.
-use Prim.Native.Nat.{ℕ, _-_, _≤_}
+use Prim.Native.Nat.{ℕ, _-_, _<_, _≤_}
 use mathlib.Core.Path.{_≡_, refl, sym, ap, _∙_}
 use mathlib.Core.Bool.{Bool, true, false, not, true≢false, false≢true}
 use mathlib.Core.List.{List, _++_}
 use native.Mathlib.Omega.{arith}
-use borrow.Author.Tests.{le-leb, leb-true}
+use borrow.Author.Tests.{le-leb, lt-leb, leb-true}
 use lib.Dec.{T, leb}
 use lib.ListN.{length, take, drop, length-append, length-drop}
 use Rattle.basics.specs.Choice.{within}
@@ -15,7 +15,7 @@ use Rattle.frames.specs.Answer.{answerNumber, isReported}
 use Rattle.frames.specs.Kind.{reportBytes}
 use Rattle.frames.specs.Reading.{readFrame}
 use Rattle.frames.specs.declared.answer.Answer.{Answer}
-use Rattle.frames.specs.declared.answer.Answer.the-variants.{BadState}
+use Rattle.frames.specs.declared.answer.Answer.the-variants.{BadState, ShortRoom}
 use Rattle.frames.specs.declared.frame.Frame.{Frame}
 use Rattle.frames.specs.declared.reading.Reading.{Reading}
 use Rattle.frames.specs.declared.reading.Reading.the-variants.{Refused, Accepted}
@@ -105,3 +105,8 @@ module _ (s : State) (room room′ : List ℕ) where
       rw (le-leb reportBytes (length room) h, le-leb reportBytes (length room′) h′)
       (same-test Alike (inRange s) (inRange s) refl (read-alike (readFrame frame) (read-sound frame))
       (record { result = refl; report = λ e. absurd (false≢true e) }))
+
+-- with no room for a report, a state in range is refused with 2
+pub step-short : (s : State) (frame room : List ℕ) → T (inRange s) → length room < reportBytes → stepOf s frame room ≡ refused ShortRoom s room
+unfolding stepOf
+step-short s frame room v h = rw (is-true (inRange s) v, lt-leb reportBytes (length room) h)
