@@ -1,18 +1,20 @@
 -- Laws of cutting: the front lies within the bytes, and what follows a whole frame doesn't change it.
 -- Assumes nothing.
-use Prim.Native.Nat.{ℕ, _<_, _≤_}
-use mathlib.Core.Path.{_≡_, refl}
-use mathlib.Core.List.{List, _∷_}
+use Prim.Native.Nat.{ℕ, zero, suc, _<_, _≤_}
+use mathlib.Core.Path.{_≡_, refl, sym, _∙_}
+use mathlib.Core.List.{List, [], _∷_, _++_}
 use native.Mathlib.Nat.{le-refl}
 use native.Mathlib.Omega.{arith}
-use borrow.Author.Tests.{ltb-false, eqb-false}
+use borrow.Author.Tests.{ltb-false, eqb-true, eqb-false, ne-eqb, le-ltb}
 use lib.Dec.{eqb, ltb}
-use lib.ListN.{length}
-use lib.Seq.{length-take-le}
+use lib.ListN.{length, take, length-append}
+use lib.Seq.{length-take-le, take-append-le}
 use Rattle.basics.proofs.ChoiceLaws.{decided}
 use Rattle.frames.specs.Kind.{totalOf}
-use Rattle.frames.specs.Reading.{byteAt}
+use Rattle.frames.specs.Reading.{byteAt, readFrame}
 use Rattle.frames.specs.Cut.{cutOf, frontBytes, frontOf}
+use Rattle.frames.specs.declared.reading.Reading.{Reading}
+use Rattle.frames.specs.declared.reading.Reading.the-variants.{Refused, Accepted}
 use Rattle.frames.specs.declared.cut.Front.{Front}
 use Rattle.frames.specs.declared.cut.Front.the-variants.{Frame, Short, Unknown, Empty}
 
@@ -56,3 +58,45 @@ length-front bytes = length-take-le (frontBytes (cutOf bytes) (length bytes)) by
 
 pub front-some : (bytes : List ℕ) → 0 < length bytes → 0 < length (frontOf bytes)
 front-some bytes h = rw (length-front bytes) (some (cutOf bytes) (length bytes) (cut-within bytes) h)
+
+-- bytes that are read are a whole frame
+abbrev pub IsRead : Reading → Type 0
+IsRead (Refused answer) = ⊥
+IsRead (Accepted f) = Unit {0}
+
+record Whole (bytes : List ℕ) : Type 0 where
+  known : 0 < totalOf (byteAt 0 bytes)
+  all : length bytes ≡ totalOf (byteAt 0 bytes)
+
+read-whole : (bytes : List ℕ) → IsRead (readFrame bytes) → Whole bytes
+unfolding readFrame
+read-whole bytes =
+    let total = totalOf (byteAt 0 bytes) in
+    decided (λ (r : Reading). IsRead r → Whole bytes) (eqb (length bytes) 0) (λ t r. absurd r) λ some.
+    decided (λ (r : Reading). IsRead r → Whole bytes) (eqb total 0) (λ t r. absurd r) λ known.
+    decided (λ (r : Reading). IsRead r → Whole bytes) (eqb (length bytes) total)
+    (λ same r. record { known = omega (arith, eqb-false total 0 known); all = eqb-true (length bytes) total same }) (λ t r. absurd r)
+
+-- a whole frame at the front
+whole-front : (kind : ℕ) (fields : List ℕ) → 0 < totalOf kind → totalOf kind ≤ length (kind ∷ fields) → frontOf (kind ∷ fields) ≡ take (totalOf kind) (kind ∷ fields)
+unfolding frontOf cutOf
+whole-front kind fields known fits =
+    simp (ne-eqb (length (kind ∷ fields)) 0 (omega arith), ne-eqb (totalOf kind) 0 (omega arith), le-ltb (length (kind ∷ fields)) (totalOf kind) fits)
+
+-- its kind
+kind-front : (n kind : ℕ) (fields : List ℕ) → 0 < n → byteAt 0 (take n (kind ∷ fields)) ≡ kind
+kind-front zero kind fields h = absurd (omega arith)
+kind-front (suc n) kind fields h = refl
+
+-- what follows a frame that is read doesn't change it
+pub front-append : (bytes more : List ℕ) → IsRead (readFrame (frontOf bytes)) → frontOf (bytes ++ more) ≡ frontOf bytes
+unfolding frontOf
+front-append [] more r = absurd (omega (arith, read-whole (frontOf []) r .known, read-whole (frontOf []) r .all, length-front [], front-within []))
+front-append (kind ∷ fields) more r =
+    let bytes = kind ∷ fields in
+    let w = read-whole (frontOf bytes) r in
+    let same : byteAt 0 (frontOf bytes) ≡ kind = kind-front (frontBytes (cutOf bytes) (length bytes)) kind fields (rw (length-front bytes) at (front-some bytes (omega arith))) in
+    let known : 0 < totalOf kind = rw same at (w .known) in
+    let total : length (frontOf bytes) ≡ totalOf kind = rw same at (w .all) in
+    let fits : totalOf kind ≤ length bytes = omega (arith, total, length-front bytes, front-within bytes) in
+    whole-front kind (fields ++ more) known (rw length-append (omega arith)) ∙ take-append-le (totalOf kind) bytes more fits ∙ sym (whole-front kind fields known fits)

@@ -1,3 +1,7 @@
 pub mod FramesLaws
 pub mod PassLaws
 pub mod Single
+pub mod Flight
+pub mod Cutting
+pub mod Edge
+pub mod Outcomes

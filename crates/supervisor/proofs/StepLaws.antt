@@ -21,6 +21,7 @@ use Rattle.frames.specs.declared.reading.Reading.{Reading}
 use Rattle.frames.specs.declared.reading.Reading.the-variants.{Refused, Accepted}
 use Rattle.frames.proofs.AnswerLaws.{reported-number, refusal}
 use Rattle.frames.proofs.ReadingLaws.{Sound, read-sound}
+use Rattle.frames.proofs.CutLaws.{IsRead}
 use Rattle.supervisor.specs.Range.{inRange}
 use Rattle.supervisor.specs.Act.{actOf}
 use Rattle.supervisor.specs.Report.{reportOf}
@@ -110,3 +111,16 @@ module _ (s : State) (room room′ : List ℕ) where
 pub step-short : (s : State) (frame room : List ℕ) → T (inRange s) → length room < reportBytes → stepOf s frame room ≡ refused ShortRoom s room
 unfolding stepOf
 step-short s frame room v h = rw (is-true (inRange s) v, lt-leb reportBytes (length room) h)
+
+-- a frame that gets a report was read
+reading-read : (r : Reading) → Sound r → (s : State) (room : List ℕ) → isReported (stepRead r s room .result .answer) ≡ true → IsRead r
+reading-read (Refused answer) w s room e = absurd (true≢false (sym e ∙ refusal answer (wider (answerNumber answer) w)))
+reading-read (Accepted f) w s room e = tt
+
+pub reported-read : (s : State) (frame room : List ℕ) → isReported (stepOf s frame room .result .answer) ≡ true → IsRead (readFrame frame)
+unfolding stepOf
+reported-read s frame room =
+    either (λ (o : Outcome Stepped). isReported (o .result .answer) ≡ true → IsRead (readFrame frame)) (inRange s)
+    (either (λ (o : Outcome Stepped). isReported (o .result .answer) ≡ true → IsRead (readFrame frame)) (leb reportBytes (length room))
+    (reading-read (readFrame frame) (read-sound frame) s room) (λ e. absurd (false≢true e)))
+    (λ e. absurd (false≢true e))
