@@ -48,7 +48,12 @@ pub extern "C" fn ems_step(image: &mut [u8], frame: &[u8], room: &mut [u8]) -> u
 // Takes a whole pass, frames end to end: the image becomes the state's after the last that has a report, the room holds
 // the reports end to end, and it is told how many there are. It answers why the pass stopped.
 #[no_mangle]
-pub extern "C" fn ems_pass(image: &mut [u8], frames: &[u8], room: &mut [u8], reported: &mut usize) -> u8
+pub extern "C" fn ems_pass(
+    image: &mut [u8],
+    frames: &[u8],
+    room: &mut [u8],
+    reported: &mut usize,
+) -> u8
     ensures { λ r. ⌜ outcome (imaged (reply r (now (reported .exit))) (now (image .exit))) (now (room .exit))
         ≡ passImage (now (image .entry)) (now (frames .entry)) (now (room .entry)) ⌝ }
 {

@@ -47,7 +47,7 @@ order-append :
     (frames more : List (List ℕ)) (s : State) (room : List ℕ) → inOrder s frames room .result .answer ≡ Done →
     inOrder s (frames ++ more) room
     ≡ ahead (inOrder s frames room .result .reported) (inOrder s frames room .room)
-      (inOrder (inOrder s frames room .result .state) more (drop (inOrder s frames room .result .reported * reportBytes) (inOrder s frames room .room)))
+    (inOrder (inOrder s frames room .result .state) more (drop (inOrder s frames room .result .reported * reportBytes) (inOrder s frames room .room)))
 unfolding inOrder
 order-append [] more s room done = rw zero-add
 order-append (frame ∷ frames) more s room done =
@@ -65,8 +65,8 @@ order-append (frame ∷ frames) more s room done =
     order-follows s frame (frames ++ more) room e
     ∙ ap (ahead 1 (one .room)) (order-append frames more (one .result .state) spare (rw whole at done))
     ∙ rw (whole, past)
-      (ahead-both 1 (rest .result .reported) (one .room) (rest .room)
-      (inOrder (rest .result .state) more (drop (rest .result .reported * reportBytes) (rest .room))) (omega arith))
+    (ahead-both 1 (rest .result .reported) (one .room) (rest .room)
+    (inOrder (rest .result .state) more (drop (rest .result .reported * reportBytes) (rest .room))) (omega arith))
 
 -- the frames of bytes that are all done, then those of others: the first frame, if that is so of what follows it
 next-frames :

@@ -174,13 +174,14 @@ module _ {s₀ : State} {input room₀ : List ℕ} {s : State} {room : List ℕ}
         })
 
     -- with none it stops before the frame
-    stops : isReported (worked .answer) ≡ false → inOrder s (framesIn left) spare ≡ stopped s (worked .answer) later
+    stops : isReported (worked .answer) ≡ false → inOrder s (framesIn left) spare ≡ stopped (worked .state) (worked .answer) later
     stops e =
-        let refusal = refused-left s (record { input = frontOf left; room = spare }) (rw answers e) in
-        let same : later ≡ spare = ap (λ (o : Outcome Stepped). o .room) (steps ∙ refusal) in
-        rw (frames, order-stops s (frontOf left) (framesIn (drop (worked .bytes) left)) spare (rw answers e), answers, same)
+        let refusal = steps ∙ refused-left s (record { input = frontOf left; room = spare }) (rw answers e) in
+        let same : later ≡ spare = ap (λ (o : Outcome Stepped). o .room) refusal in
+        let still : worked .state ≡ s = ap (λ (o : Outcome Stepped). o .result .state) refusal in
+        rw (frames, order-stops s (frontOf left) (framesIn (drop (worked .bytes) left)) spare (rw answers e), answers, same, still)
 
     pub underway-stop :
         isReported (worked .answer) ≡ false →
-        outcome (record { state = s; reported = reports; answer = worked .answer }) (lentBack room (reports * reportBytes) later) ≡ passOf s₀ input room₀
+        outcome (record { state = worked .state; reported = reports; answer = worked .answer }) (lentBack room (reports * reportBytes) later) ≡ passOf s₀ input room₀
     underway-stop e = rw back (simp (stops e, add-zero) at (u .rest))

@@ -15,11 +15,11 @@ pub struct Passed {
     pub answer: Answer,
 }
 
-// One frame of a pass: its answer, the state after it, and how many bytes it has.
+// One frame of a pass: its answer, how many bytes it has, and the state after it.
 struct Worked {
     answer: Answer,
-    state: State,
     bytes: usize,
+    state: State,
 }
 
 // Works the frame at the front of what is left of the input, with what is left of the room. One that is cut off, like
@@ -34,8 +34,8 @@ fn work(state: State, rest: &[u8], room: &mut [u8]) -> Worked
     let next = stepped.state;
     Worked {
         answer,
-        state: next,
         bytes,
+        state: next,
     }
 }
 
@@ -56,6 +56,8 @@ pub fn pass(mut state: State, input: &[u8], room: &mut [u8]) -> Passed
     while at < input.len() {
         let worked = work(state, &input[at..], &mut room[reported * REPORT_BYTES..]);
         let answer = worked.answer;
+        let next = worked.state;
+        state = next;
         if !answer.is_reported() {
             return Passed {
                 state,
@@ -63,8 +65,6 @@ pub fn pass(mut state: State, input: &[u8], room: &mut [u8]) -> Passed
                 answer,
             };
         }
-        let next = worked.state;
-        state = next;
         at += worked.bytes;
         reported += 1;
     }

@@ -33,17 +33,20 @@ pub fn step(state: State, input: &[u8], room: &mut [u8]) -> Stepped
             state,
         };
     }
-    match read(input) {
-        Reading::Refused(answer) => Stepped { answer, state },
+    let reading = read(input);
+    match reading {
+        Reading::Refused(answer) => {
+            return Stepped { answer, state };
+        }
         Reading::Accepted(frame) => {
             let acted = act(state, frame);
             write(room, frame, acted);
-            let next = acted.state;
             let answer = acted.answer;
-            Stepped {
+            let next = acted.state;
+            return Stepped {
                 answer,
                 state: next,
-            }
+            };
         }
     }
 }

@@ -18,12 +18,12 @@ Inv-loop state₀ input room₀ at₀ reported₀ state room at reported = Under
 abbrev μ-loop : tie.MeasureT-loop
 μ-loop state₀ input room₀ at₀ reported₀ state room at reported = length input - at
 
--- where the frame of a turn was worked, and the pass as it stood
+-- where the frame of a turn was worked, and that it got a report
 abbrev worked : tie.After-struct-known Inv-loop μ-loop → tie.After-work Inv-loop μ-loop
 worked c = c .before .before .before .before .before .before
 
 reports : (c : tie.After-struct-known Inv-loop μ-loop) → isReported (worked c .work .result .answer) ≡ true
-reports c = sym (c .before .before .before .is-reported .ensures) ∙ not-false _ (c .before .before .if2 .left)
+reports c = sym (c .before .before .is-reported .ensures) ∙ not-false _ (c .before .if2 .left)
 
 in-range-requires : tie.Need-in-range-requires Inv-loop μ-loop
 in-range-requires c κs = search needs
@@ -67,7 +67,7 @@ same-length c = search needs
 
 returns-2 : tie.Need-returns-2 Inv-loop μ-loop
 returns-2 c =
-    let stop = c .before .before .before .before in
+    let stop = c .before .before .before .before .before in
     let turn = stop .before .before .before in
     underway-stop (turn .before .loop .inv) (turn .loop-test .taken) _ _ (stop .work .ensures) (sym (c .before .is-reported .ensures) ∙ not-true _ (c .if2 .taken))
 

@@ -27,11 +27,11 @@ returns-2 c = simp (valid (c .before), lt-leb _ _ (c .if2 .taken))
 read-requires : tie.Need-read-requires
 read-requires c κs = search needs
 
-enum-known-answer : tie.Need-enum-known-answer
-enum-known-answer c = search needs
+enum-known-reading : tie.Need-enum-known-reading
+enum-known-reading c = search needs
 
-enum-known-frame : tie.Need-enum-known-frame
-enum-known-frame c = search needs
+enum-known-reading-2 : tie.Need-enum-known-reading-2
+enum-known-reading-2 c = search needs
 
 act-requires : tie.Need-act-requires
 act-requires c κs = valid (c .before .before .before .before .before)
@@ -42,7 +42,7 @@ write-requires c κs = search needs
 returns-3 : tie.Need-returns-3
 unfolding stepOf
 returns-3 c =
-    simp (valid (c .before .before .before .before .before), le-leb _ _ (c .before .before .before .before .if2 .left), rw (c .before .before .before .read .ensures) at (c .before .answer .given .1))
+    simp (valid (c .before .before .before .before .before), le-leb _ _ (c .before .before .before .before .if2 .left), rw (c .before .before .before .read .ensures) at (c .before .reading .given .1))
 
 same-length : tie.Need-same-length
 same-length c = search needs
@@ -54,7 +54,7 @@ returns-4 c =
     simp (
       valid (heard .before .before),
       le-leb _ _ (heard .before .if2 .left),
-      rw (heard .read .ensures) at (c .before .before .before .before .before .before .before .frame .given .1),
+      rw (heard .read .ensures) at (c .before .before .before .before .before .before .before .reading2 .given .1),
       c .before .before .before .write .ensures,
       c .before .before .before .before .before .act .ensures,
     )
@@ -67,10 +67,10 @@ step-spec =
     returns
     returns-2
     read-requires
-    enum-known-answer
-    enum-known-frame
+    enum-known-reading
+    returns-3
+    enum-known-reading-2
     act-requires
     write-requires
-    returns-3
     same-length
     returns-4)
