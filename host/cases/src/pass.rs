@@ -21,9 +21,12 @@ pub struct Calls {
     pub fresh: fn(&mut [u8]) -> u8,
     /// `ems_step`
     pub step: fn(&mut [u8], &[u8], &mut [u8]) -> u8,
-    /// `ems_pass`: the answer, and how many frames got a report.
-    pub pass: fn(&mut [u8], &[u8], &mut [u8]) -> (u8, usize),
+    /// `ems_pass`
+    pub pass: Pass,
 }
+
+/// The answer of a pass, and how many frames got a report.
+pub type Pass = fn(&mut [u8], &[u8], &mut [u8]) -> (u8, usize);
 
 /// The bytes of a report.
 const REPORT: usize = 11;

@@ -113,6 +113,33 @@ fn a_pass_is_its_single_calls_in_order() {
     assert_eq!(by_pass, by_step);
 }
 
+/// Its length has no limit but the room's.
+#[test]
+fn a_long_pass_is_its_single_calls_in_order() {
+    let frames = REPORTED.repeat(1_000);
+    let bytes = frames.concat();
+    let (mut by_pass, mut by_step) = (Craft::fresh(), Craft::fresh());
+    let passed = by_pass.reports_on(&bytes, Passed::room_for(&bytes));
+    let reports = one_by_one(&mut by_step, &frames);
+    let answer = answer::DONE;
+    assert_eq!(passed, Passed { reports, answer });
+    assert_eq!(by_pass, by_step);
+}
+
+/// The shortest frames, and what is left of one.
+#[test]
+fn room_for_a_pass_is_enough() {
+    for length in 0..=20 {
+        let bytes = [0x01, 0].repeat(10)[..length].to_vec();
+        let passed = Craft::fresh().reports_on(&bytes, Passed::room_for(&bytes));
+        let answer = match length % 2 {
+            0 => answer::DONE,
+            _ => answer::BAD_LENGTH,
+        };
+        assert_eq!((passed.reports.len(), passed.answer), (length / 2, answer));
+    }
+}
+
 #[test]
 fn a_pass_stops_before_what_is_refused() {
     for (refused, answer) in [
