@@ -8,7 +8,8 @@
  *   - every pointer is non-null, also where its length is 0;
  *   - every length is true: that many bytes may be read there (and written,
  *     where the pointer isn't const);
- *   - no two buffers of one call overlap, and `count` lies outside of all;
+ *   - no two buffers of one call overlap, and `count` or `reported` lies outside
+ *     of all;
  *   - one caller at a time for any one buffer.
  *
  * What no call catches: an image whose write was interrupted halfway and that
@@ -22,8 +23,9 @@
 #include <stddef.h>
 #include <stdint.h>
 
-/* A length crosses as 64 bits, and `*count` comes back as 64. With a narrower
- * size_t the call would read bits that nobody passed, and write past `*count`. */
+/* A length crosses as 64 bits, and `*count` and `*reported` come back as 64. With
+ * a narrower size_t the call would read bits that nobody passed, and write past
+ * what they point to. */
 #if defined(__cplusplus) && __cplusplus >= 201103L
 static_assert(sizeof(size_t) == 8, "ems.h: lengths cross as 64 bits");
 #elif defined(__STDC_VERSION__) && __STDC_VERSION__ >= 201112L
@@ -132,6 +134,23 @@ uint8_t ems_fresh(uint8_t *image, size_t image_len);
 uint8_t ems_step(uint8_t *image, size_t image_len,
                  const uint8_t *frame, size_t frame_len,
                  uint8_t *room, size_t room_len);
+
+/* Takes a whole pass: frames end to end, each as ems_step takes it, one after the
+ * other. It stops before the first frame that gets no report, and answers why:
+ *   EMS_BAD_STATE   the image, before all else, also where there are no bytes
+ *   EMS_DONE        no bytes are left: every frame got its report
+ *   EMS_SHORT_ROOM  fewer than EMS_REPORT_BYTES of room are left for the next
+ *                   report, whatever the next frame is
+ *   4 to 7          what ems_step refuses the next frame with; one that is cut
+ *                   off at the end of the bytes with EMS_BAD_LENGTH
+ * EMS_NO_INPUT is never given; EMS_REPEAT, EMS_STALE and EMS_NOT_NOW stand in
+ * reports and stop nothing. How many frames got a report goes to `*reported`,
+ * which is always written. Their reports stand end to end from the start of the
+ * room and the bytes past them stay; the image is the state's after the last of
+ * them, and stays where there is none. */
+uint8_t ems_pass(uint8_t *image, size_t image_len,
+                 const uint8_t *frames, size_t frames_len,
+                 uint8_t *room, size_t room_len, size_t *reported);
 
 /* Write the beacon's text of a state, and its length to `*count`. Answers:
  * EMS_BAD_STATE, then EMS_NO_ROOM, both with `*count` 0 and the text untouched;

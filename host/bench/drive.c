@@ -2,8 +2,9 @@
  * nanoseconds that they took and a sum by which the sides are compared. Built
  * twice: over the library, and with -DPEER over the C version in peer/.
  *
- * A stream: what is called ('s' step, 'k' key, 'r' read), an image, the number
- * of inputs (2 bytes, big-endian), and for each its length (2) and its bytes. */
+ * A stream: what is called ('s' step, 'p' pass, 'o' step for one frame of a pass
+ * after the other, 'k' key, 'r' read), an image, the number of inputs (2 bytes,
+ * big-endian), and for each its length (2) and its bytes. */
 #define _POSIX_C_SOURCE 199309L
 #include <stdio.h>
 #include <stdlib.h>
@@ -59,18 +60,52 @@ static void put_back(const uint8_t *image)
     }
 }
 
-static uint8_t step(const uint8_t *frame, size_t length)
+static uint8_t step(const uint8_t *frame, size_t length, uint8_t *report, size_t left)
 {
-    return peer_step(&state, frame, length, room, 11);
+    return peer_step(&state, frame, length, report, left);
 }
 #else
 static uint8_t state[EMS_IMAGE_BYTES];
 
 static void put_back(const uint8_t *image) { memcpy(state, image, sizeof state); }
 
-static uint8_t step(const uint8_t *frame, size_t length)
+static uint8_t step(const uint8_t *frame, size_t length, uint8_t *report, size_t left)
 {
-    return ems_step(state, sizeof state, frame, length, room, 11);
+    return ems_step(state, sizeof state, frame, length, report, left);
+}
+#endif
+
+/* A pass by single calls: the frames are cut by kind, the reports stand end to end.
+ * One that is cut off, or of unknown kind, is handed over as it is. */
+static uint8_t one_by_one(const uint8_t *frames, size_t length, size_t *written)
+{
+    static const uint8_t totals[7] = { 0, 2, 3, 2, 6, 8, 7 };
+    size_t used = 0;
+    uint8_t answer = 0;
+    while (length > 0) {
+        size_t total = frames[0] < sizeof totals ? totals[frames[0]] : 0;
+        if (total == 0 || total > length) total = length;
+        answer = step(frames, total, room + used, sizeof room - used);
+        if (0 < answer && answer < 8) break;
+        answer = 0;
+        frames += total;
+        length -= total;
+        used += 11;
+    }
+    *written = used;
+    return answer;
+}
+
+#ifdef PEER
+/* The C version has no call for it: its calls in place are a pass. */
+#define pass one_by_one
+#else
+static uint8_t pass(const uint8_t *frames, size_t length, size_t *written)
+{
+    size_t reported;
+    uint8_t answer = ems_pass(state, sizeof state, frames, length, room, sizeof room, &reported);
+    *written = 11 * reported;
+    return answer;
 }
 #endif
 
@@ -97,7 +132,9 @@ int main(int argc, char **argv)
         size_t length = inputs[next].length;
         if (++next == count) next = 0;
         switch (file[0]) {
-        case 's': sum += step(bytes, length); break;
+        case 's': sum += step(bytes, length, room, 11); break;
+        case 'p': sum += pass(bytes, length, &written); break;
+        case 'o': sum += one_by_one(bytes, length, &written); break;
         case 'k': sum += KEY(bytes, length, room, sizeof room, &written); break;
         default: sum += READ(bytes, length, room, sizeof room, &written);
         }

@@ -1,14 +1,15 @@
 //! What is measured: an image to start from, and inputs that go round.
 
 use model::state::{Mode, Module, Power, END_SECONDS};
-use model::table::{BATTERY, FROM_GROUND, ORDER, PAYLOAD, TICK, TIMED};
-use model::{image, report, State};
+use model::table::{BATTERY, FROM_GROUND, MISSION, ORDER, PAYLOAD, THRESHOLDS, TICK, TIMED};
+use model::{calls, frame, image, report, State};
 
 /// A row of the table.
 pub struct Stream {
     /// What it says there.
     pub name: &'static str,
-    /// What is called: `s` step, `k` key, `r` read.
+    /// What is called: `s` step, `p` pass, `o` step for one frame of a pass after
+    /// the other, `k` key, `r` read.
     pub call: u8,
     /// The image to start from.
     pub image: [u8; image::BYTES],
@@ -63,6 +64,43 @@ fn ending(mode: Mode) -> State {
     }
 }
 
+/// How many passes go round.
+const PASSES: u16 = 10;
+
+/// A pass as the main computer collects it in 90 seconds of SAFE: their ticks, two
+/// readings, and of the ground six orders, a timed one and thresholds. Serials are
+/// 800 apart: each is fresh, also where the passes go round.
+fn pass(i: u16) -> Vec<u8> {
+    let [adcs, payload, sband1, sband2] = MISSION;
+    let mut orders = [
+        vec![ORDER, adcs, 1],
+        vec![ORDER, payload, 1],
+        vec![TIMED, sband2, 0, 20],
+        vec![THRESHOLDS, 0x1D, 0x4C, 0x1B, 0x58],
+        vec![ORDER, sband1, 1],
+        vec![ORDER, sband1, 0],
+        vec![ORDER, payload, 0],
+        vec![ORDER, adcs, 0],
+    ]
+    .into_iter()
+    .zip(8 * i + 1..);
+    let mut frames = Vec::new();
+    for second in 0..90 {
+        if second % 45 == 0 {
+            frames.extend([BATTERY, 0x1F, 0x40]);
+        }
+        if second % 11 == 5 {
+            if let Some((order, number)) = orders.next() {
+                let [high, low] = (800 * number).to_be_bytes();
+                frames.extend([order[0], FROM_GROUND, high, low]);
+                frames.extend(&order[1..]);
+            }
+        }
+        frames.extend([TICK, 0x00]);
+    }
+    frames
+}
+
 /// All rows.
 pub fn streams() -> Vec<Stream> {
     let step = |name, board: State, inputs| {
@@ -85,6 +123,13 @@ pub fn streams() -> Vec<Stream> {
         image: image::save(&board(Mode::Safe)),
         inputs: vec![input],
         counted: 1_000,
+    };
+    let passes = |name, call| Stream {
+        name,
+        call,
+        image: image::save(&board(Mode::Safe)),
+        inputs: (0..PASSES).map(pass).collect(),
+        counted: 100,
     };
     // 1,024 serials, 64 apart: each is fresh, also where they go round.
     let order = |i: u16| {
@@ -121,6 +166,8 @@ pub fn streams() -> Vec<Stream> {
             board(Mode::Safe),
             vec![vec![BATTERY, 0x13, 0x87]],
         ),
+        passes("pass of 100 frames", b'p'),
+        passes("the same 100 frames, one call each", b'o'),
         text("keying 64 characters", b'k', TEXT.to_vec()),
         text("reading 64 characters", b'r', units),
     ]
@@ -141,9 +188,11 @@ pub fn drive(stream: &Stream, calls: u64) -> (u128, u64) {
         }
         let input = inputs.next().map_or(&[][..], Vec::as_slice);
         let answer = match stream.call {
-            b's' => model::calls::step(&mut image, input, &mut room[..report::BYTES]),
-            b'k' => counted(model::calls::key(input, &mut room), &mut written),
-            _ => counted(model::calls::read(input, &mut room), &mut written),
+            b's' => calls::step(&mut image, input, &mut room[..report::BYTES]),
+            b'p' => reported(calls::pass(&mut image, input, &mut room), &mut written),
+            b'o' => reported(one_by_one(&mut image, input, &mut room), &mut written),
+            b'k' => counted(calls::key(input, &mut room), &mut written),
+            _ => counted(calls::read(input, &mut room), &mut written),
         };
         sum = sum.wrapping_add(answer.into());
     }
@@ -157,4 +206,58 @@ pub fn drive(stream: &Stream, calls: u64) -> (u128, u64) {
 fn counted((answer, count): (u8, usize), written: &mut usize) -> u8 {
     *written = count;
     answer
+}
+
+fn reported((answer, reports): (u8, usize), written: &mut usize) -> u8 {
+    counted((answer, report::BYTES * reports), written)
+}
+
+/// A pass by single calls: as `drive.c`.
+fn one_by_one(image: &mut [u8], mut frames: &[u8], mut room: &mut [u8]) -> (u8, usize) {
+    let mut reported = 0;
+    while !frames.is_empty() {
+        let (frame, rest) = frame::cut(frames);
+        match calls::step(image, frame, room) {
+            refusal @ 1..=7 => return (refusal, reported),
+            _ => reported += 1,
+        }
+        frames = rest;
+        room = &mut room[report::BYTES..];
+    }
+    (0, reported)
+}
+
+#[cfg(test)]
+mod tests {
+    use super::*;
+
+    /// Twice round, one pass after the other: what they say they are.
+    #[test]
+    fn each_pass_is_a_hundred_frames_that_are_done() {
+        let mut board = board(Mode::Safe);
+        for i in (0..PASSES).chain(0..PASSES) {
+            let passed = model::pass::pass(&mut board, &pass(i), 100 * report::BYTES);
+            assert_eq!((passed.answer, passed.reports.len()), (0, 100), "{i}");
+            assert!(
+                passed.reports.iter().all(|report| report.answer == 0),
+                "{i}"
+            );
+            assert_eq!(board.mode, Mode::Safe, "{i}");
+        }
+    }
+
+    /// A refusal, too, is the same by single calls as by one, and so are the room
+    /// and the image.
+    #[test]
+    fn single_calls_come_to_the_same() {
+        let refused = [0x04, 2, 0, 1, 3, 1];
+        for tail in [&[][..], &[TICK], &[0x07], &refused] {
+            let frames = [&pass(0), tail].concat();
+            let start = image::save(&board(Mode::Safe));
+            let (mut one, mut each) = ((start, [0; 2_048]), (start, [0; 2_048]));
+            let by_one = calls::pass(&mut one.0, &frames, &mut one.1);
+            let by_each = one_by_one(&mut each.0, &frames, &mut each.1);
+            assert_eq!((by_one, one), (by_each, each), "{tail:02X?}");
+        }
+    }
 }

@@ -3,10 +3,13 @@
 //! lengths that the call was given.
 
 use crate::sides::{Calls, Counted};
+use model::{frame, report};
 use std::fmt::{self, Write};
 
 /// The longest image and reply room that a step is given.
 pub const LONGEST: usize = 80;
+/// The longest reply room that a pass is given, with some bytes behind it.
+pub const REPLIES: usize = 200;
 /// The longest room that a text or units are given.
 pub const WIDEST: usize = 1_500;
 
@@ -26,6 +29,7 @@ const fn noise<const N: usize>(salt: u32) -> [u8; N] {
 static BEYOND_IMAGE: [u8; LONGEST] = noise(1);
 static ROOM: [u8; LONGEST] = noise(2);
 static WIDE_ROOM: [u8; WIDEST] = noise(3);
+static PASS_ROOM: [u8; REPLIES] = noise(4);
 
 /// What both sides leave behind, or the two outcomes where they differ.
 pub type Both<T> = Result<T, Box<[T; 2]>>;
@@ -57,12 +61,18 @@ impl Stepped {
 
 impl fmt::Display for Stepped {
     fn fmt(&self, f: &mut fmt::Formatter) -> fmt::Result {
-        let (inside, past) = self.image.split_at(self.image_len);
-        let whole = past == &BEYOND_IMAGE[self.image_len..];
-        write!(f, "answer {}, image {}", self.answer, hex(inside))?;
-        write!(f, ", past it {}", if whole { "kept" } else { "WRITTEN" })?;
+        let image = told_image(&self.image, self.image_len);
+        write!(f, "answer {}, {image}", self.answer)?;
         write!(f, ", room {}", hex(&self.room))
     }
+}
+
+/// An image of a length, and whether the bytes past it are as they were.
+fn told_image(image: &[u8; LONGEST], length: usize) -> String {
+    let (inside, past) = image.split_at(length);
+    let whole = past == &BEYOND_IMAGE[length..];
+    let past = if whole { "kept" } else { "WRITTEN" };
+    format!("image {}, past it {past}", hex(inside))
 }
 
 /// Makes a step on one side.
@@ -82,6 +92,115 @@ fn stepped(calls: &Calls, image: &[u8], frame: &[u8], room: usize) -> Stepped {
 /// Makes a step on both sides.
 pub fn step(sides: &[Calls; 2], image: &[u8], frame: &[u8], room: usize) -> Both<Stepped> {
     agree(sides.map(|calls| stepped(&calls, image, frame, room)))
+}
+
+/// What a pass leaves behind.
+#[derive(Clone, PartialEq, Eq)]
+pub struct Passed {
+    /// Why it stopped.
+    pub answer: u8,
+    /// How many frames got a report.
+    pub reported: usize,
+    image: [u8; LONGEST],
+    image_len: usize,
+    room: [u8; REPLIES],
+}
+
+impl fmt::Display for Passed {
+    fn fmt(&self, f: &mut fmt::Formatter) -> fmt::Result {
+        let image = told_image(&self.image, self.image_len);
+        write!(f, "answer {}, reported {}", self.answer, self.reported)?;
+        write!(f, ", {image}, room {}", hex(&self.room))
+    }
+}
+
+impl Passed {
+    /// Before any frame: an image, and a room that nobody has written to.
+    fn before(image: &[u8]) -> Passed {
+        let mut before = Passed {
+            answer: 0,
+            reported: 0,
+            image: BEYOND_IMAGE,
+            image_len: image.len(),
+            room: PASS_ROOM,
+        };
+        before.image[..image.len()].copy_from_slice(image);
+        before
+    }
+
+    /// Goes on from here with a pass, up to this end of the room.
+    fn pass(&mut self, calls: &Calls, frames: &[u8], room: usize) {
+        let written = report::BYTES * self.reported;
+        let image = &mut self.image[..self.image_len];
+        let (answer, reported) = (calls.pass)(image, frames, &mut self.room[written..room]);
+        self.answer = answer;
+        // A count that nobody wrote must not wrap.
+        self.reported = self.reported.saturating_add(reported);
+    }
+
+    /// Goes on from here with a single step: whether it leaves a report.
+    fn step(&mut self, calls: &Calls, frame: &[u8], room: usize) -> bool {
+        let written = report::BYTES * self.reported;
+        let image = &mut self.image[..self.image_len];
+        let answer = (calls.step)(image, frame, &mut self.room[written..room]);
+        let has_report = matches!(answer, 0 | 8..=10);
+        match has_report {
+            true => self.reported += 1,
+            false => self.answer = answer,
+        }
+        has_report
+    }
+}
+
+/// Makes a pass on one side.
+pub fn passed(calls: &Calls, image: &[u8], frames: &[u8], room: usize) -> Passed {
+    let mut after = Passed::before(image);
+    after.pass(calls, frames, room);
+    after
+}
+
+/// Makes a pass on both sides.
+pub fn pass(sides: &[Calls; 2], image: &[u8], frames: &[u8], room: usize) -> Both<Passed> {
+    agree(sides.map(|calls| passed(&calls, image, frames, room)))
+}
+
+/// The same by single steps in order, for an image in range.
+fn one_by_one(calls: &Calls, image: &[u8], mut frames: &[u8], room: usize) -> Passed {
+    let mut after = Passed::before(image);
+    while !frames.is_empty() {
+        let (frame, rest) = frame::cut(frames);
+        if !after.step(calls, frame, room) {
+            break;
+        }
+        frames = rest;
+    }
+    after
+}
+
+/// The same by two passes, the first of which has so many frames and does them all.
+fn in_two(calls: &Calls, image: &[u8], frames: &[u8], room: usize, first: usize) -> Passed {
+    let mut rest = frames;
+    for _ in 0..first {
+        rest = frame::cut(rest).1;
+    }
+    let mut after = Passed::before(image);
+    after.pass(calls, &frames[..frames.len() - rest.len()], room);
+    if (after.answer, after.reported) == (0, first) {
+        after.pass(calls, rest, room);
+    }
+    after
+}
+
+/// Makes a pass on one side, for an image in range; then the same by single steps,
+/// and in two passes, cut before and behind every frame that gets a report.
+pub fn parts(calls: &Calls, image: &[u8], frames: &[u8], room: usize) -> Both<Passed> {
+    let whole = passed(calls, image, frames, room);
+    agree([whole.clone(), one_by_one(calls, image, frames, room)])?;
+    // No more frames than the steps have found.
+    for first in 0..=whole.reported {
+        agree([whole.clone(), in_two(calls, image, frames, room, first)])?;
+    }
+    Ok(whole)
 }
 
 /// What a counted call leaves behind.

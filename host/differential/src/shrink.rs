@@ -1,13 +1,16 @@
 //! A failure made short, and told.
 
-use crate::compare::{self, hex};
+use crate::compare::{self, hex, Both, Passed};
 use crate::sides::{Calls, Counted};
-use model::{image, State};
+use model::{frame, image, report, State};
 use quickcheck::Arbitrary;
 use std::time::{Duration, Instant};
 
 /// A frame, and the length of the reply room it gets.
 pub type Shot = (Vec<u8>, u8);
+
+/// The pieces of a pass, which stand end to end, and the length of its reply room.
+pub type Pass = (Vec<Vec<u8>>, u8);
 
 const NOT_TWICE: &str = "fails no more: the same call doesn't give the same result twice";
 
@@ -78,6 +81,62 @@ pub fn tell_flight(sides: &[Calls; 2], start: &[u8], mut shots: Vec<Shot>) -> St
         Err(parting) => told + &parting.told,
         Ok(_) => told + NOT_TWICE,
     }
+}
+
+/// The failure of a pass, made short: `made` gives two outcomes, and `names` says
+/// what they are of. Frames that have nothing to do with it are flown before.
+pub fn tell_pass(
+    start: &[u8],
+    (pieces, room): Pass,
+    names: [&str; 2],
+    made: impl Fn(&[u8], &[u8], usize) -> Both<Passed>,
+) -> String {
+    let made = |start: &[u8], (pieces, room): &Pass| {
+        let room = usize::from(*room).min(compare::REPLIES);
+        made(start, &pieces.concat(), room)
+    };
+    let mut start = start.to_vec();
+    let mut case = (by_kind(&pieces.concat()), room);
+    while let Some((next, later)) = without_first(&start, &case) {
+        if made(&next, &later).is_ok() {
+            break;
+        }
+        (start, case) = (next, later);
+    }
+    let short = shrink(case, |case| made(&start, case).is_err());
+    let (pieces, room) = &short;
+    let mut told = format!("a pass from {}, room {room}\n", hex(&start));
+    for piece in pieces {
+        told += &format!("  {}\n", hex(piece));
+    }
+    match made(&start, &short) {
+        Err(outcomes) => {
+            let [one, other] = *outcomes;
+            told + &format!("{}: {one}\n{}: {other}", names[0], names[1])
+        }
+        Ok(_) => told + NOT_TWICE,
+    }
+}
+
+/// Bytes as frames, each as long as its kind says; what is left as it is.
+fn by_kind(mut bytes: &[u8]) -> Vec<Vec<u8>> {
+    let mut frames = Vec::new();
+    while !bytes.is_empty() {
+        let (frame, rest) = frame::cut(bytes);
+        frames.push(frame.to_vec());
+        bytes = rest;
+    }
+    frames
+}
+
+/// A pass without its first frame, from the image after that, in the room that is
+/// left; none where the frame gets no report.
+fn without_first(start: &[u8], (frames, room): &Pass) -> Option<(Vec<u8>, Pass)> {
+    let (first, rest) = frames.split_first()?;
+    let left = room.checked_sub(report::BYTES as u8)?;
+    let mut image = start.to_vec();
+    let answer = model::calls::step(&mut image, first, &mut [0; report::BYTES]);
+    matches!(answer, 0 | 8..=10).then(|| (image, (rest.to_vec(), left)))
 }
 
 /// The failure of a counted call, made short.

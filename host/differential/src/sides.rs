@@ -7,6 +7,8 @@ pub struct Calls {
     pub fresh: fn(&mut [u8]) -> u8,
     /// `ems_step`
     pub step: fn(&mut [u8], &[u8], &mut [u8]) -> u8,
+    /// `ems_pass`
+    pub pass: Pass,
     /// `ems_beacon_basic`
     pub beacon_basic: Counted,
     /// `ems_beacon_complete`
@@ -20,10 +22,14 @@ pub struct Calls {
 /// A call that turns bytes into bytes and says how many.
 pub type Counted = fn(&[u8], &mut [u8]) -> (u8, usize);
 
+/// A call that takes frames end to end, and says how many got a report.
+pub type Pass = fn(&mut [u8], &[u8], &mut [u8]) -> (u8, usize);
+
 /// The compiled library.
 pub const LIBRARY: Calls = Calls {
     fresh: ems::calls::fresh,
     step: ems::calls::step,
+    pass: ems::calls::pass,
     beacon_basic: ems::calls::beacon_basic,
     beacon_complete: ems::calls::beacon_complete,
     key: ems::calls::key,
@@ -34,6 +40,7 @@ pub const LIBRARY: Calls = Calls {
 pub const MODEL: Calls = Calls {
     fresh: model::calls::fresh,
     step: model::calls::step,
+    pass: model::calls::pass,
     beacon_basic: model::calls::beacon_basic,
     beacon_complete: model::calls::beacon_complete,
     key: model::calls::key,

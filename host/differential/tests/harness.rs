@@ -1,6 +1,8 @@
 //! The differential tests' own test: faults planted in one side are found, and
 //! come out short.
 
+mod wrong;
+
 use differential::frames::{Maker, Stream};
 use differential::groups::GROUPS;
 use differential::rng::Rng;
@@ -216,6 +218,76 @@ fn an_end_that_an_order_should_have_dropped_is_found() {
     };
     let told = told("ends that run out", faulty);
     assert_eq!(frames(&told), 1, "{told}");
+}
+
+/// The pieces of a told pass are frames as well.
+#[test]
+fn every_wrong_pass_is_found_and_comes_out_short() {
+    for (name, pass) in wrong::PASSES {
+        let told = told("passes", Calls { pass, ..MODEL });
+        assert!(frames(&told) <= 2, "{name}\n{told}");
+    }
+}
+
+/// What a group says of a wrong pass.
+fn told_of(group: &str, wrong: &str) -> String {
+    let mut passes = wrong::PASSES.into_iter();
+    let (_, pass) = passes
+        .find(|(name, _)| *name == wrong)
+        .expect("it is wrong");
+    told(group, Calls { pass, ..MODEL })
+}
+
+#[test]
+fn a_pass_that_stops_too_late_is_found() {
+    for name in [
+        "counts the frame that is refused",
+        "takes a tail for the end",
+    ] {
+        let told = told_of("passes stopped in every way", name);
+        assert_eq!(frames(&told), 1, "{told}");
+    }
+}
+
+#[test]
+fn a_pass_that_misjudges_its_room_is_found() {
+    for name in [
+        "wants a byte more than a report has",
+        "clears the room behind the last report",
+        "wants room for no bytes",
+    ] {
+        let told = told_of("passes in every room", name);
+        assert!(frames(&told) <= 1, "{told}");
+    }
+}
+
+#[test]
+fn a_pass_that_is_not_its_single_steps_is_found() {
+    for name in ["stops at a stale order", "undoes a pass that is stopped"] {
+        let told = told_of("passes in parts", name);
+        assert!(told.contains("\nat once: ") && told.contains("\nin parts: "));
+        assert!(frames(&told) <= 2, "{told}");
+    }
+}
+
+/// Damages the last of several reports.
+fn damages_the_last_of_several(image: &mut [u8], frames: &[u8], room: &mut [u8]) -> (u8, usize) {
+    let (answer, reported) = model::calls::pass(image, frames, room);
+    if reported > 1 {
+        room[report::BYTES * reported - 1] ^= 4;
+    }
+    (answer, reported)
+}
+
+/// It is right for one frame at a time.
+#[test]
+fn a_pass_that_depends_on_where_it_is_cut_is_found() {
+    let faulty = Calls {
+        pass: damages_the_last_of_several,
+        ..MODEL
+    };
+    let told = told("passes in parts", faulty);
+    assert_eq!(frames(&told), 2, "{told}");
 }
 
 /// Reads units with a gap behind the last sign.

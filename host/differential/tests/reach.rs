@@ -1,14 +1,15 @@
 //! How far the generators get: flights by the table meet every answer in every
 //! mode, both crossings, both beacons, modules that fail and come back, timed orders
 //! with every answer, and ends with all that becomes of them. Starts in any state
-//! have ends that run, and run out, in every mode.
+//! have ends that run, and run out, in every mode. Passes stop at every place, for
+//! every reason, in rooms about the end of every report.
 
 use differential::frames::{Maker, Stream};
-use differential::images;
 use differential::rng::Rng;
+use differential::{images, passes};
 use model::state::{Mode, Power, END_SECONDS};
-use model::table::{MISSION, ORDER, TICK, TIMED};
-use model::{step, State};
+use model::table::{KINDS, MISSION, ORDER, TICK, TIMED};
+use model::{frame, image, pass, report, step, State};
 use std::collections::BTreeSet;
 
 /// What can be met.
@@ -143,4 +144,112 @@ fn starts_have_ends_in_every_mode() {
             }
         }
     }
+}
+
+/// What passes can meet.
+#[derive(PartialEq, Eq, PartialOrd, Ord, Debug)]
+enum Pass {
+    /// A stop, with or without reports before it and pieces behind it.
+    Stop { answer: u8, first: bool, last: bool },
+    /// An image that is none, with or without frames.
+    BadImage { empty: bool },
+    /// No room, so many bytes left, before a frame that has a refusal of its own.
+    NoRoomBefore { left: usize, refusal: u8 },
+    /// All frames done, so many of them.
+    Whole(usize),
+    /// An answer in a report that another one follows.
+    GoesOnAfter(u8),
+    /// A frame cut off after so many bytes.
+    Tail { kind: u8, length: usize },
+    /// So many bytes more than so many reports have.
+    Room { reports: usize, more: isize },
+}
+
+/// Makes a pass on the model; notes what it meets.
+fn note(start: &[u8], (pieces, room): &(Vec<Vec<u8>>, u8), met: &mut BTreeSet<Pass>) {
+    let frames = pieces.concat();
+    let empty = frames.is_empty();
+    let Some(mut state) = image::load(start) else {
+        met.insert(Pass::BadImage { empty });
+        return;
+    };
+    let room = usize::from(*room);
+    let passed = pass::pass(&mut state, &frames, room);
+    let reported = passed.reports.len();
+    let left = room - report::BYTES * reported;
+    let rest = (0..reported).fold(&frames[..], |rest, _| frame::cut(rest).1);
+    let next = frame::cut(rest).0;
+    met.extend(match (passed.answer, frame::read(next)) {
+        (0, _) => Some(Pass::Whole(reported)),
+        (2, Err(refusal)) => Some(Pass::NoRoomBefore { left, refusal }),
+        (5, _) => Some(Pass::Tail {
+            kind: next[0],
+            length: next.len(),
+        }),
+        _ => None,
+    });
+    met.insert(Pass::Stop {
+        answer: passed.answer,
+        first: reported == 0,
+        last: reported + 1 >= pieces.len(),
+    });
+    let followed = passed.reports.iter().rev().skip(1);
+    met.extend(followed.map(|report| Pass::GoesOnAfter(report.answer)));
+    for reports in 0..=passes::MOST {
+        let more = room as isize - (report::BYTES * reports) as isize;
+        met.insert(Pass::Room { reports, more });
+    }
+}
+
+#[test]
+fn passes_meet_it_all() {
+    let mut rng = Rng::new(1);
+    let mut met = BTreeSet::new();
+    for _ in 0..100_000 {
+        let (start, case) = passes::case(&mut rng);
+        note(&start, &case, &mut met);
+    }
+    let mut wanted = BTreeSet::new();
+    for first in [false, true] {
+        wanted.insert(Pass::BadImage { empty: first });
+        wanted.extend([0, 5].map(|answer| Pass::Stop {
+            answer,
+            first,
+            last: true,
+        }));
+        for last in [false, true] {
+            wanted.extend([2, 4, 6, 7].map(|answer| Pass::Stop {
+                answer,
+                first,
+                last,
+            }));
+        }
+    }
+    for left in 0..report::BYTES {
+        wanted.extend([4, 5, 6, 7].map(|refusal| Pass::NoRoomBefore { left, refusal }));
+    }
+    wanted.extend((0..=passes::MOST).map(Pass::Whole));
+    wanted.extend([0, 8, 9, 10].map(Pass::GoesOnAfter));
+    for kind in &KINDS {
+        let lengths = 1..kind.total;
+        let kind = kind.byte;
+        wanted.extend(lengths.map(|length| Pass::Tail { kind, length }));
+    }
+    for reports in 1..=passes::MOST {
+        wanted.extend([-1, 0, 1].map(|more| Pass::Room { reports, more }));
+    }
+    wanted.extend((0..=12).map(|more| Pass::Room { reports: 0, more }));
+    let missing: Vec<_> = wanted.difference(&met).collect();
+    assert!(missing.is_empty(), "not met: {missing:?}");
+}
+
+/// What the stoppers are said to be refused with.
+#[test]
+fn stoppers_stop() {
+    for tail in passes::TAILS.iter() {
+        assert_eq!(frame::read(tail), Err(5), "{tail:02X?}");
+    }
+    let refusals = passes::REFUSED.iter().map(|piece| frame::read(piece).err());
+    let refusals: BTreeSet<_> = refusals.collect();
+    assert_eq!(refusals, BTreeSet::from([4, 6, 7].map(Some)));
 }

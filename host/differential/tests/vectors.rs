@@ -1,7 +1,11 @@
-//! The streams of `tests/vectors` through the compiled library: the log must be
-//! theirs, byte for byte.
+//! The streams and cases of `tests/vectors` through the compiled library: the log
+//! must be theirs, byte for byte, and so must all that a call leaves behind.
 
-use ems::{answer, Craft, REPORT_BYTES};
+mod wrong;
+
+use cases::pass;
+use differential::sides::{Calls, LIBRARY, MODEL};
+use ems::{answer, Craft, IMAGE_BYTES, REPORT_BYTES};
 use std::{fs, path::Path};
 
 /// The library's log of a stream.
@@ -31,4 +35,33 @@ fn every_vector_gives_its_log() {
         streams += 1;
     }
     assert!(streams >= 126, "only {streams} streams");
+}
+
+/// The calls that a case of a pass makes.
+fn calls_of(side: Calls) -> pass::Calls {
+    pass::Calls {
+        image_bytes: IMAGE_BYTES,
+        fresh: side.fresh,
+        step: side.step,
+        pass: side.pass,
+    }
+}
+
+#[test]
+fn every_case_of_a_pass_comes_out() {
+    let cases = pass::cases().expect("the cases are there");
+    assert!(cases.len() >= 230, "only {} cases", cases.len());
+    for case in cases {
+        assert_eq!(pass::check(&case, &calls_of(LIBRARY)), Ok(()));
+    }
+}
+
+#[test]
+fn every_wrong_pass_comes_out_otherwise_in_some_case() {
+    let cases = pass::cases().expect("the cases are there");
+    for (name, pass) in wrong::PASSES {
+        let wrong = calls_of(Calls { pass, ..MODEL });
+        let mut outcomes = cases.iter().map(|case| pass::check(case, &wrong));
+        assert!(outcomes.any(|outcome| outcome.is_err()), "{name}");
+    }
 }

@@ -5,9 +5,10 @@
 //! and nowhere else (proved), keeps no pointer and no state between calls, and
 //! asks four things of its caller. A slice's pointer is non-null, also when the
 //! slice is empty. A slice's length is true. A `&mut` slice overlaps nothing
-//! else that is borrowed, and `count` is a local of the wrapper. And nobody
-//! else writes to what is borrowed while the call runs, which is what a borrow
-//! means. Any bytes are legal arguments, so nothing has to be checked first.
+//! else that is borrowed, and `count` or `reported` is a local of the wrapper.
+//! And nobody else writes to what is borrowed while the call runs, which is what
+//! a borrow means. Any bytes are legal arguments, so nothing has to be checked
+//! first.
 
 mod c {
     extern "C" {
@@ -19,6 +20,15 @@ mod c {
             frame_len: usize,
             room: *mut u8,
             room_len: usize,
+        ) -> u8;
+        pub fn ems_pass(
+            image: *mut u8,
+            image_len: usize,
+            frames: *const u8,
+            frames_len: usize,
+            room: *mut u8,
+            room_len: usize,
+            reported: *mut usize,
         ) -> u8;
         pub fn ems_beacon_basic(
             image: *const u8,
@@ -93,6 +103,28 @@ pub fn step(image: &mut [u8], frame: &[u8], room: &mut [u8]) -> u8 {
             room.len(),
         )
     }
+}
+
+/// Takes a whole pass, frames end to end: the image becomes the state's after the
+/// last frame that got a report, the reports go to the room. Why it stopped, and
+/// how many frames got a report.
+pub fn pass(image: &mut [u8], frames: &[u8], room: &mut [u8]) -> (u8, usize) {
+    // `reported` is always written; this value would show if it weren't.
+    let mut reported = usize::MAX;
+    // SAFETY: pointers and lengths are those of three borrowed slices, the two
+    // that are written borrowed mutably, and a local.
+    let answer = unsafe {
+        c::ems_pass(
+            image.as_mut_ptr(),
+            image.len(),
+            frames.as_ptr(),
+            frames.len(),
+            room.as_mut_ptr(),
+            room.len(),
+            &mut reported,
+        )
+    };
+    (answer, reported)
 }
 
 /// Writes the basic beacon's text of the state; answer and length.

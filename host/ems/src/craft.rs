@@ -1,6 +1,6 @@
 //! One board: the image of a state in range, and what can be asked of it.
 
-use crate::{answer, calls, Report, IMAGE_BYTES, REPORT_BYTES};
+use crate::{answer, calls, Passed, Report, IMAGE_BYTES, REPORT_BYTES};
 
 /// A board's state. It is always in range, so no call on it answers 1.
 #[derive(Clone, Debug, PartialEq, Eq)]
@@ -46,6 +46,25 @@ impl Craft {
         let mut room = [0; REPORT_BYTES];
         let answer = self.step(frame, &mut room);
         Report::read(&room).ok_or(answer)
+    }
+
+    /// Takes a whole pass, frames end to end, and gives why it stopped and how
+    /// many frames got a report; these stand end to end from the start of the
+    /// room, [`REPORT_BYTES`] each.
+    pub fn pass(&mut self, frames: &[u8], room: &mut [u8]) -> (u8, usize) {
+        calls::pass(&mut self.image, frames, room)
+    }
+
+    /// Takes a whole pass with so many bytes of reply room, and gives the reports
+    /// and why it stopped. [`Passed::room_for`] is room enough.
+    pub fn reports_on(&mut self, frames: &[u8], room: usize) -> Passed {
+        let mut room = vec![0; room.min(Passed::room_for(frames))];
+        let (answer, reported) = self.pass(frames, &mut room);
+        let reports = room.chunks(REPORT_BYTES).take(reported);
+        Passed {
+            reports: reports.filter_map(Report::read).collect(),
+            answer,
+        }
     }
 
     /// Writes the basic beacon's text; answer and length.

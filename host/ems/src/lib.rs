@@ -4,17 +4,24 @@
 //! want. The functions of [`calls`] are the C calls as they stand, over slices
 //! of any length, for tests and for callers that keep the image elsewhere.
 //!
-//! [`Report`] is what comes back; [`Mode`], [`Module`] and [`Beacon`] name its
-//! numbers. Answers are the numbers of document 01, named in [`answer`].
+//! [`Report`] is what comes back, and [`Passed`] of a whole pass; [`Mode`],
+//! [`Module`] and [`Beacon`] name a report's numbers. Answers are the numbers of
+//! document 01, named in [`answer`].
 //!
 //! ```
-//! use ems::{Craft, Mode, Module};
+//! use ems::{answer, Craft, Mode, Module, Passed};
 //!
 //! let mut craft = Craft::fresh();
 //! // An order of the ground, number 1: MCS off.
 //! let report = craft.report_on(&[0x04, 1, 0, 1, Module::Mcs.number(), 0]).expect("a report");
 //! assert_eq!(Mode::of(report.mode), Some(Mode::DeployWait));
 //! assert!(!Module::in_mask(report.requested).any(|module| module == Module::Mcs));
+//! // A pass: the same again, a second, and half a frame.
+//! let frames = [0x04, 1, 0, 1, 0, 0, 0x01, 0, 0x02, 0x1F];
+//! let passed = craft.reports_on(&frames, Passed::room_for(&frames));
+//! let answers: Vec<u8> = passed.reports.iter().map(|report| report.answer).collect();
+//! assert_eq!(answers, [answer::REPEAT, answer::DONE]);
+//! assert_eq!(passed.answer, answer::BAD_LENGTH);
 //! ```
 
 #![deny(missing_docs, unsafe_op_in_unsafe_fn)]
@@ -24,12 +31,14 @@ pub mod calls;
 mod craft;
 mod mode;
 mod module;
+mod passed;
 mod report;
 
 pub use calls::{key, read};
 pub use craft::Craft;
 pub use mode::Mode;
 pub use module::Module;
+pub use passed::Passed;
 pub use report::{Beacon, Report, REPORT_KIND};
 
 /// The bytes of an image; `EMS_IMAGE_BYTES` of the header.

@@ -1,6 +1,6 @@
 //! The wrapper's `Craft`: only what the library takes becomes one.
 
-use ems::{answer, Craft, Report, IMAGE_BYTES, REPORT_BYTES};
+use ems::{answer, Craft, Passed, Report, IMAGE_BYTES, REPORT_BYTES};
 use model::image::at;
 
 #[test]
@@ -81,4 +81,120 @@ fn bytes_that_are_no_report_become_none() {
     let mut order = bytes;
     order[0] = 0x04;
     assert_eq!(Report::read(&order), None);
+}
+
+/// Frames that are reported on: a reading, the antennas, an order that comes too
+/// early, the same again, an older one, thresholds, a timed order, a second.
+const REPORTED: [&[u8]; 8] = [
+    &[0x02, 0x1E, 0x78],
+    &[0x03, 1],
+    &[0x04, 1, 0, 2, 4, 1],
+    &[0x04, 1, 0, 2, 4, 1],
+    &[0x04, 1, 0, 1, 4, 0],
+    &[0x05, 1, 0, 3, 0x1D, 0x4C, 0x1B, 0x58],
+    &[0x06, 2, 0, 1, 4, 0, 20],
+    &[0x01, 0],
+];
+
+/// What single calls make of frames in order: the reports.
+fn one_by_one(craft: &mut Craft, frames: &[&[u8]]) -> Vec<Report> {
+    let reports = frames.iter().map(|frame| craft.report_on(frame));
+    reports.map(|report| report.expect("a report")).collect()
+}
+
+#[test]
+fn a_pass_is_its_single_calls_in_order() {
+    let bytes = REPORTED.concat();
+    let (mut by_pass, mut by_step) = (Craft::fresh(), Craft::fresh());
+    let passed = by_pass.reports_on(&bytes, Passed::room_for(&bytes));
+    let reports = one_by_one(&mut by_step, &REPORTED);
+    let answer = answer::DONE;
+    assert_eq!(passed, Passed { reports, answer });
+    assert_eq!(by_pass, by_step);
+}
+
+/// Its length has no limit but the room's.
+#[test]
+fn a_long_pass_is_its_single_calls_in_order() {
+    let frames = REPORTED.repeat(1_000);
+    let bytes = frames.concat();
+    let (mut by_pass, mut by_step) = (Craft::fresh(), Craft::fresh());
+    let passed = by_pass.reports_on(&bytes, Passed::room_for(&bytes));
+    let reports = one_by_one(&mut by_step, &frames);
+    let answer = answer::DONE;
+    assert_eq!(passed, Passed { reports, answer });
+    assert_eq!(by_pass, by_step);
+}
+
+/// The shortest frames, and what is left of one.
+#[test]
+fn room_for_a_pass_is_enough() {
+    for length in 0..=20 {
+        let bytes = [0x01, 0].repeat(10)[..length].to_vec();
+        let passed = Craft::fresh().reports_on(&bytes, Passed::room_for(&bytes));
+        let answer = match length % 2 {
+            0 => answer::DONE,
+            _ => answer::BAD_LENGTH,
+        };
+        assert_eq!((passed.reports.len(), passed.answer), (length / 2, answer));
+    }
+}
+
+#[test]
+fn a_pass_stops_before_what_is_refused() {
+    for (refused, answer) in [
+        (&[0x81][..], answer::UNKNOWN_KIND),
+        (&[0x04, 1, 0], answer::BAD_LENGTH),
+        (&[0x02, 0x13, 0x87, 0x01, 0], answer::BAD_FIELD),
+        (&[0x04, 2, 0, 2, 3, 1, 0x01, 0], answer::NOT_PERMITTED),
+    ] {
+        let bytes = [&REPORTED.concat(), refused].concat();
+        let (mut by_pass, mut by_step) = (Craft::fresh(), Craft::fresh());
+        let passed = by_pass.reports_on(&bytes, Passed::room_for(&bytes));
+        let reports = one_by_one(&mut by_step, &REPORTED);
+        assert_eq!(passed, Passed { reports, answer });
+        assert_eq!(by_pass, by_step);
+    }
+}
+
+#[test]
+fn a_pass_stops_where_the_room_ends() {
+    // Nobody gets so far as to see that the kind is unknown.
+    let bytes = [&REPORTED.concat()[..], &[0x81]].concat();
+    for room in 0..=REPORT_BYTES * REPORTED.len() + REPORT_BYTES {
+        let fit = (room / REPORT_BYTES).min(REPORTED.len());
+        let (mut by_pass, mut by_step) = (Craft::fresh(), Craft::fresh());
+        let passed = by_pass.reports_on(&bytes, room);
+        let reports = one_by_one(&mut by_step, &REPORTED[..fit]);
+        let whole = room / REPORT_BYTES > REPORTED.len();
+        let answer = match whole {
+            true => answer::UNKNOWN_KIND,
+            false => answer::SHORT_ROOM,
+        };
+        assert_eq!(passed, Passed { reports, answer }, "room {room}");
+        assert_eq!(by_pass, by_step, "room {room}");
+    }
+}
+
+#[test]
+fn a_pass_leaves_the_room_past_its_reports() {
+    let mut room = [7; 3 * REPORT_BYTES + 5];
+    let mut craft = Craft::fresh();
+    let two = craft.pass(&REPORTED[..2].concat(), &mut room);
+    assert_eq!(two, (answer::DONE, 2));
+    let (reports, rest) = room.split_at(2 * REPORT_BYTES);
+    assert_eq!(rest, [7; REPORT_BYTES + 5]);
+    let mut board = Craft::fresh();
+    for (bytes, frame) in reports.chunks(REPORT_BYTES).zip(REPORTED) {
+        assert_eq!(Report::read(bytes), board.report_on(frame).ok());
+    }
+}
+
+#[test]
+fn no_bytes_are_no_frames() {
+    let mut craft = Craft::fresh();
+    assert_eq!(craft.pass(&[], &mut []), (answer::DONE, 0));
+    let passed = craft.reports_on(&[], 0);
+    assert_eq!((passed.answer, passed.reports.len()), (answer::DONE, 0));
+    assert_eq!(craft, Craft::fresh());
 }

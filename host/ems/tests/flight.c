@@ -1,18 +1,22 @@
-/* The shortest flight from C: a frame, its report, the beacon, its units. */
+/* The shortest flight from C: a frame, its report, a pass, the beacon, its units. */
 #include "ems.h"
 #include <stdio.h>
 
 int main(void)
 {
-    uint8_t image[EMS_IMAGE_BYTES], room[EMS_REPORT_BYTES];
+    uint8_t image[EMS_IMAGE_BYTES], room[EMS_REPORT_BYTES], reports[3 * EMS_REPORT_BYTES];
     uint8_t text[EMS_BEACON_BASIC_BYTES], units[EMS_UNITS_BYTES];
     const uint8_t deployed[2] = { EMS_KIND_ANTENNAS, 1 };
-    size_t letters, count;
+    /* A reading, an order that comes too early, a second that is cut off. */
+    const uint8_t pass[10] = { EMS_KIND_BATTERY, 0x1E, 0x78, EMS_KIND_ORDER, 1, 0, 1, 4, 1, EMS_KIND_TICK };
+    size_t reported, letters, count;
     int i;
 
     if (ems_fresh(image, sizeof image) != EMS_DONE) return 1;
     printf("%d", ems_step(image, sizeof image, deployed, sizeof deployed, room, sizeof room));
     for (i = 0; i < EMS_REPORT_BYTES; i++) printf(" %02X", room[i]);
+    printf("\n%d", ems_pass(image, sizeof image, pass, sizeof pass, reports, sizeof reports, &reported));
+    for (i = 0; i < (int)reported; i++) printf(" %02X %d", reports[11 * i + 1], reports[11 * i + 5]);
     if (ems_beacon_basic(image, sizeof image, text, sizeof text, &letters) != EMS_DONE) return 1;
     if (ems_key(text, letters, units, sizeof units, &count) != EMS_DONE) return 1;
     printf("\n%.*s, %d units\n", (int)letters, (const char *)text, (int)count);

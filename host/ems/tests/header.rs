@@ -80,7 +80,29 @@ fn print_of(compiler: &str, language: &[&str]) -> String {
     String::from_utf8_lossy(&run.stdout).into_owned()
 }
 
-const PRINT: &str = "0 81 03 00 00 00 00 00 27 00 00 00\nEMS D 0000, 125 units\n";
+const PRINT: &str = "0 81 03 00 00 00 00 00 27 00 00 00\n5 02 0 04 10\nEMS D 7800, 115 units\n";
+
+/// The calls that the header declares.
+fn declared() -> Vec<&'static str> {
+    let calls = HEADER.lines().filter_map(|line| {
+        let (name, _) = line.strip_prefix("uint8_t ")?.split_once('(')?;
+        Some(name)
+    });
+    calls.collect()
+}
+
+#[test]
+fn the_library_has_the_header_s_calls_and_no_other() {
+    let archive = Path::new(env!("EMS_FLIGHT_DIR")).join("libflight.a");
+    let symbols = Command::new("nm").arg(archive).output().expect("nm runs");
+    let symbols = String::from_utf8_lossy(&symbols.stdout).into_owned();
+    let names = symbols.lines().filter_map(|line| line.split_once(" T "));
+    let mut names: Vec<&str> = names.map(|(_, name)| name).collect();
+    let mut declared = declared();
+    names.sort_unstable();
+    declared.sort_unstable();
+    assert_eq!(names, declared);
+}
 
 #[test]
 fn a_c_program_flies() {

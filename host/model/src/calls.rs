@@ -1,6 +1,6 @@
 //! The calls of `include/ems.h`, with the same arguments and the same answers.
 
-use crate::{beacon, image, morse, state::State, step};
+use crate::{beacon, image, morse, pass, report::Report, state::State, step};
 
 /// Writes the fresh start's image.
 pub fn fresh(bytes: &mut [u8]) -> u8 {
@@ -24,6 +24,18 @@ pub fn step(bytes: &mut [u8], frame: &[u8], room: &mut [u8]) -> u8 {
             report.answer
         }
     }
+}
+
+/// Takes a whole pass: why it stopped, and how many frames got a report.
+pub fn pass(bytes: &mut [u8], frames: &[u8], room: &mut [u8]) -> (u8, usize) {
+    let Some(mut state) = image::load(bytes) else {
+        return (1, 0);
+    };
+    let passed = pass::pass(&mut state, frames, room.len());
+    bytes.copy_from_slice(&image::save(&state));
+    let reports: Vec<u8> = passed.reports.iter().flat_map(Report::bytes).collect();
+    write(&reports, room);
+    (passed.answer, passed.reports.len())
 }
 
 /// The basic beacon's text.

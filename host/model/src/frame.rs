@@ -84,6 +84,14 @@ pub fn read(input: &[u8]) -> Result<Frame, u8> {
     Ok(frame)
 }
 
+/// The frame at the front of some bytes, by its kind, and the rest of them. One
+/// that is cut off, or of unknown kind, is all that is left: it is refused.
+pub fn cut(input: &[u8]) -> (&[u8], &[u8]) {
+    let kind = input.first().and_then(|&byte| table::kind(byte));
+    let total = kind.map_or(input.len(), |kind| kind.total);
+    input.split_at(total.min(input.len()))
+}
+
 /// The numbers of a body, one for each field.
 fn fields(kind: &Kind, mut body: &[u8]) -> Vec<u16> {
     let mut values = Vec::new();

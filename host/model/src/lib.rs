@@ -1,5 +1,5 @@
 //! The rules a second time, in plain Rust: document 01's, and of document 02 the
-//! orders with an end.
+//! orders with an end and the pass.
 //!
 //! It is written from their words alone and shares nothing with the proved
 //! library, so that a slip in either shows as a difference. It goes for being
@@ -18,6 +18,7 @@ pub mod frame;
 pub mod image;
 mod log;
 pub mod morse;
+pub mod pass;
 pub mod report;
 pub mod state;
 pub mod step;

@@ -1,9 +1,9 @@
 //! The page's program `step-log`.
 
+use crate::frame;
 use crate::report::{self, Report};
 use crate::state::State;
 use crate::step::step;
-use crate::table;
 
 const HEADER: &str = "n kind origin serial answer mode requested on failed beacon\n";
 
@@ -23,9 +23,8 @@ pub fn log_of(
 ) -> String {
     let mut log = String::from(HEADER);
     let mut n = 1;
-    while let Some(&kind) = input.first() {
-        let total = table::kind(kind).map_or(1, |kind| kind.total);
-        let (frame, rest) = input.split_at(total.min(input.len()));
+    while !input.is_empty() {
+        let (frame, rest) = frame::cut(input);
         match board(frame) {
             Ok(report) => log += &line(n, &Report::from_bytes(&report)),
             Err(refusal) => {

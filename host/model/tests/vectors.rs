@@ -1,6 +1,9 @@
-//! The streams of `tests/vectors`, made by an implementation that shares
-//! nothing with this one: the log must be theirs, byte for byte.
+//! The streams and cases of `tests/vectors`, made by an implementation that
+//! shares nothing with this one: the log must be theirs, byte for byte, and so
+//! must all that a call leaves behind.
 
+use cases::pass;
+use model::{calls, image};
 use std::{fs, path::Path};
 
 #[test]
@@ -19,5 +22,20 @@ fn every_vector_gives_its_log() {
         let given = model::step_log(&input);
         let differs = wanted.lines().zip(given.lines()).find(|(w, g)| w != g);
         assert!(wanted == given, "{}: {differs:?}", stream.display());
+    }
+}
+
+#[test]
+fn every_case_of_a_pass_comes_out() {
+    let model = pass::Calls {
+        image_bytes: image::BYTES,
+        fresh: calls::fresh,
+        step: calls::step,
+        pass: calls::pass,
+    };
+    let cases = pass::cases().expect("the cases are there");
+    assert!(cases.len() >= 230, "only {} cases", cases.len());
+    for case in cases {
+        assert_eq!(pass::check(&case, &model), Ok(()));
     }
 }

@@ -2,6 +2,7 @@
 
 mod flights;
 mod images;
+mod passes;
 mod texts;
 mod timed;
 
@@ -22,7 +23,7 @@ pub type Verdict = Result<u64, String>;
 pub type Group = (&'static str, fn(&[Calls; 2], &mut Rng) -> Verdict);
 
 /// All groups.
-pub const GROUPS: [Group; 17] = [
+pub const GROUPS: [Group; 21] = [
     ("fresh start, every length", images::fresh_starts),
     ("flights by the table", |sides, rng| {
         flights::of(sides, rng, Maker::Structured, 4_000_000)
@@ -42,6 +43,10 @@ pub const GROUPS: [Group; 17] = [
     ("timed orders about every limit", timed::timed_orders),
     ("ends that run out", timed::ends_run_out),
     ("the longest end", timed::longest_end),
+    ("passes", passes::any_passes),
+    ("passes stopped in every way", passes::stops),
+    ("passes in every room", passes::pass_rooms),
+    ("passes in parts", passes::passes_in_parts),
     ("every value of every image byte", images::image_bytes),
     ("every number of a mode, an end and a module", images::codes),
     ("damaged images", images::damaged_images),

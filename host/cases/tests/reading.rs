@@ -1,0 +1,81 @@
+//! How a file of cases is read, and that nothing in it is passed over.
+
+use cases::{read, Line};
+
+const WORDS: [&str; 2] = ["frames", "room"];
+
+/// The lines of a text, a case after the other.
+fn lines(text: &str) -> Vec<Vec<Line>> {
+    let cases = read(text, &WORDS).expect("cases");
+    cases.into_iter().map(|case| case.lines).collect()
+}
+
+/// What is said of a text that is none of cases.
+fn said(text: &str) -> String {
+    read(text, &WORDS).expect_err("no cases")
+}
+
+#[test]
+fn blank_lines_part_the_cases() {
+    let text = "# head\n\nframes 01\nroom 1\n\n\n# between\nroom 2\n# inside\nroom 3\n";
+    let numbers = lines(text).into_iter().map(|case| {
+        let numbers = case.into_iter().map(|line| line.number);
+        numbers.collect::<Vec<usize>>()
+    });
+    assert_eq!(numbers.collect::<Vec<_>>(), [vec![3, 4], vec![8, 10]]);
+}
+
+#[test]
+fn a_value_stands_as_often_as_it_says() {
+    let case = &lines("frames 0100*3 021F40 03*1\n")[0];
+    assert_eq!(case[0].values, ["0100", "0100", "0100", "021F40", "03"]);
+    let frames = case[0].frames().expect("bytes");
+    assert_eq!(frames[3..], [vec![0x02, 0x1F, 0x40], vec![0x03]]);
+    assert_eq!(case[0].bytes().expect("bytes")[..4], [1, 0, 1, 0]);
+}
+
+#[test]
+fn a_lone_dash_is_nothing() {
+    let case = &lines("frames -\n")[0];
+    assert_eq!(case[0].bytes(), Ok(vec![]));
+    assert!(case[0].value().is_err());
+}
+
+#[test]
+fn what_is_no_value_is_told() {
+    for line in [
+        "frames",
+        "frames *3",
+        "frames 01*",
+        "frames 01*0",
+        "frames 01*x",
+    ] {
+        assert!(said(line).starts_with("line 1: "), "{line}");
+    }
+    for bytes in ["0", "010", "0G", "+1", "é", "-"] {
+        let case = &lines(&format!("frames 00 {bytes}\n"))[0];
+        let said = "line 1: frames is not bytes in hex";
+        assert_eq!(case[0].bytes(), Err(said.into()), "{bytes}");
+    }
+    for numbers in ["1 2", "x", "-1", "1.5", "256"] {
+        let case = &lines(&format!("room {numbers}\n"))[0];
+        assert!(case[0].number::<u8>().is_err(), "{numbers}");
+    }
+}
+
+#[test]
+fn a_word_that_is_not_known_is_told() {
+    assert_eq!(said("frames 01\nrooms 3\n"), "line 2: no word rooms");
+    assert_eq!(said(" frames 01\n # comment\n"), "line 2: no word #");
+}
+
+#[test]
+fn a_word_stands_once_where_it_should() {
+    let cases = read("room 1\nroom 2\n\nframes 01\n", &WORDS).expect("cases");
+    let twice = "line 2: room a second time";
+    assert_eq!(cases[0].one("room"), Err(twice.into()));
+    assert_eq!(cases[0].optional("room"), Err(twice.into()));
+    let without = "line 4: a case without room";
+    assert_eq!(cases[1].one("room"), Err(without.into()));
+    assert_eq!(cases[1].optional("room"), Ok(None));
+}
