@@ -20,6 +20,15 @@ mod c {
             room: *mut u8,
             room_len: usize,
         ) -> u8;
+        pub fn ems_pass(
+            image: *mut u8,
+            image_len: usize,
+            frames: *const u8,
+            frames_len: usize,
+            room: *mut u8,
+            room_len: usize,
+            reported: *mut usize,
+        ) -> u8;
         pub fn ems_beacon_basic(
             image: *const u8,
             image_len: usize,
@@ -93,6 +102,27 @@ pub fn step(image: &mut [u8], frame: &[u8], room: &mut [u8]) -> u8 {
             room.len(),
         )
     }
+}
+
+/// Takes frames end to end: the image becomes the state's after the last that has
+/// a report, the reports go to the room; why it stopped, and how many have one.
+pub fn pass(image: &mut [u8], frames: &[u8], room: &mut [u8]) -> (u8, usize) {
+    // It is always written, as `count` is.
+    let mut reported = usize::MAX;
+    // SAFETY: pointers and lengths are those of three borrowed slices, the two
+    // that are written borrowed mutably, and of a local.
+    let answer = unsafe {
+        c::ems_pass(
+            image.as_mut_ptr(),
+            image.len(),
+            frames.as_ptr(),
+            frames.len(),
+            room.as_mut_ptr(),
+            room.len(),
+            &mut reported,
+        )
+    };
+    (answer, reported)
 }
 
 /// Writes the basic beacon's text of the state; answer and length.

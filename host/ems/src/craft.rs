@@ -48,6 +48,12 @@ impl Craft {
         Report::read(&room).ok_or(answer)
     }
 
+    /// Takes a whole pass, frames end to end, and gives why it stopped and how many
+    /// frames have a report; these stand end to end in the room.
+    pub fn pass(&mut self, frames: &[u8], room: &mut [u8]) -> (u8, usize) {
+        calls::pass(&mut self.image, frames, room)
+    }
+
     /// Writes the basic beacon's text; answer and length.
     pub fn beacon_basic(&self, text: &mut [u8]) -> (u8, usize) {
         calls::beacon_basic(&self.image, text)
