@@ -21,6 +21,7 @@ mod source;
 mod story;
 mod stream;
 mod tables;
+mod telling;
 mod words;
 
 use args::{Command, Line};
