@@ -58,6 +58,8 @@ impl Step {
 pub struct Passed {
     /// Why it stopped.
     pub answer: u8,
+    /// How many frames have a report.
+    pub reported: usize,
     /// The reports, in their order.
     pub reports: Vec<Report>,
     /// The board after it.
@@ -107,6 +109,7 @@ impl Board {
         let reports = room.chunks_exact(REPORT_BYTES).take(reported);
         Passed {
             answer,
+            reported,
             reports: reports.filter_map(Report::read).collect(),
             image: Image::of(craft.image()),
         }

@@ -93,7 +93,7 @@ fn the_readme_s_first_command_is_short() {
 
 #[test]
 fn commands_of_pass_scripts_give_what_stands_there() {
-    assert!(run_document("docs/PASS-SCRIPTS.md") >= 19);
+    assert!(run_document("docs/PASS-SCRIPTS.md") >= 25);
 }
 
 #[test]

@@ -38,10 +38,9 @@ pub fn run(uplink: &Uplink) -> Result<(), Failure> {
 /// Refuses files that are in each other's way.
 fn check(uplink: &Uplink) -> Result<(), Failure> {
     let standard = |path: &Path| path == Path::new("-");
+    let pass = uplink.flight.file.as_path();
     let before = uplink.image.as_deref().or(uplink.after.as_deref());
-    let read = [Some(uplink.flight.file.as_path()), before];
-    let read = read.into_iter().flatten();
-    if read.clone().filter(|path| standard(path)).count() > 1 {
+    if standard(pass) && before.is_some_and(standard) {
         return Err(Failure::usage(
             "standard input can be the pass or what comes before it, not both",
         ));
@@ -54,8 +53,8 @@ fn check(uplink: &Uplink) -> Result<(), Failure> {
             "the image can't go to standard output, where the text goes: name a file after -o",
         ));
     }
-    read.clone()
-        .try_for_each(|path| output::spare(path, output))
+    output::spare(pass, output)?;
+    before.map_or(Ok(()), |before| output::spare(before, output))
 }
 
 /// The board that the pass is handed to.

@@ -56,7 +56,7 @@ impl<'a> Worked<'a> {
     }
 
     fn came_back(&self) -> String {
-        let reports = self.passed.reports.len();
+        let reports = self.passed.reported;
         let come = if reports == 1 { "comes" } else { "come" };
         let bytes = count((REPORT_BYTES * reports) as u64, "byte");
         let room = self
@@ -72,10 +72,7 @@ impl<'a> Worked<'a> {
     }
 
     fn not_worked(&self) -> String {
-        let (all, from) = (
-            self.pass.bytes.len(),
-            self.pass.begin(self.passed.reports.len()),
-        );
+        let (all, from) = (self.pass.bytes.len(), self.pass.begin(self.passed.reported));
         let [left, all, from] = [all - from, all, from].map(|bytes| thousands(bytes as u64));
         format!("Not worked: {left} of its {all} bytes, from byte {from} on.")
     }
@@ -100,7 +97,7 @@ impl<'a> Worked<'a> {
 impl<'a> Stop<'a> {
     fn of(pass: &'a Pass, passed: &Passed) -> Option<Stop<'a>> {
         let answer = passed.answer;
-        let sent = pass.sent(passed.reports.len());
+        let sent = pass.sent(passed.reported);
         sent.filter(|_| answer != answer::DONE)
             .map(|sent| Stop { sent, answer })
     }
