@@ -1,10 +1,10 @@
-//! A board from the fresh start on, one frame after the other. What it answers
-//! is the library's word; this only counts frames and seconds, and remembers who
-//! has sent a number and what each timed order set.
+//! A board, one frame after the other or a whole pass at once. What it answers is
+//! the library's word; this only counts frames and seconds, and remembers who has
+//! sent a number and what each timed order set.
 
 use crate::image::Image;
-use crate::tables::{timed, TICK};
-use ems::{answer, Beacon, Craft, Module, Report, BEACON_COMPLETE_BYTES};
+use crate::tables::{origins, timed, TICK};
+use ems::{answer, Beacon, Craft, Module, Report, BEACON_COMPLETE_BYTES, REPORT_BYTES};
 
 /// A board, and how far its flight has come.
 pub struct Board {
@@ -54,16 +54,64 @@ impl Step {
     }
 }
 
+/// What one call gives for a whole pass.
+pub struct Passed {
+    /// Why it stopped.
+    pub answer: u8,
+    /// How many frames have a report.
+    pub reported: usize,
+    /// The reports, in their order.
+    pub reports: Vec<Report>,
+    /// The board after it.
+    pub image: Image,
+}
+
 impl Board {
     pub fn fresh() -> Board {
-        let craft = Craft::fresh();
+        Board::of(Craft::fresh())
+    }
+
+    /// A board of which no more is known than its state. An origin whose number is
+    /// not the one that a board begins with has sent one, and an end has as many
+    /// seconds as are left of it.
+    pub fn of(craft: Craft) -> Board {
+        let (image, fresh) = (Image::of(craft.image()), Image::of(Craft::fresh().image()));
+        let has_sent = |origin: &u8| image.serial(*origin) != fresh.serial(*origin);
+        let mut times = Times::default();
+        for module in Module::ALL {
+            times.set(module, image.end(module));
+        }
         Board {
-            image: Image::of(craft.image()),
+            image,
             craft,
             frames: 0,
             seconds: 0,
-            numbered: Vec::new(),
-            times: Times::default(),
+            numbered: origins().filter(has_sent).collect(),
+            times,
+        }
+    }
+
+    /// The same board, with its frames and seconds counted from here on.
+    pub fn counted_anew(self) -> Board {
+        Board {
+            frames: 0,
+            seconds: 0,
+            ..self
+        }
+    }
+
+    /// What comes of a whole pass in one call, with so many bytes of room. The board
+    /// itself stays as it is.
+    pub fn pass(&self, frames: &[u8], room: usize) -> Passed {
+        let mut craft = self.craft.clone();
+        let mut room = vec![0; room];
+        let (answer, reported) = craft.pass(frames, &mut room);
+        let reports = room.chunks_exact(REPORT_BYTES).take(reported);
+        Passed {
+            answer,
+            reported,
+            reports: reports.filter_map(Report::read).collect(),
+            image: Image::of(craft.image()),
         }
     }
 

@@ -5,7 +5,7 @@ use crate::board::{Board, Step};
 use crate::failure::{Failure, REFUSED};
 use crate::few::Few;
 use crate::script::in_words;
-use crate::stream::Stream;
+use crate::stream::{Sent, Stream};
 use crate::tables::{loses_the_cut, meaning};
 use crate::words::{count, thousands};
 
@@ -46,7 +46,8 @@ impl Flight {
         if let Err(refusal) = step.outcome {
             self.cut_off = !self.keep_going || loses_the_cut(refusal);
             let stream = &self.stream;
-            self.refusals.add(|| refused(stream, step.n, refusal));
+            let told = || refused(stream.name(), &stream.sent(step.n), refusal, stream.hint());
+            self.refusals.add(told);
         }
         Ok(Some(step))
     }
@@ -78,8 +79,13 @@ impl Flight {
 
     /// The end: bad, if frames were refused.
     pub fn end(self) -> Result<(), Failure> {
+        self.landed().map(|_| ())
+    }
+
+    /// The board that it ends with, if no frame was refused.
+    pub fn landed(self) -> Result<Board, Failure> {
         if self.refusals.is_empty() {
-            return Ok(());
+            return Ok(self.board);
         }
         let mut messages = self.refusals.kept().to_vec();
         if self.refusals.more() > 0 {
@@ -93,12 +99,13 @@ impl Flight {
     }
 }
 
-/// What is said of a frame that was refused, and what may help.
-fn refused(stream: &Stream, n: u64, refusal: u8) -> String {
-    let (name, place, n) = (stream.name(), stream.place(), thousands(n));
-    let (frame, why) = (in_words(stream.frame()), meaning(refusal));
+/// What is said of a frame that was refused, and what may help where nobody knows
+/// what follows it.
+pub fn refused(name: &str, sent: &Sent, refusal: u8, hint: Option<String>) -> String {
+    let Sent { n, place, frame } = sent;
+    let (n, frame, why) = (thousands(*n), in_words(frame), meaning(refusal));
     let refused = format!("{name}, {place}: frame {n}, `{frame}`, is refused: {refusal}, {why}");
-    match stream.hint().filter(|_| loses_the_cut(refusal)) {
+    match hint.filter(|_| loses_the_cut(refusal)) {
         Some(hint) => format!("{refused}; {hint}"),
         None => refused,
     }

@@ -13,6 +13,7 @@ mod flight;
 mod image;
 mod morse;
 mod output;
+mod pass;
 mod plot;
 mod progress;
 mod report;
@@ -21,6 +22,7 @@ mod source;
 mod story;
 mod stream;
 mod tables;
+mod telling;
 mod words;
 
 use args::{Command, Line};
@@ -51,6 +53,7 @@ fn run(command: &Command) -> Result<(), Failure> {
         Command::Log(log) if log.hex => commands::hex::run(&log.flight),
         Command::Log(log) => commands::log::run(&log.flight),
         Command::Frames(frames) => commands::frames::run(frames),
+        Command::Uplink(uplink) => commands::uplink::run(uplink),
         Command::Show(show) => commands::show::run(show),
         Command::Plot(plot) => commands::plot::run(plot),
         Command::Beacon(beacon) => commands::beacon::run(beacon),

@@ -15,6 +15,13 @@ pub struct Stream {
     place: Place,
 }
 
+/// A frame as it is sent: its number, from 1, where it begins, and its bytes.
+pub struct Sent<'a> {
+    pub n: u64,
+    pub place: Place,
+    pub frame: &'a [u8],
+}
+
 impl Stream {
     pub fn open(flight: &Flight) -> Result<Stream, Failure> {
         let source = source::open(flight)?;
@@ -51,9 +58,10 @@ impl Stream {
         &self.frame
     }
 
-    /// Where that frame begins.
-    pub fn place(&self) -> Place {
-        self.place
+    /// That frame, as the one with a number.
+    pub fn sent(&self, n: u64) -> Sent<'_> {
+        let (place, frame) = (self.place, &self.frame);
+        Sent { n, place, frame }
     }
 
     /// The file's name, as it was given.

@@ -93,7 +93,7 @@ fn the_readme_s_first_command_is_short() {
 
 #[test]
 fn commands_of_pass_scripts_give_what_stands_there() {
-    assert!(run_document("docs/PASS-SCRIPTS.md") >= 19);
+    assert!(run_document("docs/PASS-SCRIPTS.md") >= 25);
 }
 
 #[test]
@@ -266,7 +266,8 @@ fn the_stack_that_the_icd_gives_is_enough() {
 #[test]
 fn every_word_can_be_looked_up() {
     let help: Vec<String> = [
-        "--help", "log", "frames", "show", "plot", "beacon", "key", "read", "compare", "image",
+        "--help", "log", "frames", "uplink", "show", "plot", "beacon", "key", "read", "compare",
+        "image",
     ]
     .iter()
     .map(|command| run(&[command, "--help"]).status(0).text().to_string())

@@ -2,7 +2,8 @@
 
 mod common;
 
-use common::{is_file, run, scratch};
+use common::{is_file, root, run, scratch};
+use std::fs;
 
 /// Each with its picture's title.
 const EXAMPLES: [(&str, &str); 6] = [
@@ -43,6 +44,68 @@ fn the_sister_craft_are_compared_as_expected() {
     );
     let ran = run(&["compare", a, b]).status(0);
     is_file("host/tool/tests/expected/sister-craft.txt", &ran.out);
+}
+
+/// `morning.pass`, handed over in one call where `dawn.pass` ends.
+const MORNING: [&str; 4] = [
+    "uplink",
+    "examples/morning.pass",
+    "--after",
+    "examples/dawn.pass",
+];
+
+#[test]
+fn the_morning_s_pass_is_told_as_expected() {
+    let ran = run(&MORNING).status(2);
+    is_file("host/tool/tests/expected/morning.txt", &ran.out);
+}
+
+/// Its picture is that of both scripts, one after the other: a refused frame ends it
+/// as it does the pass.
+#[test]
+fn the_morning_s_picture_is_what_is_drawn() {
+    let script = |name: &str| fs::read(root().join(name)).expect("a script");
+    let both = [
+        script("examples/dawn.pass"),
+        script("examples/morning.pass"),
+    ]
+    .concat();
+    let both = scratch("both.pass", both);
+    let title = "The morning after, in one call";
+    let args = [
+        "plot", &both, "--from", "09:15:00", "--title", title, "-o", "-",
+    ];
+    let ran = run(&args).status(2);
+    is_file("docs/morning.svg", &ran.out);
+}
+
+/// The sentence on top of `morning.pass`: the repeat is told and goes on, the order
+/// that only the ground may give stops the pass at its line, and less room sooner.
+#[test]
+fn in_the_morning_a_repeat_goes_on_and_the_payload_s_order_stops() {
+    let script = fs::read_to_string(root().join("examples/morning.pass")).expect("a script");
+    let line = script
+        .lines()
+        .position(|line| line.starts_with("order payload"));
+    let line = line.expect("an order of the payload's") + 1;
+    let ran = run(&MORNING)
+        .status(2)
+        .prints("order ground 18 PAYLOAD off: 8, 18 is a repeat of ground's last number")
+        .prints("order ground 20 PAYLOAD on for 20 min: done, PAYLOAD requested on")
+        .prints(&format!(
+            "The pass stops before frame 245, line {line}, `order payload 1 SBAND1 on`: 7, "
+        ))
+        .prints("\n244 reports come back, ");
+    assert!(
+        !ran.text().contains("SBAND1 on for 10 min"),
+        "{}",
+        ran.text()
+    );
+    assert!(script.contains(&format!("before line {line}.")));
+    run(&[&MORNING[..], &["--room", "2048"]].concat())
+        .status(2)
+        .prints("\n186 reports come back, 2,046 bytes of a room of 2,048.\n")
+        .prints(", `tick`: 2, there is no room for the report.\n");
 }
 
 /// The sentence on top of `dawn.pass`, in its log.

@@ -4,8 +4,8 @@ mod common;
 
 use common::run;
 
-const COMMANDS: [&str; 9] = [
-    "log", "frames", "show", "plot", "beacon", "key", "read", "compare", "image",
+const COMMANDS: [&str; 10] = [
+    "log", "frames", "uplink", "show", "plot", "beacon", "key", "read", "compare", "image",
 ];
 
 #[test]

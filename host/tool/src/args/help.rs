@@ -26,8 +26,26 @@ Examples:
   printf '\\003\\001\\001\\000' | ems log -";
 
 pub const FRAMES: &str = "\
+These are the bytes, frames end to end, that one call of ems_pass takes: `ems uplink`
+shows what comes of them.
+
 Example:
   ems frames examples/dawn.pass -o dawn.bin";
+
+pub const UPLINK: &str = "\
+Every frame that gets a report, in the words of `log --explain`; how many reports come
+back; and where and why the pass stops: at its end, where there is no room for the next
+report (2), or before a frame that is refused with 4 to 7. A report with 8, 9 or 10
+stops nothing. The status is 2 if it stops before its end.
+
+The answer is that of one call of ems_pass, with the bytes that `ems frames` writes.
+Frames and seconds are counted from the pass's begin. What was done stands: with -o the
+next pass can begin there. The flight of --after is a script or bytes by its name.
+
+Examples:
+  ems uplink examples/morning.pass --after examples/dawn.pass
+  ems uplink examples/morning.pass --after examples/dawn.pass --room 64 -o saved.bin
+  ems uplink next.pass --image saved.bin";
 
 pub const SHOW: &str = "\
 What is printed is a pass script that `ems frames` turns into the same bytes. Where

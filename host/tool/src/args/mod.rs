@@ -23,6 +23,9 @@ pub enum Command {
     /// Turns a pass script into the bytes of its frames
     #[command(after_help = help::FRAMES)]
     Frames(Frames),
+    /// What comes of a pass that is handed to the board in one call
+    #[command(after_help = help::UPLINK)]
+    Uplink(Uplink),
     /// Turns bytes back into a pass script, damaged ones too
     #[command(after_help = help::SHOW)]
     Show(Show),
@@ -103,6 +106,24 @@ pub struct Frames {
     /// Where the bytes go; `-` is standard output
     #[arg(short, long, value_name = "FILE")]
     pub output: PathBuf,
+}
+
+#[derive(Args, Debug)]
+pub struct Uplink {
+    #[command(flatten)]
+    pub flight: Flight,
+    /// The bytes of room that the reports have [default: enough for every frame's]
+    #[arg(long, value_name = "BYTES")]
+    pub room: Option<usize>,
+    /// The board begins with this image, instead of the fresh start's
+    #[arg(long, value_name = "FILE", conflicts_with = "after")]
+    pub image: Option<PathBuf>,
+    /// The board begins as it is after this flight
+    #[arg(long, value_name = "FLIGHT")]
+    pub after: Option<PathBuf>,
+    /// Where the image goes that the board ends with
+    #[arg(short, long, value_name = "FILE")]
+    pub output: Option<PathBuf>,
 }
 
 #[derive(Args, Debug)]

@@ -1,12 +1,14 @@
 //! `ems image`: a board's image in words.
 
 use crate::args;
+use crate::board::Board;
 use crate::failure::{Failure, USAGE};
 use crate::flight::Flight;
-use crate::image::{fields, Image, BYTES};
+use crate::image::{fields, Field, Image, BYTES};
 use crate::output::Output;
 use crate::source;
 use crate::words::{count, hex, thousands, visible};
+use ems::Craft;
 use std::io::{self, Write};
 use std::path::Path;
 
@@ -25,26 +27,36 @@ fn read(file: &Path, is_hex: bool) -> Result<(), Failure> {
         true => unhexed(&name, &content)?,
         false => content,
     };
-    let Some(image) = Image::maybe(&bytes) else {
-        return Err(other_length(&name, &bytes));
-    };
+    let image = Image::maybe(&bytes).ok_or_else(|| other_length(&name, &bytes))?;
     let mut output = Output::standard()?;
     print(&mut output, &image)?;
     output.flush()?;
-    let wrong = |(field, why)| {
-        let number = thousands(u64::from(image.number(&field)));
+    match image.faults().is_empty() {
+        true => Ok(()),
+        false => Err(no_state(&name, &image)),
+    }
+}
+
+/// The board that an image in a file was saved from.
+pub fn board(file: &Path) -> Result<Board, Failure> {
+    let (name, bytes) = source::whole(file)?;
+    let image = Image::maybe(&bytes).ok_or_else(|| other_length(&name, &bytes))?;
+    let craft = Craft::from_image(&bytes);
+    craft.map(Board::of).ok_or_else(|| no_state(&name, &image))
+}
+
+/// Why an image is no state's: all that is wrong with it.
+fn no_state(name: &str, image: &Image) -> Failure {
+    let wrong = |(field, why): &(Field, String)| {
+        let number = thousands(u64::from(image.number(field)));
         format!(
             "{name}: no state has this image: {} is {number}, {why}",
             field.name
         )
     };
-    let messages: Vec<String> = image.faults().iter().cloned().map(wrong).collect();
-    match messages.is_empty() {
-        true => Ok(()),
-        false => Err(Failure {
-            status: USAGE,
-            messages,
-        }),
+    Failure {
+        status: USAGE,
+        messages: image.faults().iter().map(wrong).collect(),
     }
 }
 

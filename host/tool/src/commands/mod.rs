@@ -11,3 +11,4 @@ pub mod log;
 pub mod plot;
 pub mod read;
 pub mod show;
+pub mod uplink;

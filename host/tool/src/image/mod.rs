@@ -34,6 +34,11 @@ impl Image {
         bytes.try_into().ok().map(Image)
     }
 
+    /// All of its bytes.
+    pub fn whole(&self) -> &[u8; BYTES] {
+        &self.0
+    }
+
     /// A field's own bytes.
     pub fn bytes(&self, field: &Field) -> &[u8] {
         &self.0[field.at..field.at + field.bytes]

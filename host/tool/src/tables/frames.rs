@@ -220,6 +220,11 @@ pub fn timed(frame: &[u8]) -> Option<Module> {
     }
 }
 
+/// The numbers of those who send orders.
+pub fn origins() -> impl Iterator<Item = u8> {
+    ORIGINS.into_iter().map(|(number, _)| number)
+}
+
 /// The name of a sender, if there is one with this number.
 pub fn origin(number: u8) -> Option<&'static str> {
     let named = ORIGINS.iter().find(|row| row.0 == number);

@@ -6,7 +6,8 @@ mod frames;
 mod names;
 
 pub use frames::{
-    kind_of, origin, shorts, timed, Field, Kind, Written, BATTERY, KINDS, ORDER, TICK, TIMED,
+    kind_of, origin, origins, shorts, timed, Field, Kind, Written, BATTERY, KINDS, ORDER, TICK,
+    TIMED,
 };
 pub use names::{answer, beacon, loses_the_cut, meaning, mode};
 
