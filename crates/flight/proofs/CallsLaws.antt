@@ -1,80 +1,49 @@
 -- Laws of the calls: what each makes of an image that has a state or none, and an answer by its number and count.
 -- Assumes nothing.
-use Prim.Native.Nat.{ℕ}
+use Prim.Native.Nat.{ℕ, _<_}
 use mathlib.Core.Path.{_≡_, refl, sym, ap, _∙_}
 use mathlib.Core.Bool.{Bool, true, false, not, true≢false, false≢true}
 use mathlib.Core.List.{List}
+use native.Mathlib.Omega.{arith}
 use lib.Dec.{T}
 use Rattle.basics.specs.Choice.{within}
 use Rattle.basics.specs.Outcome.{Outcome, outcome, Reply, reply}
-use Rattle.basics.proofs.ChoiceLaws.{is-true}
+use Rattle.basics.proofs.ChoiceLaws.{is-true, holds}
 use Rattle.hearing.specs.Reading.{Read, readReply}
 use Rattle.hearing.specs.declared.reading.Heard.{Heard}
 use Rattle.frames.specs.Answer.{answerNumber, isReported}
 use Rattle.frames.specs.declared.answer.Answer.{Answer}
 use Rattle.frames.specs.declared.answer.Answer.the-variants as answer
 use Rattle.supervisor.specs.Range.{inRange}
-use Rattle.supervisor.specs.Act.{actOf}
-use Rattle.supervisor.specs.Step.{stepOf, refused}
+use Rattle.supervisor.specs.Step.{stepOf}
 use Rattle.supervisor.specs.History.{Call, called}
 use Rattle.supervisor.specs.declared.step.Stepped.{Stepped}
 use Rattle.supervisor.specs.declared.state.State.{State}
-use Rattle.supervisor.proofs.TickLaws.{ticked-done}
-use Rattle.supervisor.proofs.CommandLaws.{act-answers, unrefused}
-use Rattle.supervisor.proofs.HistoryLaws.{Comes, stopped, ticking, other, comes, called-in-range}
+use Rattle.supervisor.proofs.HistoryLaws.{called-in-range}
+use Rattle.supervisor.proofs.StepLaws.{step-outside, reported-valid, refused-left}
+use Rattle.pass.specs.Pass.{passOf}
+use Rattle.pass.specs.declared.Passed.{Passed}
+use Rattle.pass.proofs.PassLaws.{pass-outside, pass-keeps-range}
+use Rattle.pass.proofs.Flight.{pass-idle}
 use Rattle.beacon.specs.Writing.{beaconOf}
 use Rattle.beacon.specs.declared.text.Form.{Form}
 use Rattle.beacon.specs.declared.writing.Written.the-variants.{BadState}
 use Rattle.beacon.proofs.WritingLaws.{beacon-outside}
 use Rattle.flight.specs.Saving.{saved}
 use Rattle.flight.specs.Loading.{hasLayout, decoded, loaded}
-use Rattle.flight.specs.Calls.{imaged, badState, steppedTo, stepImage, beaconImage, replied, ReadReplied}
+use Rattle.flight.specs.Calls.{imaged, badState, steppedTo, stepImage, passedTo, passImage, beaconImage, replied, ReadReplied}
 use Rattle.flight.proofs.FieldsLaws.{AllBytes}
 use Rattle.flight.proofs.LoadingLaws.{layout, saved-decoded}
-
--- a report is written with every answer but the refusals 1 to 7
-reported-number : (a : Answer) → isReported a ≡ not (within 1 7 (answerNumber a))
-reported-number answer.Done = refl
-reported-number answer.BadState = refl
-reported-number answer.ShortRoom = refl
-reported-number answer.NoInput = refl
-reported-number answer.UnknownKind = refl
-reported-number answer.BadLength = refl
-reported-number answer.BadField = refl
-reported-number answer.NotPermitted = refl
-reported-number answer.Repeat = refl
-reported-number answer.Stale = refl
-reported-number answer.NotNow = refl
-
--- a call that is answered with a report found its state in range; any other leaves it
-module _ (s : State) (c : Call) where
-  valid-by : Comes s c → isReported (called s c .result .answer) ≡ true → T (inRange s)
-  valid-by (stopped a w) e = absurd (true≢false (sym e ∙ rw (w .leaves) (reported-number a ∙ ap not (is-true (within 1 7 (answerNumber a)) (w .number)))))
-  valid-by (ticking shorts w) e = w .valid
-  valid-by (other f t w) e = w .valid
-
-  reported-valid : isReported (called s c .result .answer) ≡ true → T (inRange s)
-  reported-valid = valid-by (comes s c)
-
-  left-by : Comes s c → isReported (called s c .result .answer) ≡ false → called s c .result .state ≡ s
-  left-by (stopped a w) e = rw (w .leaves)
-  left-by (ticking shorts w) e = absurd (false≢true (sym e ∙ rw (w .leaves, ticked-done shorts s)))
-  left-by (other f t w) e =
-      absurd (false≢true (sym e ∙ rw (w .leaves) (reported-number (actOf f s .answer) ∙ ap not (unrefused f s (actOf f s) (act-answers f s)))))
-
-  refused-left : isReported (called s c .result .answer) ≡ false → called s c .result .state ≡ s
-  refused-left = left-by (comes s c)
-
--- a state out of range is refused with 1
-step-outside : (s : State) (frame room : List ℕ) → inRange s ≡ false → stepOf s frame room ≡ refused answer.BadState s room
-unfolding stepOf
-step-outside s frame room e = simp e
 
 -- bytes of another layout
 module _ (image room : List ℕ) (other : hasLayout image ≡ false) where
   pub step-foreign : (frame : List ℕ) → outcome (imaged badState image) room ≡ stepImage image frame room
   unfolding stepImage loaded
   step-foreign frame = simp other
+
+  pub pass-foreign : (frames : List ℕ) → outcome (imaged (reply badState 0) image) room ≡ passImage image frames room
+  unfolding passImage loaded
+  pass-foreign frames = simp other
 
   pub beacon-foreign : (form : Form) → outcome BadState room ≡ beaconImage form image room
   unfolding beaconImage loaded
@@ -120,11 +89,48 @@ module _ (image room : List ℕ) (own : hasLayout image ≡ true) (s : State) (s
       where
         by-range : (t : Bool) → inRange s ≡ t → outcome (imaged (answerNumber (after .answer)) image) room′ ≡ stepImage image frame room
         by-range true e =
-            let same : after .state ≡ s = ap (λ o. o .result .state) steps ∙ refused-left s call (answers ∙ refusal) in
+            let same : after .state ≡ s = ap (λ (o : Outcome Stepped). o .result .state) (steps ∙ refused-left s call (answers ∙ refusal)) in
             let kept : saved (after .state) ≡ image = ap saved (same ∙ says) ∙ saved-decoded image small (layout image own) in
             ap (λ l. outcome (imaged (answerNumber (after .answer)) l) room′) (sym kept) ∙ ap steppedTo steps ∙ simp (own, sym says, e)
         by-range false e =
             ap (λ o. outcome (imaged (answerNumber (o .result .answer)) image) (o .room)) (steps ∙ step-outside s frame room e) ∙ simp (own, sym says, e)
+
+  module _ (frames : List ℕ) (after : Passed) (room′ : List ℕ) (flies : outcome after room′ ≡ passOf s frames room) where
+    counts : after .reported ≡ passOf s frames room .result .reported
+    counts = ap (λ (o : Outcome Passed). o .result .reported) flies
+
+    -- with a report or more, the state is in range before and after, and the image becomes that of the state after
+    module _ (some : 0 < after .reported) where
+      begins : inRange s ≡ true
+      begins = by-range (inRange s) refl
+        where
+          by-range : (t : Bool) → inRange s ≡ t → inRange s ≡ true
+          by-range true e = e
+          by-range false e = absurd (omega (arith, counts, ap (λ (o : Outcome Passed). o .result .reported) (pass-outside s frames room e)))
+
+      pub pass-in-range : inRange (after .state) ≡ true
+      pass-in-range =
+          ap (λ (o : Outcome Passed). inRange (o .result .state)) flies
+          ∙ is-true (inRange (passOf s frames room .result .state)) (pass-keeps-range s frames room (holds (inRange s) begins))
+
+      pub pass-worked : outcome (imaged (reply (answerNumber (after .answer)) (after .reported)) (saved (after .state))) room′ ≡ passImage image frames room
+      unfolding passImage loaded
+      pass-worked = ap passedTo flies ∙ simp (own, sym says, begins)
+
+    -- with none, the image stays
+    pub pass-idles :
+        AllBytes image → after .reported ≡ 0 → outcome (imaged (reply (answerNumber (after .answer)) (after .reported)) image) room′ ≡ passImage image frames room
+    unfolding passImage loaded
+    pass-idles small none = by-range (inRange s) refl
+      where
+        by-range : (t : Bool) → inRange s ≡ t → outcome (imaged (reply (answerNumber (after .answer)) (after .reported)) image) room′ ≡ passImage image frames room
+        by-range true e =
+            let same : after .state ≡ s = ap (λ (o : Outcome Passed). o .result .state) flies ∙ pass-idle s (record { input = frames; room = room }) (sym counts ∙ none) in
+            let kept : saved (after .state) ≡ image = ap saved (same ∙ says) ∙ saved-decoded image small (layout image own) in
+            ap (λ l. outcome (imaged (reply (answerNumber (after .answer)) (after .reported)) l) room′) (sym kept) ∙ ap passedTo flies ∙ simp (own, sym says, e)
+        by-range false e =
+            ap (λ (o : Outcome Passed). outcome (imaged (reply (answerNumber (o .result .answer)) (o .result .reported)) image) (o .room)) (flies ∙ pass-outside s frames room e)
+            ∙ simp (own, sym says, e)
 
 -- an answer by its number and its count
 pub replied-by : {Answer : Type 0} (by : Answer → Reply) {answer : Answer} {n k : ℕ} {room : List ℕ} {o : Outcome Answer}

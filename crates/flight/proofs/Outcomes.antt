@@ -20,13 +20,13 @@ use Rattle.flight.proofs.calls.ems_read as ems-read
 use Rattle.flight.proofs.calls.ems_read.Reads as ems-read-reads
 
 pub ems-fresh-one : OneOutcome ems-fresh.ended ems-fresh-reads.Asked ems-fresh-reads.Learnt
-ems-fresh-one = record { taken = λ κs a. tt; one = λ κs a x y p q i. ((p ∙ sym q) i .number, ((p ∙ sym q) i .image, tt)) }
+ems-fresh-one = record { taken = λ κs a. tt; one = λ κs a x y p q i. ((p ∙ sym q) i .answer, ((p ∙ sym q) i .image, tt)) }
 
 pub ems-step-one : OneOutcome ems-step.ended ems-step-reads.Asked ems-step-reads.Learnt
 ems-step-one =
     record {
       taken = λ κs a. tt;
-      one = λ κs a x y p q i. ((p ∙ sym q) i .result .number, ((p ∙ sym q) i .result .image, (tt, ((p ∙ sym q) i .room, tt))));
+      one = λ κs a x y p q i. ((p ∙ sym q) i .result .answer, ((p ∙ sym q) i .result .image, (tt, ((p ∙ sym q) i .room, tt))));
     }
 
 pub ems-beacon-basic-one : OneOutcome ems-beacon-basic.ended ems-beacon-basic-reads.Asked ems-beacon-basic-reads.Learnt

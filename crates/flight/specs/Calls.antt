@@ -7,7 +7,7 @@ use mathlib.Core.Option.{Option, none, some}
 use lib.Dec.{eqb}
 use lib.ListN.{length}
 use Rattle.basics.specs.Choice.{if_then_else_}
-use Rattle.basics.specs.Outcome.{Outcome, outcome, Reply}
+use Rattle.basics.specs.Outcome.{Outcome, outcome, Reply, reply}
 use Rattle.hearing.specs.Reading.{Read, readReply}
 use Rattle.hearing.specs.declared.reading.Heard.{Heard}
 use Rattle.frames.specs.Answer.{answerNumber}
@@ -16,6 +16,8 @@ use Rattle.supervisor.specs.Fresh.{freshState}
 use Rattle.supervisor.specs.Step.{stepOf}
 use Rattle.supervisor.specs.declared.state.State.{State}
 use Rattle.supervisor.specs.declared.step.Stepped.{Stepped}
+use Rattle.pass.specs.Pass.{passOf}
+use Rattle.pass.specs.declared.Passed.{Passed}
 use Rattle.beacon.specs.Writing.{beaconOf}
 use Rattle.beacon.specs.declared.text.Form.{Form}
 use Rattle.beacon.specs.declared.writing.Written.{Written}
@@ -23,37 +25,52 @@ use Rattle.beacon.specs.declared.writing.Written.the-variants.{BadState}
 use Rattle.flight.specs.Saving.{imageBytes, saved}
 use Rattle.flight.specs.Loading.{loaded}
 
--- the number that a call answers, and the later content of the image
-pub record Imaged : Type 0 where
-  pub number : ℕ
+-- what a call answers, and the later content of the image
+pub record Imaged (Answer : Type 0) : Type 0 where
+  pub answer : Answer
   pub image : List ℕ
 
 -- from its two parts
-abbrev pub imaged : (number : ℕ) → (image : List ℕ) → Imaged
-imaged number image = record { number = number; image = image }
+abbrev pub imaged : {Answer : Type 0} → Answer → (image : List ℕ) → Imaged Answer
+imaged answer image = record { answer = answer; image = image }
 
 -- 1: the image is not that of a state in range
 abbrev pub badState : ℕ
 badState = answerNumber answer.BadState
 
 -- the image of the fresh start, into 50 bytes
-unfoldable pub freshImage : (image : List ℕ) → Imaged
+unfoldable pub freshImage : (image : List ℕ) → Imaged ℕ
 freshImage image =
     if eqb (length image) imageBytes then imaged (answerNumber answer.Done) (saved freshState)
     else imaged badState image
 
 -- what a step leaves, as bytes
-abbrev pub steppedTo : Outcome Stepped → Outcome Imaged
+abbrev pub steppedTo : Outcome Stepped → Outcome (Imaged ℕ)
 steppedTo after = outcome (imaged (answerNumber (after .result .answer)) (saved (after .result .state))) (after .room)
 
 -- a step of what was loaded; where that is nothing, image and room stay
-abbrev pub stepLoaded : Option State → (image frame room : List ℕ) → Outcome Imaged
+abbrev pub stepLoaded : Option State → (image frame room : List ℕ) → Outcome (Imaged ℕ)
 stepLoaded none image frame room = outcome (imaged badState image) room
 stepLoaded (some s) image frame room = steppedTo (stepOf s frame room)
 
 -- a step of an image
-unfoldable pub stepImage : (image frame room : List ℕ) → Outcome Imaged
+unfoldable pub stepImage : (image frame room : List ℕ) → Outcome (Imaged ℕ)
 stepImage image frame room = stepLoaded (loaded image) image frame room
+
+-- what a pass leaves, as bytes: the number of why it stopped, how many frames got a report, the image and the room
+abbrev pub passedTo : Outcome Passed → Outcome (Imaged Reply)
+passedTo after =
+    outcome (imaged (reply (answerNumber (after .result .answer)) (after .result .reported)) (saved (after .result .state)))
+    (after .room)
+
+-- a pass from what was loaded; where that is nothing, image and room stay
+abbrev pub passLoaded : Option State → (image frames room : List ℕ) → Outcome (Imaged Reply)
+passLoaded none image frames room = outcome (imaged (reply badState 0) image) room
+passLoaded (some s) image frames room = passedTo (passOf s frames room)
+
+-- a pass from an image
+unfoldable pub passImage : (image frames room : List ℕ) → Outcome (Imaged Reply)
+passImage image frames room = passLoaded (loaded image) image frames room
 
 -- the beacon's text of what was loaded; where that is nothing, the room stays
 abbrev pub beaconLoaded : Form → Option State → (room : List ℕ) → Outcome Written

@@ -6,7 +6,6 @@ use mathlib.Core.Bool.{Bool, true, false, false≢true, true≢false}
 use mathlib.Core.List.{List, [], _∷_, _++_}
 use native.Mathlib.Nat.{zero-add}
 use native.Mathlib.Omega.{arith}
-use lib.Dec.{T}
 use lib.ListN.{length, take, drop, length-append, length-drop}
 use lib.Seq.{length-take-le, drop-append-add, drop-append-le}
 use Rattle.basics.specs.Outcome.{Outcome}
@@ -22,13 +21,12 @@ use Rattle.supervisor.specs.Range.{inRange}
 use Rattle.supervisor.specs.Step.{stepOf}
 use Rattle.supervisor.specs.declared.state.State.{State}
 use Rattle.supervisor.specs.declared.step.Stepped.{Stepped}
-use Rattle.supervisor.proofs.HistoryLaws.{called-in-range}
 use Rattle.supervisor.proofs.StepLaws.{step-written, reported-read}
 use Rattle.pass.specs.Pass.{framesIn, stopped, ahead, inOrder, passOf}
 use Rattle.pass.specs.Cutting.{thenPass, Cutting}
 use Rattle.pass.specs.declared.Passed.{Passed}
 use Rattle.pass.proofs.FramesLaws.{restOf, frames-none, frames-first}
-use Rattle.pass.proofs.PassLaws.{ahead-both, order-follows, order-stops}
+use Rattle.pass.proofs.PassLaws.{ahead-both, order-follows, order-stops, order-in-range}
 
 -- a frame of those in order that stops them gives an answer that is not 0
 reported-if-all :
@@ -95,24 +93,6 @@ frames-append :
 frames-append zero s input more room h done = absurd (omega arith)
 frames-append (suc n) s input more room h done =
     next-frames input more s room (λ s′ room′ less done′. frames-append n s′ (restOf input) more room′ (omega arith) done′) done
-
--- frames in order keep the state in range
-next-in-range :
-    (frame : List ℕ) (frames : List (List ℕ)) (s : State) (room : List ℕ) → T (inRange s) →
-    ((s′ : State) (room′ : List ℕ) → T (inRange s′) → T (inRange (inOrder s′ frames room′ .result .state))) →
-    T (inRange (inOrder s (frame ∷ frames) room .result .state))
-next-in-range frame frames s room v others = by-answer (isReported (stepOf s frame room .result .answer)) refl
-  where
-    by-answer : (t : Bool) → isReported (stepOf s frame room .result .answer) ≡ t → T (inRange (inOrder s (frame ∷ frames) room .result .state))
-    by-answer true e =
-        rw (order-follows s frame frames room e)
-        (others (stepOf s frame room .result .state) (drop reportBytes (stepOf s frame room .room)) (called-in-range s (record { input = frame; room = room }) v))
-    by-answer false e = rw (order-stops s frame frames room e) v
-
-order-in-range : (frames : List (List ℕ)) (s : State) (room : List ℕ) → T (inRange s) → T (inRange (inOrder s frames room .result .state))
-unfolding inOrder
-order-in-range [] s room v = v
-order-in-range (frame ∷ frames) s room v = next-in-range frame frames s room v (λ s′ room′ v′. order-in-range frames s′ room′ v′)
 
 pub cutting : Cutting
 unfolding passOf

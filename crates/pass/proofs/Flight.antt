@@ -12,9 +12,10 @@ use Rattle.supervisor.specs.Range.{inRange}
 use Rattle.supervisor.specs.History.{after, Roomy}
 use Rattle.supervisor.specs.declared.state.State.{State}
 use Rattle.supervisor.proofs.HistoryLaws.{after-append, roomy-append, take-roomy}
-use Rattle.pass.specs.Pass.{framesIn, passOf}
+use Rattle.pass.specs.Pass.{framesIn}
 use Rattle.pass.specs.Single.{inputsOf}
 use Rattle.pass.specs.Flight.{Pass, passed, afterPasses, singles, callsOf, flown, PassesFly}
+use Rattle.pass.proofs.PassLaws.{pass-outside}
 use Rattle.pass.proofs.Single.{as-single-calls}
 
 inputs-singles : (frames : List (List ℕ)) → inputsOf (singles frames) ≡ frames
@@ -27,8 +28,7 @@ roomy-singles (frame ∷ frames) = (le-refl reportBytes, roomy-singles frames)
 
 -- a pass from a state out of range leaves it
 outside : (s : State) (p : Pass) → inRange s ≡ false → passed s p .result .state ≡ after s (callsOf s p)
-unfolding passOf
-outside s p e = rw e
+outside s p e = rw (pass-outside s (p .input) (p .room) e)
 
 -- one pass
 pub pass-flies : (s : State) (p : Pass) → passed s p .result .state ≡ after s (callsOf s p)
@@ -39,6 +39,10 @@ pass-flies s p = by-range (inRange s) refl
         as-single-calls s (p .input) (p .room) (singles (framesIn (p .input))) (holds (inRange s) e)
         (inputs-singles (framesIn (p .input))) (roomy-singles (framesIn (p .input))) .state
     by-range false e = outside s p e
+
+-- a pass that does nothing leaves the state
+pub pass-idle : (s : State) (p : Pass) → passed s p .result .reported ≡ 0 → passed s p .result .state ≡ s
+pass-idle s p e = rw e at (pass-flies s p)
 
 pub passes-fly : PassesFly
 passes-fly s [] = record { state = refl; roomy = tt }

@@ -2,7 +2,7 @@
 -- Assumes nothing.
 use Prim.Native.Nat.{ℕ, _+_, _-_, _*_, _<_, _≤_}
 use mathlib.Core.Path.{_≡_, refl, ap, sym, _∙_}
-use mathlib.Core.Bool.{true, false}
+use mathlib.Core.Bool.{Bool, true, false}
 use mathlib.Core.List.{List, [], _∷_, _++_, append-assoc, append-nil}
 use native.Mathlib.Nat.{zero-add, add-zero, add-assoc}
 use native.Mathlib.Omega.{arith}
@@ -15,7 +15,7 @@ use Rattle.basics.proofs.PartLaws.{partFrom, lentBack, part-from, lent-back}
 use Rattle.frames.specs.Answer.{isReported}
 use Rattle.frames.specs.Cut.{cutOf, frontBytes, frontOf}
 use Rattle.frames.specs.Kind.{reportBytes}
-use Rattle.frames.specs.declared.answer.Answer.the-variants.{Done}
+use Rattle.frames.specs.declared.answer.Answer.the-variants.{Done, BadState}
 use Rattle.frames.proofs.CutLaws.{length-front, front-within, front-some}
 use Rattle.supervisor.specs.Range.{inRange}
 use Rattle.supervisor.specs.Step.{stepOf}
@@ -56,6 +56,33 @@ module _ (s : State) (frame : List ℕ) (frames : List (List ℕ)) (room : List 
   order-stops e =
       let left = refused-left s (record { input = frame; room = room }) e in
       rw e (ap (λ (o : Outcome Stepped). stopped (o .result .state) (o .result .answer) (o .room)) left)
+
+-- frames in order keep the state in range
+next-in-range :
+    (frame : List ℕ) (frames : List (List ℕ)) (s : State) (room : List ℕ) → T (inRange s) →
+    ((s′ : State) (room′ : List ℕ) → T (inRange s′) → T (inRange (inOrder s′ frames room′ .result .state))) →
+    T (inRange (inOrder s (frame ∷ frames) room .result .state))
+next-in-range frame frames s room v others = by-answer (isReported (stepOf s frame room .result .answer)) refl
+  where
+    by-answer : (t : Bool) → isReported (stepOf s frame room .result .answer) ≡ t → T (inRange (inOrder s (frame ∷ frames) room .result .state))
+    by-answer true e =
+        rw (order-follows s frame frames room e)
+        (others (stepOf s frame room .result .state) (drop reportBytes (stepOf s frame room .room)) (called-in-range s (record { input = frame; room = room }) v))
+    by-answer false e = rw (order-stops s frame frames room e) v
+
+pub order-in-range : (frames : List (List ℕ)) (s : State) (room : List ℕ) → T (inRange s) → T (inRange (inOrder s frames room .result .state))
+unfolding inOrder
+order-in-range [] s room v = v
+order-in-range (frame ∷ frames) s room v = next-in-range frame frames s room v (λ s′ room′ v′. order-in-range frames s′ room′ v′)
+
+-- a pass from a state out of range is refused with 1; from one in range it leaves one in range
+pub pass-outside : (s : State) (input room : List ℕ) → inRange s ≡ false → passOf s input room ≡ stopped s BadState room
+unfolding passOf
+pass-outside s input room e = rw e
+
+pub pass-keeps-range : (s : State) (input room : List ℕ) → T (inRange s) → T (inRange (passOf s input room .result .state))
+unfolding passOf
+pass-keeps-range s input room v = rw (is-true (inRange s) v) (order-in-range (framesIn input) s room v)
 
 -- two stretches are one
 pub ahead-both :

@@ -32,7 +32,7 @@ flies-from : (cs : List Call) (s : State) → T (inRange s) → Eight s → (c :
     stepImage (imageAfter (saved s) cs) (c .input) (c .room) ≡ steppedTo (called (after s cs) c)
 flies-from [] s h n c = one-call s h n c
 flies-from (b ∷ cs) s h n c =
-    ap (λ (o : Outcome Imaged). stepImage (imageAfter (o .result .image) cs) (c .input) (c .room)) (one-call s h n b)
+    ap (λ (o : Outcome (Imaged ℕ)). stepImage (imageAfter (o .result .image) cs) (c .input) (c .room)) (one-call s h n b)
     ∙ flies-from cs (called s b .result .state) (called-in-range s b h) (called-eight s b n) c
 
 pub image-flies : ImageFlies
