@@ -10,6 +10,8 @@ use Rattle.flight.proofs.calls.ems_fresh as ems-fresh
 use Rattle.flight.proofs.calls.ems_fresh.Reads as ems-fresh-reads
 use Rattle.flight.proofs.calls.ems_step as ems-step
 use Rattle.flight.proofs.calls.ems_step.Reads as ems-step-reads
+use Rattle.flight.proofs.calls.ems_pass as ems-pass
+use Rattle.flight.proofs.calls.ems_pass.Reads as ems-pass-reads
 use Rattle.flight.proofs.calls.ems_beacon_basic as ems-beacon-basic
 use Rattle.flight.proofs.calls.ems_beacon_basic.Reads as ems-beacon-basic-reads
 use Rattle.flight.proofs.calls.ems_beacon_complete as ems-beacon-complete
@@ -27,6 +29,15 @@ ems-step-one =
     record {
       taken = λ κs a. tt;
       one = λ κs a x y p q i. ((p ∙ sym q) i .result .answer, ((p ∙ sym q) i .result .image, (tt, ((p ∙ sym q) i .room, tt))));
+    }
+
+pub ems-pass-one : OneOutcome ems-pass.ended ems-pass-reads.Asked ems-pass-reads.Learnt
+ems-pass-one =
+    record {
+      taken = λ κs a. tt;
+      one = λ κs a x y p q i.
+          let both = (p ∙ sym q) i in
+          (both .result .answer .number, (both .result .image, (tt, (both .room, (both .result .answer .count, tt)))));
     }
 
 pub ems-beacon-basic-one : OneOutcome ems-beacon-basic.ended ems-beacon-basic-reads.Asked ems-beacon-basic-reads.Learnt

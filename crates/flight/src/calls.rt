@@ -63,11 +63,11 @@ pub extern "C" fn ems_pass(
         return Answer::BadState.number();
     }
     let state = decode(image);
-    let after = pass::pass(state, frames, room);
-    let answer = after.answer;
-    *reported = after.reported;
-    if 0 < after.reported {
-        save(after.state, image);
+    let passed = pass::pass(state, frames, room);
+    let answer = passed.answer;
+    *reported = passed.reported;
+    if 0 < passed.reported {
+        save(passed.state, image);
     }
     answer.number()
 }

@@ -21,7 +21,7 @@ impl Front {
         ensures { λ r. ⌜ r ≡ frontBytes self all ⌝ }
     {
         match self {
-            Front::Frame(total) => total,
+            Front::Frame(bytes) => bytes,
             Front::Short => all,
             Front::Unknown => all,
             Front::Empty => all,
