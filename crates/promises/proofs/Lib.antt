@@ -14,6 +14,7 @@ pub mod TwoTick
 pub mod TwoFrames
 pub mod TwoPower
 pub mod TwoCraft
+pub mod Passes
 pub mod Serials
 pub mod WordLaws
 pub mod Requests

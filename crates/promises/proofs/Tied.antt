@@ -6,9 +6,11 @@ pub tied : Tied
 tied =
     record {
       step = λ κs a x. (λ learnt. learnt, λ says. says);
+      pass = λ κs a x. (λ learnt. learnt, λ says. says);
       key = λ κs a x. (λ learnt. learnt, λ says. says);
       read = λ κs a x. (λ learnt. learnt, λ says. says);
       write = λ κs a x. (λ learnt. learnt, λ says. says);
       ems-fresh = λ κs a x. (λ learnt. learnt, λ says. says);
       ems-step = λ κs a x. (λ learnt. learnt, λ says. says);
+      ems-pass = λ κs a x. (λ learnt. learnt, λ says. says);
     }

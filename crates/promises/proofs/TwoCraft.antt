@@ -4,7 +4,7 @@ use Prim.Native.Nat.{ℕ, zero, suc, _+_, _≤_}
 use native.Mathlib.Omega.{arith}
 use mathlib.Core.Path.{_≡_, refl}
 use mathlib.Core.Bool.{true, false}
-use mathlib.Core.List.{List, [], _∷_}
+use mathlib.Core.List.{List}
 use lib.ListN.{take}
 use lib.Dec.{T}
 use Rattle.basics.specs.Choice.{word}
@@ -26,7 +26,7 @@ use Rattle.supervisor.specs.History.{Call, called, after, HasRoom, Roomy, about
 use Rattle.supervisor.specs.State.{moduleAt}
 use Rattle.supervisor.specs.declared.state.State.{State}
 use Rattle.supervisor.proofs.FreshLaws.{fresh-in-range, fresh-requested}
-use Rattle.supervisor.proofs.HistoryLaws.{called-read, called-in-range}
+use Rattle.supervisor.proofs.HistoryLaws.{called-read, called-in-range, take-roomy}
 use Rattle.supervisor.proofs.ModuleLaws.{mission-low}
 use Rattle.promises.specs.TwoCraft.{TwoCraft, AsGood, same, higher, Paired, start, next, shorted, shortsOf, inReach, shortsBorne}
 use Rattle.promises.proofs.TwoModes.{even, number-at-most}
@@ -111,7 +111,7 @@ module _ (i : ℕ) (mission : isMission i ≡ true) where
       record { sturdy = full; sturdy′ = full; lit = λ t. t }
 
 -- the first n calls
-take-paired : {cs ds : List Call} → Paired inReach cs ds → (n : ℕ) → Paired inReach (take n cs) (take n ds)
+pub take-paired : {cs ds : List Call} → Paired inReach cs ds → (n : ℕ) → Paired inReach (take n cs) (take n ds)
 take-paired p zero = start
 take-paired start (suc n) = start
 take-paired (next good p) (suc n) = next good (take-paired p n)

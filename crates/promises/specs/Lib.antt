@@ -1,4 +1,5 @@
 pub mod TwoCraft
+pub mod Passes
 pub mod Serials
 pub mod Numbers
 pub mod InRange

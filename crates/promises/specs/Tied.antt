@@ -6,25 +6,30 @@ use mathlib.Core.Logic.{_↔_}
 use contract.Lifetimes.{Lfts}
 use denote.Triple.Entry.{Args, Res}
 use denote.Triple.Clauses.{Ended, AtExit, atExit}
-use Rattle.basics.specs.Outcome.{outcome}
+use Rattle.basics.specs.Outcome.{outcome, reply}
 use Rattle.basics.specs.OneOutcome.{Leaves}
 use Rattle.supervisor.specs.History.{called}
+use Rattle.pass.specs.Flight.{passed}
 use Rattle.morse.specs.Keying.{keyOf}
 use Rattle.hearing.specs.Reading.{Read}
 use Rattle.beacon.specs.Writing.{beaconOf}
 use Rattle.supervisor.proofs.step.step as step
 use Rattle.supervisor.proofs.step.step.Reads as step-reads
+use Rattle.pass.proofs.pass as pass
+use Rattle.pass.proofs.pass.Reads as pass-reads
 use Rattle.morse.proofs.keying.key as key
 use Rattle.morse.proofs.keying.key.Reads as key-reads
 use Rattle.hearing.proofs.reading.read as read
 use Rattle.hearing.proofs.reading.read.Reads as read-reads
 use Rattle.beacon.proofs.writing.write as write
 use Rattle.beacon.proofs.writing.write.Reads as write-reads
-use Rattle.flight.specs.Calls.{imaged, freshImage, stepImage}
+use Rattle.flight.specs.Calls.{imaged, freshImage, stepImage, passImage}
 use Rattle.flight.proofs.calls.ems_fresh as ems-fresh
 use Rattle.flight.proofs.calls.ems_fresh.Reads as ems-fresh-reads
 use Rattle.flight.proofs.calls.ems_step as ems-step
 use Rattle.flight.proofs.calls.ems_step.Reads as ems-step-reads
+use Rattle.flight.proofs.calls.ems_pass as ems-pass
+use Rattle.flight.proofs.calls.ems_pass.Reads as ems-pass-reads
 
 -- a function's contract says of what a call leaves, its result and the last value of what it was lent, just what a
 -- definition says
@@ -44,6 +49,11 @@ pub record Tied : Type 0 where
       Says step.ended step-reads.Learnt
       (λ κs a x.
       outcome (x .0) (x .1 .1 .1 .0) ≡ called (a .0) (record { input = a .1 .0 .now; room = a .1 .1 .0 .now }))
+  -- pass(state, input, room)
+  pub pass :
+      Says pass.ended pass-reads.Learnt
+      (λ κs a x.
+      outcome (x .0) (x .1 .1 .1 .0) ≡ passed (a .0) (record { input = a .1 .0 .now; room = a .1 .1 .0 .now }))
   -- key(text, units)
   pub key : Says key.ended key-reads.Learnt (λ κs a x. outcome (x .0) (x .1 .1 .0) ≡ keyOf (a .0 .now) (a .1 .0 .now))
   -- read(units, text)
@@ -52,10 +62,15 @@ pub record Tied : Type 0 where
   pub write :
       Says write.ended write-reads.Learnt
       (λ κs a x. outcome (x .0) (x .1 .1 .1 .0) ≡ beaconOf (a .1 .0) (a .0) (a .1 .1 .0 .now))
-  -- ems_fresh(image) and ems_step(image, frame, room), which C calls
+  -- ems_fresh(image), ems_step(image, frame, room) and ems_pass(image, frames, room, reported), which C calls
   pub ems-fresh :
       Says ems-fresh.ended ems-fresh-reads.Learnt (λ κs a x. imaged (x .0) (x .1 .0) ≡ freshImage (a .0 .now))
   pub ems-step :
       Says ems-step.ended ems-step-reads.Learnt
       (λ κs a x.
       outcome (imaged (x .0) (x .1 .0)) (x .1 .1 .1 .0) ≡ stepImage (a .0 .now) (a .1 .0 .now) (a .1 .1 .0 .now))
+  pub ems-pass :
+      Says ems-pass.ended ems-pass-reads.Learnt
+      (λ κs a x.
+      outcome (imaged (reply (x .0) (x .1 .1 .1 .1 .0)) (x .1 .0)) (x .1 .1 .1 .0)
+      ≡ passImage (a .0 .now) (a .1 .0 .now) (a .1 .1 .0 .now))

@@ -10,19 +10,19 @@ use lib.ListN.{take}
 use Rattle.basics.specs.Choice.{within, bit}
 use Rattle.modules.specs.Groups.{isMission}
 use Rattle.supervisor.specs.Fresh.{freshState}
-use Rattle.supervisor.specs.History.{after}
+use Rattle.supervisor.specs.History.{Call, after}
 use Rattle.supervisor.proofs.Rules.{rules}
 use Rattle.promises.specs.TwoCraft.{TwoCraftOf, Better, AsGood, Paired, start, next, same, higher, inReach, shortsBorne}
 use Rattle.promises.proofs.Edge.Flights.{battery, short, comm2, camera, comm2Off, cameraOn, seconds, toRecovery, toSafe, sent, sent-roomy}
 
--- the same frames but for one
+-- the same calls, and the same frames but for one
 module _ (readings : ℕ → Bool) where
-  same-frames : (frames : List (List ℕ)) → Paired readings (sent frames) (sent frames)
-  same-frames [] = start
-  same-frames (f ∷ frames) = next same (same-frames frames)
+  pub same-calls : (cs : List Call) → Paired readings cs cs
+  same-calls [] = start
+  same-calls (c ∷ cs) = next same (same-calls cs)
 
   but-one : {x y : List ℕ} → AsGood readings x y → (first later : List (List ℕ)) → Paired readings (sent (first ++ (x ∷ later))) (sent (first ++ (y ∷ later)))
-  but-one good [] later = next good (same-frames later)
+  but-one good [] later = next good (same-calls (sent later))
   but-one good (f ∷ first) later = next same (but-one good first later)
 
 -- what would hold after two flights that differ in a reading
