@@ -1,11 +1,13 @@
 -- Laws of a mask with a mark above its eight bits, halved a bit at a time: eight turns, and only the mark is left.
 -- Assumes nothing.
-use Prim.Native.Nat.{ℕ, _+_, _/_, _^_, _≤_, _<_}
+use Prim.Native.Nat.{ℕ, zero, suc, _+_, _/_, _%_, _^_, _≤_, _<_}
 use mathlib.Core.Path.{_≡_, ap, sym, _∙_}
 use mathlib.Core.Logic.{⊎-elim}
 use native.Mathlib.Omega.{arith}
 use native.Mathlib.Nat.{eq-or-lt-of-le, le-div-iff-mul-le}
+use lib.Dec.{eqb}
 use lib.Pow.{pow-pos, pow-mono, shr-shr}
+use Rattle.basics.specs.Choice.{bit}
 
 -- what is left after i turns
 abbrev pub marked : (i mask : ℕ) → ℕ
@@ -33,3 +35,18 @@ marked-more i mask rest l h e more =
 pub marked-end : (i mask rest : ℕ) → i ≤ 8 → rest ≡ marked i mask → rest ≡ 1 → i ≡ 8
 marked-end i mask rest l e one =
     ⊎-elim (λ eight. eight) (λ less. absurd (omega (arith, marked-before i mask less, sym e ∙ one))) (eq-or-lt-of-le l)
+
+-- a mask's own bits are the lowest, one after the other
+marked-low : (i mask : ℕ) → i < 8 → marked i mask % 2 ≡ mask / 2 ^ i % 2
+marked-low zero mask h = omega arith
+marked-low (suc zero) mask h = omega arith
+marked-low (suc (suc zero)) mask h = omega arith
+marked-low (suc (suc (suc zero))) mask h = omega arith
+marked-low (suc (suc (suc (suc zero)))) mask h = omega arith
+marked-low (suc (suc (suc (suc (suc zero))))) mask h = omega arith
+marked-low (suc (suc (suc (suc (suc (suc zero)))))) mask h = omega arith
+marked-low (suc (suc (suc (suc (suc (suc (suc zero))))))) mask h = omega arith
+marked-low (suc (suc (suc (suc (suc (suc (suc (suc i)))))))) mask h = absurd (omega arith)
+
+pub marked-bit : (i mask : ℕ) → i < 8 → eqb (marked i mask % 2) 1 ≡ bit i mask
+marked-bit i mask h = ap (λ n. eqb n 1) (marked-low i mask h)

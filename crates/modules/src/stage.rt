@@ -15,19 +15,22 @@ pub fn has(mask: u8, i: usize) -> bool
     if i < 8 { (mask >> i) % 2 == 1 } else { false }
 }
 
-// The modules after one second, given the mask of those allowed and the mask of shorts.
+// The modules after one second, given the mask of those allowed and the mask of shorts. Both masks are halved as it goes:
+// the lowest bit of each is module i's.
 pub fn stage(modules: [Module; 8], allowed: u8, shorts: u8) -> [Module; 8]
     ensures { λ r. ⌜ r ≡ stageOf allowed shorts modules ⌝ }
 {
     let mut next = modules;
     let mut rest = MARK + (shorts as u32);
+    let mut may = allowed;
     let mut i: usize = 0;
     while rest != 1 {
         let m = next[i];
         let power = m.power;
-        let wanted = m.requested & has(allowed, i);
-        next[i] = m.with_power(power.second(wanted, has(shorts, i)));
+        let wanted = m.requested & (may % 2 == 1);
+        next[i] = m.with_power(power.second(wanted, rest % 2 == 1));
         rest = rest / 2;
+        may = may / 2;
         i += 1;
     }
     next
