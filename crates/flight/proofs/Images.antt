@@ -5,17 +5,18 @@ use mathlib.Core.Path.{_≡_, refl}
 use mathlib.Core.Bool.{true}
 use mathlib.Core.List.{List}
 use mathlib.Core.Option.{Option, none, some}
-use Rattle.basics.specs.Outcome.{outcome}
+use Rattle.basics.specs.Outcome.{outcome, reply}
 use Rattle.supervisor.specs.Range.{inRange}
 use Rattle.supervisor.specs.Step.{stepOf}
 use Rattle.supervisor.specs.declared.state.State.{State}
 use Rattle.supervisor.proofs.ModuleLaws.{Eight}
+use Rattle.pass.specs.Pass.{passOf}
 use Rattle.beacon.specs.Writing.{beaconOf}
 use Rattle.beacon.specs.declared.text.Form.{Form}
 use Rattle.beacon.specs.declared.writing.Written.the-variants.{BadState}
 use Rattle.flight.specs.Saving.{saved}
 use Rattle.flight.specs.Loading.{loaded}
-use Rattle.flight.specs.Calls.{imaged, badState, steppedTo, stepImage, beaconImage}
+use Rattle.flight.specs.Calls.{imaged, badState, steppedTo, stepImage, passedTo, passImage, beaconImage}
 use Rattle.flight.proofs.FieldsLaws.{AllBytes}
 use Rattle.flight.proofs.LoadSave.{load-save, save-load, loaded-in-range}
 
@@ -24,6 +25,10 @@ module _ (s : State) (e : inRange s ≡ true) (eight : Eight s) (room : List ℕ
   pub step-image : (frame : List ℕ) → stepImage (saved s) frame room ≡ steppedTo (stepOf s frame room)
   unfolding stepImage
   step-image frame = simp (load-save s e eight)
+
+  pub pass-image : (frames : List ℕ) → passImage (saved s) frames room ≡ passedTo (passOf s frames room)
+  unfolding passImage
+  pass-image frames = simp (load-save s e eight)
 
   pub beacon-image : (form : Form) → beaconImage form (saved s) room ≡ beaconOf form s room
   unfolding beaconImage
@@ -41,6 +46,10 @@ module _ (image room : List ℕ) (small : AllBytes image) (never : (s : State) �
   pub step-bad : (frame : List ℕ) → stepImage image frame room ≡ outcome (imaged badState image) room
   unfolding stepImage
   step-bad frame = simp no-state
+
+  pub pass-bad : (frames : List ℕ) → passImage image frames room ≡ outcome (imaged (reply badState 0) image) room
+  unfolding passImage
+  pass-bad frames = simp no-state
 
   pub beacon-bad : (form : Form) → beaconImage form image room ≡ outcome BadState room
   unfolding beaconImage

@@ -24,4 +24,4 @@ settled = withMode (DeployWait (Settling 0)) freshState
 -- so a tick is done on its bytes, and refused on it
 pub not-from-settled : FliesFrom settled → ⊥
 unfolding rules modulesBytes endsBytes headBytes saved hasLayout endsIn modulesIn decoded loaded stepImage
-not-from-settled says = let e : _≡_ {A = ℕ} 0 1 = ap (λ (o : Outcome (Imaged ℕ)). o .result .answer) (says [] (send quiet)) in omega arith
+not-from-settled says = let e : _≡_ {A = ℕ} 0 1 = ap (λ (o : Outcome (Imaged ℕ)). o .result .answer) (says .frames [] (send quiet)) in omega arith
