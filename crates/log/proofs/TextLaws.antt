@@ -13,6 +13,7 @@ use borrow.Author.Tests.{ltb-true, ltb-false}
 use Rattle.basics.specs.Bytes.{space}
 use Rattle.basics.proofs.ChoiceLaws.{either, decided}
 use Rattle.basics.proofs.Stores.{sets-append}
+use Rattle.basics.proofs.PartLaws.{partFrom, lentBack, part-from, lent-back}
 use Rattle.log.specs.Text.{mostDigits, digitCountUpTo, decimal, hex, spaced, Put}
 use Rattle.io.specs.Digits.{digits, Fewest}
 
@@ -121,14 +122,12 @@ put-one byte at room = record { after = refl; near = omega arith; stored = refl 
 -- bytes copied to the front of what a room has from a place on
 pub put-part :
     (text room part : List ℕ) (at : ℕ) → at + length text ≤ length room →
-    part ≡ take (length text) text ++ drop (length text) (take (length room - at) (drop at room)) →
-    Put text (length text) at room (at + length text) (take at room ++ (part ++ drop (length room - at) (drop at room)))
+    part ≡ take (length text) text ++ drop (length text) (partFrom room at) → Put text (length text) at room (at + length text) (lentBack room at part)
 put-part text room part at h e =
-    let whole : take (length room - at) (drop at room) ≡ drop at room = take-all (length room - at) (drop at room) (rw length-drop (le-refl (length room - at))) in
-    let end : at + (length room - at) ≡ length room = omega arith in
-    let none : drop (length room - at) (drop at room) ≡ [] = rw (drop-drop, end, drop-length) in
     record {
       after = refl;
       near = le-refl (at + length text);
-      stored = rw (e, whole, none, take-length, append-nil, drop-drop, sets-eq text room at h) (sym (append-assoc (take at room) text (drop (at + length text) room)));
+      stored =
+          rw (lent-back room at part, e, part-from room at, take-length, drop-drop, sets-eq text room at h)
+          (sym (append-assoc (take at room) text (drop (at + length text) room)));
     }

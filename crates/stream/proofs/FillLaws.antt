@@ -4,14 +4,15 @@ use Prim.Native.Nat.{ℕ, zero, suc, _+_, _-_, _<_, _≤_}
 use mathlib.Core.Path.{_≡_, refl, ap, sym, _∙_}
 use mathlib.Core.Bool.{Bool}
 use mathlib.Core.Logic.{_⊎_, inl, inr, ⊎-elim}
-use mathlib.Core.List.{List, [], _∷_, _++_, append-assoc, append-nil}
-use native.Mathlib.Nat.{zero-add, add-zero, add-assoc, le-refl}
+use mathlib.Core.List.{List, [], _∷_, _++_, append-assoc}
+use native.Mathlib.Nat.{zero-add, add-zero, add-assoc}
 use native.Mathlib.Omega.{arith}
 use types.Run.{OneOf}
 use denote.Enum.Declared.{tagOf}
-use lib.ListN.{length, take, drop, length-append, length-drop, drop-of-length-le}
-use lib.Seq.{length-take-le, take-all, take-append-add, drop-append-add, drop-drop}
+use lib.ListN.{length, take, drop, length-append, length-drop}
+use lib.Seq.{length-take-le, take-append-add, drop-append-add, drop-drop}
 use Rattle.basics.specs.Outcome.{Outcome, outcome}
+use Rattle.basics.proofs.PartLaws.{partFrom, lentBack, part-from, lent-back}
 use Rattle.log.specs.Entry.{enterOf}
 use Rattle.log.specs.declared.entry.Entered.{Entered}
 use Rattle.log.specs.declared.entry.Entry.{Entry}
@@ -77,30 +78,17 @@ underway-start log bytes ended room =
       rest = simp zero-add;
     }
 
--- what is lent of a slice from a place on, and a room whose part from there on has come back
-abbrev partFrom : (xs : List ℕ) (from : ℕ) → List ℕ
-partFrom xs from = take (length xs - from) (drop from xs)
-
-abbrev lentBack : (room : List ℕ) (from : ℕ) (later : List ℕ) → List ℕ
-lentBack room from later = take from room ++ (later ++ drop (length room - from) (drop from room))
-
 -- one entry: the bytes and the room are parts, and the room's part comes back as it was left
 module _ {log₀ : Log} {bytes : List ℕ} {ended : Bool} {room₀ : List ℕ} {log : Log} {room : List ℕ} {used lines : ℕ}
     (u : Underway log₀ bytes ended room₀ log room used lines) (entered : Entered) (later : List ℕ)
     (k : outcome entered later ≡ enterOf log (partFrom bytes used) ended (partFrom room lines)) where
-  whole : (xs : List ℕ) (from : ℕ) → partFrom xs from ≡ drop from xs
-  whole xs from = take-all (length xs - from) (drop from xs) (rw length-drop (le-refl (length xs - from)))
-
   -- the entry is that of what is left
   entry-left : enterOf log (drop used bytes) ended (drop lines room) ≡ outcome entered later
-  entry-left = sym (rw (whole bytes used, whole room lines) at k)
+  entry-left = sym (rw (part-from bytes used, part-from room lines) at k)
 
   -- the room after it
   room-after : lentBack room lines later ≡ take lines room ++ later
-  room-after =
-      let end : drop (length room - lines) (drop lines room) ≡ [] =
-      drop-of-length-le (drop lines room) {i = length room - lines} (rw length-drop (le-refl (length room - lines))) in
-      rw (end, append-nil)
+  room-after = lent-back room lines later
 
   length-later : length later ≡ length room - lines
   length-later = ap (λ (o : Outcome Entered). length (o .room)) (sym entry-left) ∙ enter-length log (drop used bytes) ended (drop lines room) ∙ length-drop lines room

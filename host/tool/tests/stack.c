@@ -37,6 +37,14 @@ static void step(void) {
         frame("\1\0", 2);
 }
 
+/* The same kinds of frames in one call, up to one that is refused. */
+static void pass(void) {
+    static const uint8_t frames[] = "\1\0\1\xFF\2\x1E\x78\3\1\4\1\0\4\4\1\4\1\0\4\4\1"
+                                    "\5\1\0\5\x1C\xE8\x1B\x58\6\1\0\6\4\0\1\1\0\5\2";
+    static uint8_t reports[20 * EMS_REPORT_BYTES];
+    ems_pass(image, sizeof image, frames, sizeof frames - 1, reports, sizeof reports, &count);
+}
+
 static void nothing(void) {}
 static void fresh(void) { ems_fresh(image, sizeof image); }
 static void basic(void) { ems_beacon_basic(image, sizeof image, text, sizeof text, &count); }
@@ -74,6 +82,7 @@ static void measure(const char *name, void (*call)(void)) {
 int main(void) {
     measure("ems_fresh", fresh);
     measure("ems_step", step);
+    measure("ems_pass", pass);
     measure("ems_beacon_basic", basic);
     measure("ems_beacon_complete", complete);
     measure("ems_key", key);
