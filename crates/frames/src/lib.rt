@@ -1,4 +1,5 @@
-// Frames as they come in: what the bytes say, who sent them, why they are refused, and how a report names them.
+// Frames as they come in: where each ends, what the bytes say, who sent them, why they are refused, and how a report
+// names them.
 pub mod answer;
 pub mod command;
 pub mod cut;
