@@ -2,11 +2,10 @@
 -- Assumes nothing.
 use Prim.Native.Nat.{ℕ, _<_}
 use mathlib.Core.Path.{_≡_, refl, sym, ap, _∙_}
-use mathlib.Core.Bool.{Bool, true, false, not, true≢false, false≢true}
+use mathlib.Core.Bool.{Bool, true, false, not}
 use mathlib.Core.List.{List}
 use native.Mathlib.Omega.{arith}
 use lib.Dec.{T}
-use Rattle.basics.specs.Choice.{within}
 use Rattle.basics.specs.Outcome.{Outcome, outcome, Reply, reply}
 use Rattle.basics.proofs.ChoiceLaws.{is-true, holds}
 use Rattle.hearing.specs.Reading.{Read, readReply}

@@ -60,8 +60,8 @@ stepImage image frame room = stepLoaded (loaded image) image frame room
 -- what a pass leaves, as bytes: the number of why it stopped, how many frames got a report, the image and the room
 abbrev pub passedTo : Outcome Passed → Outcome (Imaged Reply)
 passedTo after =
-    outcome (imaged (reply (answerNumber (after .result .answer)) (after .result .reported)) (saved (after .result .state)))
-    (after .room)
+    let stopped = reply (answerNumber (after .result .answer)) (after .result .reported) in
+    outcome (imaged stopped (saved (after .result .state))) (after .room)
 
 -- a pass from what was loaded; where that is nothing, image and room stay
 abbrev pub passLoaded : Option State → (image frames room : List ℕ) → Outcome (Imaged Reply)

@@ -5,10 +5,10 @@ use native.Mathlib.Nat.{le-refl, pow-suc, not-suc-le-zero, le-div-iff-mul-le, di
 use native.Mathlib.Numerals.{add-one}
 use native.Mathlib.Omega.{arith}
 use mathlib.Core.Path.{_≡_, refl, ap, sym, _∙_}
-use mathlib.Core.List.{List, [], _∷_, _++_, append-assoc, append-nil}
+use mathlib.Core.List.{List, [], _∷_, _++_, append-assoc}
 use lib.Dec.{ltb}
-use lib.ListN.{length, set, take, drop, length-append, length-drop}
-use lib.Seq.{sets-eq, length-sets, take-length, take-all, drop-length, drop-drop}
+use lib.ListN.{length, set, take, drop, length-append}
+use lib.Seq.{sets-eq, length-sets, take-length, drop-drop}
 use borrow.Author.Tests.{ltb-true, ltb-false}
 use Rattle.basics.specs.Bytes.{space}
 use Rattle.basics.proofs.ChoiceLaws.{either, decided}

@@ -15,8 +15,8 @@ pub fn has(mask: u8, i: usize) -> bool
     if i < 8 { (mask >> i) % 2 == 1 } else { false }
 }
 
-// The modules after one second, given the mask of those allowed and the mask of shorts. Both masks are halved as it goes:
-// the lowest bit of each is module i's.
+// The modules after one second, given the mask of those allowed and the mask of shorts. Both masks are halved as it
+// goes: the lowest bit of each is module i's.
 pub fn stage(modules: [Module; 8], allowed: u8, shorts: u8) -> [Module; 8]
     ensures { λ r. ⌜ r ≡ stageOf allowed shorts modules ⌝ }
 {

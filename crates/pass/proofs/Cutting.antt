@@ -2,29 +2,24 @@
 -- Assumes nothing.
 use Prim.Native.Nat.{ℕ, zero, suc, _+_, _*_, _<_, _≤_}
 use mathlib.Core.Path.{_≡_, refl, ap, sym, _∙_}
-use mathlib.Core.Bool.{Bool, true, false, false≢true, true≢false}
+use mathlib.Core.Bool.{Bool, true, false, false≢true}
 use mathlib.Core.List.{List, [], _∷_, _++_}
 use native.Mathlib.Nat.{zero-add}
 use native.Mathlib.Omega.{arith}
-use lib.ListN.{length, take, drop, length-append, length-drop}
+use lib.ListN.{length, take, drop, length-drop}
 use lib.Seq.{length-take-le, drop-append-add, drop-append-le}
-use Rattle.basics.specs.Outcome.{Outcome}
 use Rattle.basics.proofs.ChoiceLaws.{is-true, holds}
 use Rattle.frames.specs.Answer.{isReported}
 use Rattle.frames.specs.Cut.{frontOf}
 use Rattle.frames.specs.Kind.{reportBytes}
-use Rattle.frames.specs.Reading.{readFrame}
-use Rattle.frames.specs.declared.answer.Answer.{Answer}
 use Rattle.frames.specs.declared.answer.Answer.the-variants.{Done}
-use Rattle.frames.proofs.CutLaws.{IsRead, front-append, front-some, length-front, front-within}
+use Rattle.frames.proofs.CutLaws.{front-append, front-some, length-front, front-within}
 use Rattle.supervisor.specs.Range.{inRange}
 use Rattle.supervisor.specs.Step.{stepOf}
 use Rattle.supervisor.specs.declared.state.State.{State}
-use Rattle.supervisor.specs.declared.step.Stepped.{Stepped}
 use Rattle.supervisor.proofs.StepLaws.{step-written, reported-read}
-use Rattle.pass.specs.Pass.{framesIn, stopped, ahead, inOrder, passOf}
+use Rattle.pass.specs.Pass.{framesIn, ahead, inOrder, passOf}
 use Rattle.pass.specs.Cutting.{thenPass, Cutting}
-use Rattle.pass.specs.declared.Passed.{Passed}
 use Rattle.pass.proofs.FramesLaws.{restOf, frames-none, frames-first}
 use Rattle.pass.proofs.PassLaws.{ahead-both, order-follows, order-stops, order-in-range}
 

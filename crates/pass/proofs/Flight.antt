@@ -3,9 +3,8 @@
 use Prim.Native.Nat.{ℕ}
 use mathlib.Core.Path.{_≡_, refl, ap, sym, _∙_}
 use mathlib.Core.Bool.{Bool, true, false}
-use mathlib.Core.List.{List, [], _∷_, _++_}
+use mathlib.Core.List.{List, [], _∷_}
 use native.Mathlib.Nat.{le-refl}
-use lib.ListN.{length}
 use Rattle.basics.proofs.ChoiceLaws.{holds}
 use Rattle.frames.specs.Kind.{reportBytes}
 use Rattle.supervisor.specs.Range.{inRange}
@@ -14,7 +13,7 @@ use Rattle.supervisor.specs.declared.state.State.{State}
 use Rattle.supervisor.proofs.HistoryLaws.{after-append, roomy-append, take-roomy}
 use Rattle.pass.specs.Pass.{framesIn}
 use Rattle.pass.specs.Single.{inputsOf}
-use Rattle.pass.specs.Flight.{Pass, passed, afterPasses, singles, callsOf, flown, PassesFly}
+use Rattle.pass.specs.Flight.{Pass, passed, singles, callsOf, flown, PassesFly}
 use Rattle.pass.proofs.PassLaws.{pass-outside}
 use Rattle.pass.proofs.Single.{as-single-calls}
 
@@ -22,7 +21,7 @@ inputs-singles : (frames : List (List ℕ)) → inputsOf (singles frames) ≡ fr
 inputs-singles [] = refl
 inputs-singles (frame ∷ frames) = ap (λ more. frame ∷ more) (inputs-singles frames)
 
-pub roomy-singles : (frames : List (List ℕ)) → Roomy (singles frames)
+roomy-singles : (frames : List (List ℕ)) → Roomy (singles frames)
 roomy-singles [] = tt
 roomy-singles (frame ∷ frames) = (le-refl reportBytes, roomy-singles frames)
 

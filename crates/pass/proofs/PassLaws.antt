@@ -3,14 +3,14 @@
 use Prim.Native.Nat.{ℕ, _+_, _-_, _*_, _<_, _≤_}
 use mathlib.Core.Path.{_≡_, refl, ap, sym, _∙_}
 use mathlib.Core.Bool.{Bool, true, false}
-use mathlib.Core.List.{List, [], _∷_, _++_, append-assoc, append-nil}
+use mathlib.Core.List.{List, [], _∷_, _++_, append-assoc}
 use native.Mathlib.Nat.{zero-add, add-zero, add-assoc}
 use native.Mathlib.Omega.{arith}
 use lib.Dec.{T}
 use lib.ListN.{length, take, drop, length-append, length-drop, take-append-drop}
 use lib.Seq.{length-take-le, take-append-add, drop-append-add, drop-drop}
 use Rattle.basics.specs.Outcome.{Outcome, outcome}
-use Rattle.basics.proofs.ChoiceLaws.{holds, is-true}
+use Rattle.basics.proofs.ChoiceLaws.{is-true}
 use Rattle.basics.proofs.PartLaws.{partFrom, lentBack, part-from, lent-back}
 use Rattle.frames.specs.Answer.{isReported}
 use Rattle.frames.specs.Cut.{cutOf, frontBytes, frontOf}
@@ -19,7 +19,6 @@ use Rattle.frames.specs.declared.answer.Answer.the-variants.{Done, BadState}
 use Rattle.frames.proofs.CutLaws.{length-front, front-within, front-some}
 use Rattle.supervisor.specs.Range.{inRange}
 use Rattle.supervisor.specs.Step.{stepOf}
-use Rattle.supervisor.specs.History.{Call}
 use Rattle.supervisor.specs.declared.state.State.{State}
 use Rattle.supervisor.specs.declared.step.Stepped.{Stepped}
 use Rattle.supervisor.proofs.HistoryLaws.{called-in-range}
@@ -179,7 +178,9 @@ module _ {s₀ : State} {input room₀ : List ℕ} {s : State} {room : List ℕ}
     frames = rw measures (frames-first left (omega (arith, length-left)))
 
     -- with a report the pass goes on
-    goes-on : isReported (worked .answer) ≡ true → inOrder s (framesIn left) spare ≡ ahead 1 later (inOrder (worked .state) (framesIn (drop (worked .bytes) left)) (drop reportBytes later))
+    goes-on :
+        isReported (worked .answer) ≡ true →
+        inOrder s (framesIn left) spare ≡ ahead 1 later (inOrder (worked .state) (framesIn (drop (worked .bytes) left)) (drop reportBytes later))
     goes-on e = rw (frames, order-follows s (frontOf left) (framesIn (drop (worked .bytes) left)) spare (rw answers e), ← steps)
 
     pub underway-frame :

@@ -5,16 +5,15 @@ use mathlib.Core.Path.{_≡_, refl, ap, sym, _∙_}
 use mathlib.Core.Bool.{Bool, true, false}
 use mathlib.Core.List.{List, [], _∷_, _++_, append-assoc}
 use native.Mathlib.Omega.{arith}
-use borrow.Author.Tests.{leb-true, leb-false, lt-leb}
+use borrow.Author.Tests.{leb-true, leb-false}
 use lib.Dec.{T, leb}
 use lib.ListN.{length, take, drop, length-append, length-drop}
 use lib.Seq.{length-take-le, drop-drop}
-use Rattle.basics.specs.Outcome.{Outcome, outcome, written}
+use Rattle.basics.specs.Outcome.{Outcome}
 use Rattle.basics.proofs.ChoiceLaws.{is-true}
 use Rattle.frames.specs.Answer.{isReported}
 use Rattle.frames.specs.Kind.{reportBytes}
 use Rattle.frames.specs.declared.answer.Answer.{Answer}
-use Rattle.frames.specs.declared.answer.Answer.the-variants.{ShortRoom}
 use Rattle.supervisor.specs.Range.{inRange}
 use Rattle.supervisor.specs.Step.{stepOf, refused}
 use Rattle.supervisor.specs.History.{Call, called, after, Roomy}
@@ -24,7 +23,7 @@ use Rattle.supervisor.proofs.HistoryLaws.{called-in-range}
 use Rattle.supervisor.proofs.StepLaws.{step-written, Alike, step-alike, step-short}
 use Rattle.pass.specs.Pass.{stopped, ahead, inOrder, passOf}
 use Rattle.pass.specs.Single as single
-use Rattle.pass.specs.Single.{inputsOf, AllReported, reportsOf, Stops, Does, AsSingleCalls}
+use Rattle.pass.specs.Single.{inputsOf, reportsOf, Stops, Does, AsSingleCalls}
 use Rattle.pass.specs.declared.Passed.{Passed}
 use Rattle.pass.proofs.PassLaws.{order-follows, order-stops}
 
@@ -85,7 +84,7 @@ module _ (s : State) (c : Call) (cs : List Call) (room : List ℕ) (v : T (inRan
       let refusal = step-short s (c .input) room v short in
       rw (order-stops s (c .input) (inputsOf cs) room (rw refusal refl), refusal) (stopped-does s c cs room (single.Stops.full (λ h. omega arith)))
 
-  pub next-does : Does s (c ∷ cs) room (inOrder s (inputsOf (c ∷ cs)) room)
+  next-does : Does s (c ∷ cs) room (inOrder s (inputsOf (c ∷ cs)) room)
   next-does = by-room (leb reportBytes (length room)) refl
 
 order-does : (cs : List Call) (s : State) (room : List ℕ) → T (inRange s) → Roomy cs → Does s cs room (inOrder s (inputsOf cs) room)

@@ -1,5 +1,5 @@
--- The image flies: what is promised of `step` and `pass` from the fresh state holds of what C calls, from the image that
--- `ems_fresh` writes.
+-- The image flies: what is promised of `step` and `pass` from the fresh state holds of what C calls, from the image
+-- that `ems_fresh` writes.
 -- Assumes nothing.
 use Prim.Native.Nat.{ℕ}
 use mathlib.Core.Path.{_≡_}

@@ -2,21 +2,18 @@
 -- Assumes nothing.
 use Prim.Native.Nat.{ℕ, _-_, _<_, _≤_}
 use mathlib.Core.Path.{_≡_, refl, sym, ap, _∙_}
-use mathlib.Core.Bool.{Bool, true, false, not, true≢false, false≢true}
-use mathlib.Core.List.{List, _++_}
+use mathlib.Core.Bool.{true, false, not, true≢false, false≢true}
+use mathlib.Core.List.{List}
 use native.Mathlib.Omega.{arith}
 use borrow.Author.Tests.{le-leb, lt-leb, leb-true}
 use lib.Dec.{T, leb}
 use lib.ListN.{length, take, drop, length-append, length-drop}
-use Rattle.basics.specs.Choice.{within}
 use Rattle.basics.specs.Outcome.{Outcome}
 use Rattle.basics.proofs.ChoiceLaws.{is-true, either, decided, same-test}
 use Rattle.frames.specs.Answer.{answerNumber, isReported}
 use Rattle.frames.specs.Kind.{reportBytes}
 use Rattle.frames.specs.Reading.{readFrame}
-use Rattle.frames.specs.declared.answer.Answer.{Answer}
 use Rattle.frames.specs.declared.answer.Answer.the-variants.{BadState, ShortRoom}
-use Rattle.frames.specs.declared.frame.Frame.{Frame}
 use Rattle.frames.specs.declared.reading.Reading.{Reading}
 use Rattle.frames.specs.declared.reading.Reading.the-variants.{Refused, Accepted}
 use Rattle.frames.proofs.AnswerLaws.{reported-number, refusal}
@@ -25,9 +22,8 @@ use Rattle.frames.proofs.CutLaws.{IsRead}
 use Rattle.supervisor.specs.Range.{inRange}
 use Rattle.supervisor.specs.Act.{actOf}
 use Rattle.supervisor.specs.Report.{reportOf}
-use Rattle.supervisor.specs.Step.{refused, reported, stepRead, stepOf}
+use Rattle.supervisor.specs.Step.{refused, stepRead, stepOf}
 use Rattle.supervisor.specs.History.{Call, called}
-use Rattle.supervisor.specs.declared.acted.Acted.{Acted}
 use Rattle.supervisor.specs.declared.state.State.{State}
 use Rattle.supervisor.specs.declared.step.Stepped.{Stepped}
 use Rattle.supervisor.proofs.TickLaws.{ticked-done}
@@ -58,11 +54,6 @@ module _ (s : State) (c : Call) where
   -- with none, state and room are the same
   pub refused-left : isReported (called s c .result .answer) ≡ false → called s c ≡ refused (called s c .result .answer) s (c .room)
   refused-left = left-by (comes s c)
-
--- a report has 11 bytes
-pub length-report : (f : Frame) (acted : Acted) → length (reportOf f acted) ≡ reportBytes
-unfolding reportOf
-length-report f acted = refl
 
 -- what a step leaves of the room: where it gets a report, the bytes past its 11 stay
 pub record Written (room : List ℕ) (after : Outcome Stepped) : Type 0 where

@@ -24,7 +24,8 @@ inOnePass missing frames = record { input = flatten frames; room = replicate (re
 pub not-if-second-lacks-a-byte : PassByPassBut 0 1 → ⊥
 unfolding rules framesUpTo framesIn cutOf frontOf inOrder passOf flatten
 not-if-second-lacks-a-byte says =
-    let paired : PairedPasses 0 1 (inOnePass 0 toRecovery) (inOnePass 1 toRecovery) = nextPass (lit≤ tt) (lit≤ tt) (same-calls inReach (singles (framesIn (flatten toRecovery)))) noPass in
+    let paired : PairedPasses 0 1 (inOnePass 0 toRecovery) (inOnePass 1 toRecovery) =
+    nextPass (lit≤ tt) (lit≤ tt) (same-calls inReach (singles (framesIn (flatten toRecovery)))) noPass in
     omega (arith, says (inOnePass 0 toRecovery) (inOnePass 1 toRecovery) paired 1 .mode)
 
 -- the camera's "off" has none on the first, where it stays requested

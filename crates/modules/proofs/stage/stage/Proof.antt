@@ -60,7 +60,14 @@ loop-again c =
       left = ap (λ (r : ℕ). r / 2) (here .loop .inv .left) ∙ marked-next _ _;
       bits = ap (λ (r : ℕ). r / 2) (here .loop .inv .bits) ∙ shr-shr _ _ 1;
       done =
-          simp (c .with-power .ensures, c .before .second .ensures, here .loop .inv .left, here .loop .inv .bits, marked-bit (here .loop .i) (here .before .args .shorts) more, here .loop .inv .done)
+          simp (
+            c .with-power .ensures,
+            c .before .second .ensures,
+            here .loop .inv .left,
+            here .loop .inv .bits,
+            marked-bit (here .loop .i) (here .before .args .shorts) more,
+            here .loop .inv .done,
+          )
           (worked-turn _ _ _ _);
     }
 

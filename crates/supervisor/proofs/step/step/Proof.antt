@@ -42,7 +42,8 @@ write-requires c κs = search needs
 returns-3 : tie.Need-returns-3
 unfolding stepOf
 returns-3 c =
-    simp (valid (c .before .before .before .before .before), le-leb _ _ (c .before .before .before .before .if2 .left), rw (c .before .before .before .read .ensures) at (c .before .reading .given .1))
+    let heard : tie.After-read = c .before .before .before in
+    simp (valid (heard .before .before), le-leb _ _ (heard .before .if2 .left), rw (heard .read .ensures) at (c .before .reading .given .1))
 
 same-length : tie.Need-same-length
 same-length c = search needs
