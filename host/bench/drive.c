@@ -114,7 +114,7 @@ int main(int argc, char **argv)
     FILE *in = argc == 3 ? fopen(argv[1], "rb") : NULL;
     if (!in || fread(file, 1, sizeof file, in) < IMAGE_BYTES + 3) return 1;
     long n = atol(argv[2]);
-    const uint8_t *image = file + 1, *at = image + IMAGE_BYTES;
+    const uint8_t call = file[0], *image = file + 1, *at = image + IMAGE_BYTES;
     unsigned count = two(at), next = 0;
     at += 2;
     for (unsigned i = 0; i < count; i++) {
@@ -131,13 +131,11 @@ int main(int argc, char **argv)
         const uint8_t *bytes = inputs[next].bytes;
         size_t length = inputs[next].length;
         if (++next == count) next = 0;
-        switch (file[0]) {
-        case 's': sum += step(bytes, length, room, 11); break;
-        case 'p': sum += pass(bytes, length, &written); break;
-        case 'o': sum += one_by_one(bytes, length, &written); break;
-        case 'k': sum += KEY(bytes, length, room, sizeof room, &written); break;
-        default: sum += READ(bytes, length, room, sizeof room, &written);
-        }
+        if (call == 's') sum += step(bytes, length, room, 11);
+        else if (call == 'k') sum += KEY(bytes, length, room, sizeof room, &written);
+        else if (call == 'r') sum += READ(bytes, length, room, sizeof room, &written);
+        else if (call == 'p') sum += pass(bytes, length, &written);
+        else sum += one_by_one(bytes, length, &written);
     }
     clock_gettime(CLOCK_MONOTONIC, &end);
     for (size_t i = 0; i < written; i++) sum = sum * 31 + room[i];
