@@ -92,6 +92,11 @@ fn the_readme_s_first_command_is_short() {
 }
 
 #[test]
+fn commands_of_the_readme_give_what_stands_there() {
+    assert!(run_document("README.md") >= 1);
+}
+
+#[test]
 fn commands_of_pass_scripts_give_what_stands_there() {
     assert!(run_document("docs/PASS-SCRIPTS.md") >= 25);
 }
