@@ -1,15 +1,15 @@
 -- Laws of reading: the totals, when the fields of a kind are read, which numbers a refusal has, and what an accepted frame holds.
 -- Assumes nothing.
-use Prim.Native.Nat.{ℕ}
+use Prim.Native.Nat.{ℕ, _<_}
 use native.Mathlib.Omega.{arith}
 use mathlib.Core.Path.{_≡_, refl}
 use mathlib.Core.Bool.{Bool, not, _&&_, false}
 use mathlib.Core.List.{List, [], _∷_}
 use lib.Dec.{T, eqb, leb}
 use lib.ListN.{length}
-use borrow.Author.Tests.{eq-eqb, ne-eqb, eqb-false}
+use borrow.Author.Tests.{eq-eqb, ne-eqb, eqb-true, eqb-false}
 use Rattle.basics.specs.Choice.{within, word}
-use Rattle.basics.proofs.ChoiceLaws.{is-true, holds, either, decided, and-left, and-right, within-low, within-high}
+use Rattle.basics.proofs.ChoiceLaws.{is-true, holds, either, decided, and-left, and-right, within-low, within-high, within-of}
 use Rattle.modules.specs.Groups.{isMission}
 use Rattle.frames.specs.Answer.{answerNumber}
 use Rattle.frames.specs.Kind.{totalOf, tickKind, batteryKind, antennasKind, orderKind, thresholdsKind, timedKind}
@@ -58,33 +58,46 @@ Fits (frame.Battery tension) = T (isReading tension)
 Fits (frame.Antennas deployed) = Unit {0}
 Fits (frame.Command sender command) = FitsCommand sender command
 
--- what is refused has one of the answers 3 to 7, what is accepted has its fields in range
+-- what is refused has an answer from one to 7, what is accepted has its fields in range
+abbrev SoundFrom : (lowest : ℕ) → Reading → Type 0
+SoundFrom lowest (Refused answer) = T (within lowest 7 (answerNumber answer))
+SoundFrom lowest (Accepted f) = Fits f
+
+-- from 3
 abbrev pub Sound : Reading → Type 0
-Sound (Refused answer) = T (within 3 7 (answerNumber answer))
-Sound (Accepted f) = Fits f
+Sound r = SoundFrom 3 r
 
-battery-sound : (bytes : List ℕ) → Sound (batteryFields bytes)
+-- from 4
+abbrev pub SoundPast : Reading → Type 0
+SoundPast r = SoundFrom 4 r
+
+past-sound : (r : Reading) → SoundPast r → Sound r
+past-sound (Refused answer) h =
+    within-of 3 7 (answerNumber answer) (omega (arith, within-low 4 7 (answerNumber answer) h)) (within-high 4 7 (answerNumber answer) h)
+past-sound (Accepted f) h = h
+
+battery-sound : (bytes : List ℕ) → SoundPast (batteryFields bytes)
 unfolding batteryFields
-battery-sound bytes = decided Sound (isReading (wordAt 1 bytes)) (holds (isReading (wordAt 1 bytes))) (λ e. tt)
+battery-sound bytes = decided SoundPast (isReading (wordAt 1 bytes)) (holds (isReading (wordAt 1 bytes))) (λ e. tt)
 
-antennas-sound : (bytes : List ℕ) → Sound (antennasFields bytes)
+antennas-sound : (bytes : List ℕ) → SoundPast (antennasFields bytes)
 unfolding antennasFields
-antennas-sound bytes = either Sound (leb (byteAt 1 bytes) 1) tt tt
+antennas-sound bytes = either SoundPast (leb (byteAt 1 bytes) 1) tt tt
 
-order-sound : (bytes : List ℕ) → Sound (orderFields bytes)
+order-sound : (bytes : List ℕ) → SoundPast (orderFields bytes)
 unfolding orderFields
 order-sound bytes =
-    either Sound (isOrigin (byteAt 1 bytes) && leb (byteAt 4 bytes) lastModule && leb (byteAt 5 bytes) 1)
-    (either Sound (isForeign (byteAt 1 bytes) (byteAt 4 bytes)) tt tt) tt
+    either SoundPast (isOrigin (byteAt 1 bytes) && leb (byteAt 4 bytes) lastModule && leb (byteAt 5 bytes) 1)
+    (either SoundPast (isForeign (byteAt 1 bytes) (byteAt 4 bytes)) tt tt) tt
 
-timed-sound : (bytes : List ℕ) → Sound (timedFields bytes)
+timed-sound : (bytes : List ℕ) → SoundPast (timedFields bytes)
 unfolding timedFields
 timed-sound bytes =
     let origin : Bool = isOrigin (byteAt 1 bytes) in
     let mission : Bool = isMission (byteAt 4 bytes) in
     let fair : Bool = areMinutes (wordAt 5 bytes) in
-    decided Sound (origin && mission && fair)
-    (λ e. either Sound (isForeign (byteAt 1 bytes) (byteAt 4 bytes)) tt
+    decided SoundPast (origin && mission && fair)
+    (λ e. either SoundPast (isForeign (byteAt 1 bytes) (byteAt 4 bytes)) tt
     (record {
       mission = and-right origin mission (and-left (origin && mission) fair (holds (origin && mission && fair) e));
       minutes = and-right (origin && mission) fair (holds (origin && mission && fair) e);
@@ -98,33 +111,41 @@ origin-ground byte h e =
     omega (arith, within-low groundOrigin payloadOrigin byte h, within-high groundOrigin payloadOrigin byte h, eqb-false byte payloadOrigin e) in
     simp (eq-eqb byte groundOrigin low)
 
-thresholds-sound : (bytes : List ℕ) → Sound (thresholdsFields bytes)
+thresholds-sound : (bytes : List ℕ) → SoundPast (thresholdsFields bytes)
 unfolding thresholdsFields
 thresholds-sound bytes =
     let origin : ℕ = byteAt 1 bytes in
     let fair : Bool = areThresholds (wordAt 4 bytes) (wordAt 6 bytes) in
-    decided Sound (isOrigin origin && fair)
-    (λ e. decided Sound (eqb origin payloadOrigin) (λ p. tt)
+    decided SoundPast (isOrigin origin && fair)
+    (λ e. decided SoundPast (eqb origin payloadOrigin) (λ p. tt)
     (λ p. record {
       fair = and-right (isOrigin origin) fair (holds (isOrigin origin && fair) e);
       ground = origin-ground origin (and-left (isOrigin origin) fair (holds (isOrigin origin && fair) e)) p;
     }))
     (λ e. tt)
 
-fields-sound : (kind : ℕ) (bytes : List ℕ) → Sound (fieldsOf kind bytes)
+fields-sound : (kind : ℕ) (bytes : List ℕ) → SoundPast (fieldsOf kind bytes)
 fields-sound kind bytes =
-    either Sound (eqb kind tickKind) tt
-    (either Sound (eqb kind batteryKind) (battery-sound bytes)
-    (either Sound (eqb kind antennasKind) (antennas-sound bytes)
-    (either Sound (eqb kind orderKind) (order-sound bytes)
-    (either Sound (eqb kind thresholdsKind) (thresholds-sound bytes) (timed-sound bytes)))))
+    either SoundPast (eqb kind tickKind) tt
+    (either SoundPast (eqb kind batteryKind) (battery-sound bytes)
+    (either SoundPast (eqb kind antennasKind) (antennas-sound bytes)
+    (either SoundPast (eqb kind orderKind) (order-sound bytes)
+    (either SoundPast (eqb kind thresholdsKind) (thresholds-sound bytes) (timed-sound bytes)))))
+
+-- bytes that are some are refused with 4 to 7
+pub some-sound : (bytes : List ℕ) → 0 < length bytes → SoundPast (readFrame bytes)
+unfolding readFrame
+some-sound bytes some =
+    decided SoundPast (eqb (length bytes) 0) (λ none. absurd (omega (arith, eqb-true (length bytes) 0 none)))
+    (λ e. either SoundPast (eqb (totalOf (byteAt 0 bytes)) 0) tt
+    (either SoundPast (eqb (length bytes) (totalOf (byteAt 0 bytes))) (fields-sound (byteAt 0 bytes) bytes) tt))
 
 pub read-sound : (bytes : List ℕ) → Sound (readFrame bytes)
 unfolding readFrame
 read-sound bytes =
     either Sound (eqb (length bytes) 0) tt
     (either Sound (eqb (totalOf (byteAt 0 bytes)) 0) tt
-    (either Sound (eqb (length bytes) (totalOf (byteAt 0 bytes))) (fields-sound (byteAt 0 bytes) bytes) tt))
+    (either Sound (eqb (length bytes) (totalOf (byteAt 0 bytes))) (past-sound (fieldsOf (byteAt 0 bytes) bytes) (fields-sound (byteAt 0 bytes) bytes)) tt))
 
 -- a battery frame in range is read as such
 pub battery-read :

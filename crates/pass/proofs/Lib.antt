@@ -3,5 +3,6 @@ pub mod PassLaws
 pub mod Single
 pub mod Flight
 pub mod Cutting
+pub mod NeverThree
 pub mod Edge
 pub mod Outcomes

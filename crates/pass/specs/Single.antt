@@ -10,7 +10,7 @@ use Rattle.basics.specs.Outcome.{Outcome, written}
 use Rattle.frames.specs.Answer.{isReported}
 use Rattle.frames.specs.Kind.{reportBytes}
 use Rattle.frames.specs.declared.answer.Answer.{Answer}
-use Rattle.frames.specs.declared.answer.Answer.the-variants.{Done, ShortRoom}
+use Rattle.frames.specs.declared.answer.Answer.the-variants.{Done, ShortRoom, NoInput}
 use Rattle.supervisor.specs.Range.{inRange}
 use Rattle.supervisor.specs.History.{Call, called, after, Roomy}
 use Rattle.supervisor.specs.declared.state.State.{State}
@@ -57,3 +57,7 @@ abbrev pub AsSingleCalls : Type 0
 AsSingleCalls =
     (s : State) (input room : List ℕ) (cs : List Call) → T (inRange s) → inputsOf cs ≡ framesIn input → Roomy cs →
     Does s cs room (passOf s input room)
+
+-- 3 is never given
+abbrev pub NeverThree : Type 0
+NeverThree = (s : State) (input room : List ℕ) → passOf s input room .result .answer ≡ NoInput → ⊥
