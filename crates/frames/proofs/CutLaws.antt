@@ -2,6 +2,7 @@
 -- Assumes nothing.
 use Prim.Native.Nat.{ℕ, zero, suc, _<_, _≤_}
 use mathlib.Core.Path.{_≡_, refl, sym, _∙_}
+use mathlib.Core.Bool.{true, false≢true}
 use mathlib.Core.List.{List, [], _∷_, _++_}
 use native.Mathlib.Nat.{le-refl}
 use native.Mathlib.Omega.{arith}
@@ -14,9 +15,9 @@ use Rattle.frames.specs.Kind.{totalOf}
 use Rattle.frames.specs.Reading.{byteAt, readFrame}
 use Rattle.frames.specs.Cut.{cutOf, frontBytes, frontOf}
 use Rattle.frames.specs.declared.reading.Reading.{Reading}
-use Rattle.frames.specs.declared.reading.Reading.the-variants.{Refused, Accepted}
 use Rattle.frames.specs.declared.cut.Front.{Front}
 use Rattle.frames.specs.declared.cut.Front.the-variants.{Frame, Short, Unknown, Empty}
+use Rattle.frames.proofs.ReadingLaws.{isAccepted}
 
 -- a front is what the cut says of so many bytes
 abbrev pub FrontWithin : Front → (bytes : ℕ) → Type 0
@@ -59,23 +60,19 @@ length-front bytes = length-take-le (frontBytes (cutOf bytes) (length bytes)) by
 pub front-some : (bytes : List ℕ) → 0 < length bytes → 0 < length (frontOf bytes)
 front-some bytes h = rw (length-front bytes) (some (cutOf bytes) (length bytes) (cut-within bytes) h)
 
--- bytes that are read are a whole frame
-abbrev pub IsRead : Reading → Type 0
-IsRead (Refused answer) = ⊥
-IsRead (Accepted f) = Unit {0}
-
+-- bytes that are accepted are a whole frame
 record Whole (bytes : List ℕ) : Type 0 where
   known : 0 < totalOf (byteAt 0 bytes)
   all : length bytes ≡ totalOf (byteAt 0 bytes)
 
-read-whole : (bytes : List ℕ) → IsRead (readFrame bytes) → Whole bytes
+accepted-whole : (bytes : List ℕ) → isAccepted (readFrame bytes) ≡ true → Whole bytes
 unfolding readFrame
-read-whole bytes =
+accepted-whole bytes =
     let total = totalOf (byteAt 0 bytes) in
-    decided (λ (r : Reading). IsRead r → Whole bytes) (eqb (length bytes) 0) (λ t r. absurd r) λ some.
-    decided (λ (r : Reading). IsRead r → Whole bytes) (eqb total 0) (λ t r. absurd r) λ known.
-    decided (λ (r : Reading). IsRead r → Whole bytes) (eqb (length bytes) total)
-    (λ same r. record { known = omega (arith, eqb-false total 0 known); all = eqb-true (length bytes) total same }) (λ t r. absurd r)
+    decided (λ (r : Reading). isAccepted r ≡ true → Whole bytes) (eqb (length bytes) 0) (λ t e. absurd (false≢true e)) λ some.
+    decided (λ (r : Reading). isAccepted r ≡ true → Whole bytes) (eqb total 0) (λ t e. absurd (false≢true e)) λ known.
+    decided (λ (r : Reading). isAccepted r ≡ true → Whole bytes) (eqb (length bytes) total)
+    (λ same r. record { known = omega (arith, eqb-false total 0 known); all = eqb-true (length bytes) total same }) (λ t e. absurd (false≢true e))
 
 -- a whole frame at the front
 whole-front : (kind : ℕ) (fields : List ℕ) → 0 < totalOf kind → totalOf kind ≤ length (kind ∷ fields) → frontOf (kind ∷ fields) ≡ take (totalOf kind) (kind ∷ fields)
@@ -88,13 +85,13 @@ kind-front : (n kind : ℕ) (fields : List ℕ) → 0 < n → byteAt 0 (take n (
 kind-front zero kind fields h = absurd (omega arith)
 kind-front (suc n) kind fields h = refl
 
--- what follows a frame that is read doesn't change it
-pub front-append : (bytes more : List ℕ) → IsRead (readFrame (frontOf bytes)) → frontOf (bytes ++ more) ≡ frontOf bytes
+-- what follows a frame that is accepted doesn't change it
+pub front-append : (bytes more : List ℕ) → isAccepted (readFrame (frontOf bytes)) ≡ true → frontOf (bytes ++ more) ≡ frontOf bytes
 unfolding frontOf
-front-append [] more r = absurd (omega (arith, read-whole (frontOf []) r .known, read-whole (frontOf []) r .all, length-front [], front-within []))
+front-append [] more r = absurd (omega (arith, accepted-whole (frontOf []) r .known, accepted-whole (frontOf []) r .all, length-front [], front-within []))
 front-append (kind ∷ fields) more r =
     let bytes = kind ∷ fields in
-    let w = read-whole (frontOf bytes) r in
+    let w = accepted-whole (frontOf bytes) r in
     let same : byteAt 0 (frontOf bytes) ≡ kind = kind-front (frontBytes (cutOf bytes) (length bytes)) kind fields (rw (length-front bytes) at (front-some bytes (omega arith))) in
     let known : 0 < totalOf kind = rw same at (w .known) in
     let total : length (frontOf bytes) ≡ totalOf kind = rw same at (w .all) in

@@ -1,5 +1,5 @@
 pub mod AnswerLaws
-pub mod CutLaws
 pub mod ReadingLaws
+pub mod CutLaws
 pub mod SerialLaws
 pub mod Outcomes

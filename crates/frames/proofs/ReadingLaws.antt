@@ -3,7 +3,7 @@
 use Prim.Native.Nat.{ℕ, _<_}
 use native.Mathlib.Omega.{arith}
 use mathlib.Core.Path.{_≡_, refl}
-use mathlib.Core.Bool.{Bool, not, _&&_, false}
+use mathlib.Core.Bool.{Bool, not, _&&_, true, false}
 use mathlib.Core.List.{List, [], _∷_}
 use lib.Dec.{T, eqb, leb}
 use lib.ListN.{length}
@@ -57,6 +57,11 @@ Fits (frame.Tick shorts) = Unit {0}
 Fits (frame.Battery tension) = T (isReading tension)
 Fits (frame.Antennas deployed) = Unit {0}
 Fits (frame.Command sender command) = FitsCommand sender command
+
+-- a frame that passes checks 3 to 7
+abbrev pub isAccepted : Reading → Bool
+isAccepted (Refused answer) = false
+isAccepted (Accepted f) = true
 
 -- what is refused has an answer from one to 7, what is accepted has its fields in range
 abbrev SoundFrom : (lowest : ℕ) → Reading → Type 0

@@ -17,7 +17,7 @@ use Rattle.frames.proofs.CutLaws.{front-append, front-some, length-front, front
 use Rattle.supervisor.specs.Range.{inRange}
 use Rattle.supervisor.specs.Step.{stepOf}
 use Rattle.supervisor.specs.declared.state.State.{State}
-use Rattle.supervisor.proofs.StepLaws.{step-written, reported-read}
+use Rattle.supervisor.proofs.StepLaws.{step-written, reported-accepted}
 use Rattle.pass.specs.Pass.{framesIn, ahead, inOrder, passOf}
 use Rattle.pass.specs.Cutting.{thenPass, Cutting}
 use Rattle.pass.proofs.FramesLaws.{restOf, frames-none, frames-first}
@@ -75,7 +75,7 @@ next-frames (kind ∷ fields) more s room rest-too done =
     let all : inOrder s (frontOf input ∷ framesIn (restOf input)) room .result .answer ≡ Done = rw first at done in
     let one = stepOf s (frontOf input) room in
     let e = reported-if-all s (frontOf input) (framesIn (restOf input)) room all in
-    let same : frontOf (input ++ more) ≡ frontOf input = front-append input more (reported-read s (frontOf input) room e) in
+    let same : frontOf (input ++ more) ≡ frontOf input = front-append input more (reported-accepted s (frontOf input) room e) in
     let fits : length (frontOf input) ≤ length input = rw (length-front input) (front-within input) in
     let rest : drop (length (frontOf input)) (input ++ more) ≡ restOf input ++ more = drop-append-le (length (frontOf input)) input more fits in
     let less : length (restOf input) < length input = rw (length-drop (length (frontOf input)) input) (omega (arith, front-some input some)) in

@@ -11,7 +11,6 @@ use Rattle.basics.specs.Choice.{within}
 use Rattle.basics.specs.Outcome.{Outcome}
 use Rattle.basics.proofs.ChoiceLaws.{either, within-low}
 use Rattle.frames.specs.Answer.{answerNumber, isReported}
-use Rattle.frames.specs.Cut.{frontOf}
 use Rattle.frames.specs.Kind.{reportBytes}
 use Rattle.frames.specs.Reading.{readFrame}
 use Rattle.frames.specs.declared.answer.Answer.{Answer}

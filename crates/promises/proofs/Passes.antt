@@ -2,7 +2,7 @@
 -- Assumes nothing.
 use Prim.Native.Nat.{ℕ, zero, suc, _+_, _*_, _≤_}
 use native.Mathlib.Omega.{arith}
-use mathlib.Core.Path.{_≡_, refl, ap, _∙_}
+use mathlib.Core.Path.{_≡_, refl}
 use mathlib.Core.Bool.{Bool, true, false, not}
 use mathlib.Core.List.{List, [], _∷_, _++_}
 use lib.Dec.{T}
@@ -11,38 +11,28 @@ use lib.Seq.{take-all}
 use Rattle.basics.specs.Choice.{if_then_else_}
 use Rattle.basics.specs.Outcome.{Outcome}
 use Rattle.basics.proofs.ChoiceLaws.{is-true}
-use Rattle.frames.specs.Answer.{answerNumber, isReported}
+use Rattle.frames.specs.Answer.{isReported}
 use Rattle.frames.specs.Kind.{reportBytes}
 use Rattle.frames.specs.Reading.{readFrame}
-use Rattle.frames.specs.declared.reading.Reading.{Reading}
-use Rattle.frames.specs.declared.reading.Reading.the-variants.{Refused, Accepted}
-use Rattle.frames.proofs.AnswerLaws.{reported-number, refusal}
-use Rattle.frames.proofs.ReadingLaws.{Sound, read-sound, battery-read}
+use Rattle.frames.proofs.ReadingLaws.{isAccepted, read-sound, battery-read}
 use Rattle.supervisor.specs.Range.{inRange}
 use Rattle.supervisor.specs.Fresh.{freshState}
-use Rattle.supervisor.specs.Act.{actOf}
-use Rattle.supervisor.specs.Step.{stepRead}
 use Rattle.supervisor.specs.History.{Call, called}
 use Rattle.supervisor.specs.declared.state.State.{State}
 use Rattle.supervisor.specs.declared.step.Stepped.{Stepped}
-use Rattle.supervisor.proofs.CommandLaws.{act-answers, unrefused}
 use Rattle.supervisor.proofs.FreshLaws.{fresh-in-range}
-use Rattle.supervisor.proofs.HistoryLaws.{wider, called-read, called-in-range, after-in-range}
-use Rattle.supervisor.proofs.StepLaws.{step-written}
+use Rattle.supervisor.proofs.HistoryLaws.{called-read, called-in-range}
+use Rattle.supervisor.proofs.StepLaws.{step-written, read-reported}
 use Rattle.pass.specs.Pass.{framesIn, continued, inOrder, passOf}
 use Rattle.pass.specs.declared.Passed.{Passed}
-use Rattle.pass.specs.Flight.{Pass, passed, singles, callsOf, flown}
-use Rattle.pass.proofs.Flight.{pass-flies, passes-fly}
+use Rattle.pass.specs.Flight.{Pass, passed, singles, flown}
+use Rattle.pass.proofs.PassLaws.{pass-keeps-range}
+use Rattle.pass.proofs.Flight.{passes-fly}
 use Rattle.promises.specs.TwoCraft.{AsGood, same, higher, Paired, start, next, inReach}
 use Rattle.promises.specs.Passes.{RoomBut, PairedPasses, noPass, nextPass, PassByPass}
 use Rattle.promises.proofs.TwoCraft.{take-paired, two-craft}
 
--- a frame that passes checks 3 to 7
-abbrev isAccepted : Reading → Bool
-isAccepted (Refused answer) = false
-isAccepted (Accepted f) = true
-
--- how many calls bring one, before the first that does not
+-- how many calls bring a frame that is accepted, before the first that does not
 abbrev acceptedIn : List Call → ℕ
 acceptedIn [] = 0
 acceptedIn (c ∷ cs) = if isAccepted (readFrame (c .input)) then 1 + acceptedIn cs else 0
@@ -57,10 +47,6 @@ paired-accepted start = refl
 paired-accepted (next good p) = rw (good-accepted good, paired-accepted p)
 
 -- with room, on a state in range, these get a report, and no others
-read-reported : (r : Reading) → Sound r → (s : State) (room : List ℕ) → isReported (stepRead r s room .result .answer) ≡ isAccepted r
-read-reported (Refused answer) sound s room = refusal answer (wider (answerNumber answer) sound)
-read-reported (Accepted f) sound s room = reported-number (actOf f s .answer) ∙ ap not (unrefused f s (actOf f s) (act-answers f s))
-
 continued-reported :
     (t : Bool) (one : Outcome Stepped) (rest : Outcome Passed) (n : ℕ) → isReported (one .result .answer) ≡ t → rest .result .reported ≡ n →
     continued one rest .result .reported ≡ (if t then 1 + n else 0)
@@ -84,9 +70,6 @@ passed-reported : (s : State) (p : Pass) → T (inRange s) → RoomBut 0 p → p
 unfolding passOf
 passed-reported s p v room = rw (is-true (inRange s) v) (order-reported (framesIn (p .input)) s (p .room) v (omega arith))
 
-passed-in-range : (s : State) (p : Pass) → T (inRange s) → T (inRange (passed s p .result .state))
-passed-in-range s p v = rw (pass-flies s p) (after-in-range (callsOf s p) s v)
-
 -- so the flights that paired passes come to are paired
 append-paired : {cs ds es fs : List Call} → Paired inReach cs ds → Paired inReach es fs → Paired inReach (cs ++ es) (ds ++ fs)
 append-paired start q = q
@@ -97,7 +80,7 @@ flown-paired noPass a b v v′ = start
 flown-paired (nextPass {p = p} {q = q} room room′ good rest) a b v v′ =
     rw (passed-reported a p v room, passed-reported b q v′ room′, paired-accepted good)
     (append-paired (take-paired good (acceptedIn (singles (framesIn (q .input)))))
-    (flown-paired rest (passed a p .result .state) (passed b q .result .state) (passed-in-range a p v) (passed-in-range b q v′)))
+    (flown-paired rest (passed a p .result .state) (passed b q .result .state) (pass-keeps-range a (p .input) (p .room) v) (pass-keeps-range b (q .input) (q .room) v′)))
 
 -- the first n passes
 take-passes : {ps qs : List Pass} → PairedPasses 0 0 ps qs → (n : ℕ) → PairedPasses 0 0 (take n ps) (take n qs)

@@ -17,8 +17,7 @@ use Rattle.frames.specs.declared.answer.Answer.the-variants.{BadState, ShortRoo
 use Rattle.frames.specs.declared.reading.Reading.{Reading}
 use Rattle.frames.specs.declared.reading.Reading.the-variants.{Refused, Accepted}
 use Rattle.frames.proofs.AnswerLaws.{reported-number, refusal}
-use Rattle.frames.proofs.ReadingLaws.{Sound, read-sound}
-use Rattle.frames.proofs.CutLaws.{IsRead}
+use Rattle.frames.proofs.ReadingLaws.{isAccepted, Sound, read-sound}
 use Rattle.supervisor.specs.Range.{inRange}
 use Rattle.supervisor.specs.Act.{actOf}
 use Rattle.supervisor.specs.Report.{reportOf}
@@ -35,6 +34,11 @@ pub step-outside : (s : State) (frame room : List ℕ) → inRange s ≡ false �
 unfolding stepOf
 step-outside s frame room e = simp e
 
+-- what is accepted gets a report, and nothing else does
+pub read-reported : (r : Reading) → Sound r → (s : State) (room : List ℕ) → isReported (stepRead r s room .result .answer) ≡ isAccepted r
+read-reported (Refused answer) sound s room = refusal answer (wider (answerNumber answer) sound)
+read-reported (Accepted f) sound s room = reported-number (actOf f s .answer) ∙ ap not (unrefused f s (actOf f s) (act-answers f s))
+
 module _ (s : State) (c : Call) where
   valid-by : Comes s c → isReported (called s c .result .answer) ≡ true → T (inRange s)
   valid-by (stopped a w) e = absurd (true≢false (sym e ∙ rw (w .leaves) (refusal a (w .number))))
@@ -48,8 +52,7 @@ module _ (s : State) (c : Call) where
   left-by : Comes s c → isReported (called s c .result .answer) ≡ false → called s c ≡ refused (called s c .result .answer) s (c .room)
   left-by (stopped a w) e = rw (w .leaves)
   left-by (ticking shorts w) e = absurd (false≢true (sym e ∙ rw (w .leaves, ticked-done shorts s)))
-  left-by (other f t w) e =
-      absurd (false≢true (sym e ∙ rw (w .leaves) (reported-number (actOf f s .answer) ∙ ap not (unrefused f s (actOf f s) (act-answers f s)))))
+  left-by (other f t w) e = absurd (false≢true (sym e ∙ rw (w .leaves) (read-reported (Accepted f) (w .fits) s (c .room))))
 
   -- with none, state and room are the same
   pub refused-left : isReported (called s c .result .answer) ≡ false → called s c ≡ refused (called s c .result .answer) s (c .room)
@@ -88,7 +91,7 @@ pub record Alike (left right : Outcome Stepped) : Type 0 where
 module _ (s : State) (room room′ : List ℕ) where
   read-alike : (r : Reading) → Sound r → Alike (stepRead r s room) (stepRead r s room′)
   unfolding reportOf
-  read-alike (Refused answer) w = record { result = refl; report = λ e. absurd (true≢false (sym e ∙ refusal answer (wider (answerNumber answer) w))) }
+  read-alike (Refused answer) w = record { result = refl; report = λ e. absurd (true≢false (sym e ∙ read-reported (Refused answer) w s room)) }
   read-alike (Accepted f) w = record { result = refl; report = λ e. refl }
 
   pub step-alike : (frame : List ℕ) → reportBytes ≤ length room → reportBytes ≤ length room′ → Alike (stepOf s frame room) (stepOf s frame room′)
@@ -103,15 +106,13 @@ pub step-short : (s : State) (frame room : List ℕ) → T (inRange s) → lengt
 unfolding stepOf
 step-short s frame room v h = rw (is-true (inRange s) v, lt-leb reportBytes (length room) h)
 
--- a frame that gets a report was read
-reading-read : (r : Reading) → Sound r → (s : State) (room : List ℕ) → isReported (stepRead r s room .result .answer) ≡ true → IsRead r
-reading-read (Refused answer) w s room e = absurd (true≢false (sym e ∙ refusal answer (wider (answerNumber answer) w)))
-reading-read (Accepted f) w s room e = tt
-
-pub reported-read : (s : State) (frame room : List ℕ) → isReported (stepOf s frame room .result .answer) ≡ true → IsRead (readFrame frame)
+-- a frame that gets a report was accepted
+pub reported-accepted : (s : State) (frame room : List ℕ) → isReported (stepOf s frame room .result .answer) ≡ true → isAccepted (readFrame frame) ≡ true
 unfolding stepOf
-reported-read s frame room =
-    either (λ (o : Outcome Stepped). isReported (o .result .answer) ≡ true → IsRead (readFrame frame)) (inRange s)
-    (either (λ (o : Outcome Stepped). isReported (o .result .answer) ≡ true → IsRead (readFrame frame)) (leb reportBytes (length room))
-    (reading-read (readFrame frame) (read-sound frame) s room) (λ e. absurd (false≢true e)))
+reported-accepted s frame room =
+    either Accepts (inRange s)
+    (either Accepts (leb reportBytes (length room)) (λ e. sym (read-reported (readFrame frame) (read-sound frame) s room) ∙ e) (λ e. absurd (false≢true e)))
     (λ e. absurd (false≢true e))
+  where
+    Accepts : Outcome Stepped → Type 0
+    Accepts after = isReported (after .result .answer) ≡ true → isAccepted (readFrame frame) ≡ true
