@@ -1,10 +1,10 @@
 -- The numbers that an image has for a mode with its phase, and for a module.
 -- Each in range has one number of its own, and each other number says one out of range.
 -- Assumes nothing.
-use Prim.Native.Nat.{ℕ, _+_, _-_, _%_}
+use Prim.Native.Nat.{ℕ, _+_, _-_, _*_, _/_, _%_}
 use lib.Dec.{eqb, leb, ltb}
 use Rattle.basics.specs.Choice.{if_then_else_}
-use Rattle.modules.specs.Power.{fullTries}
+use Rattle.modules.specs.Power.{cleanSeconds}
 use Rattle.modules.specs.declared.power.Power.{Power}
 use Rattle.modules.specs.declared.power.Power.the-variants.{On, Off, Failed}
 use Rattle.modules.specs.declared.power.Module.{Module}
@@ -40,23 +40,30 @@ modeFrom code =
     if eqb code safeCode then Safe else
     DeployWait (Waiting code)
 
+-- on with all tries, the last number of a module that is on; off is this and the tries left
+abbrev pub allTriesCode : ℕ
+allTriesCode = 240
+
 -- failed is this and the seconds left
 abbrev pub failedCode : ℕ
-failedCode = 6
+failedCode = 246
 
 -- what a module's number has more when it is requested
 abbrev pub requestedCode : ℕ
 requestedCode = 32768
 
--- a power as a number: on 0, off the tries left
+-- a power as a number: on the seconds, and 60 for each try above the first
 abbrev pub powerCode : Power → ℕ
-powerCode On = 0
-powerCode (Off tries) = tries
+powerCode (On tries seconds) = (tries - 1) * cleanSeconds + seconds
+powerCode (Off tries) = allTriesCode + tries
 powerCode (Failed left) = failedCode + left
 
--- the power of a number; past 606 it is failed, for longer than any module is
+-- the power of a number; past 846 it is failed, for longer than any module is
 abbrev pub powerFrom : ℕ → Power
-powerFrom code = if eqb code 0 then On else if leb code fullTries then Off code else Failed (code - failedCode)
+powerFrom code =
+    if leb code allTriesCode then On (code / cleanSeconds + 1) (code % cleanSeconds) else
+    if ltb code failedCode then Off (code - allTriesCode) else
+    Failed (code - failedCode)
 
 -- a module as a number
 abbrev pub moduleCode : Module → ℕ

@@ -36,7 +36,7 @@ endsIn bytes =
 
 -- a module that stands for none
 abbrev pub blank : Module
-blank = record { power = On; requested = false }
+blank = record { power = On 0 0; requested = false }
 
 -- module i stands at 34 + 2 i
 unfoldable pub modulesIn : List ℕ → List Module

@@ -10,7 +10,7 @@ use Rattle.flight.specs.Codes.{modeCode, moduleCode}
 
 -- byte 0: the version of the layout
 abbrev pub layoutVersion : ℕ
-layoutVersion = 3
+layoutVersion = 4
 
 -- the bytes of an image
 abbrev pub imageBytes : ℕ

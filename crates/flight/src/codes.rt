@@ -4,9 +4,9 @@ ghost use mathlib.Core.Path.{_≡_};
 ghost use mathlib.Core.Bool.{true};
 ghost use Rattle.modules.specs.Power.{powerInRange};
 ghost use Rattle.flight.specs.Codes.{modeCode, modeFrom, powerCode, moduleCode, moduleFrom};
+use modules::power::CLEAN;
 use modules::power::Module;
 use modules::power::Power;
-use modules::power::TRIES;
 use supervisor::state::Mode;
 use supervisor::state::Phase;
 
@@ -19,8 +19,12 @@ const RECOVERY: u32 = 87300;
 // SAFE, the last number of a mode.
 const SAFE: u32 = 87301;
 
-// Failed is this and the seconds left; on is 0, and off the tries left.
-const FAILED: u16 = 6;
+// A module that is on counts by its seconds, and a try above the first is 60 of them. So this is on with all tries, and
+// the last of those on; off is this and the tries left.
+const ALL_TRIES: u16 = 240;
+
+// Failed is this and the seconds left.
+const FAILED: u16 = 246;
 
 // What a module's number has more when it is requested.
 const REQUESTED: u16 = 32768;
@@ -64,8 +68,8 @@ fn power_code(power: Power) -> u16
     ensures { λ r. ⌜ r ≡ powerCode power ⌝ }
 {
     match power {
-        Power::On => 0,
-        Power::Off(tries) => tries as u16,
+        Power::On { tries, seconds } => ((tries as u16) - 1) * (CLEAN as u16) + (seconds as u16),
+        Power::Off(tries) => ALL_TRIES + (tries as u16),
         Power::Failed(left) => FAILED + left,
     }
 }
@@ -80,21 +84,24 @@ pub(crate) fn module_code(m: Module) -> u16
     if m.requested { REQUESTED + code } else { code }
 }
 
-// The module of a number; where its power's is past 606 it is failed, for longer than any module is.
+// The module of a number; where its power's is past 846 it is failed, for longer than any module is.
 pub(crate) fn module_from(code: u16) -> Module
     ensures { λ r. ⌜ r ≡ moduleFrom code ⌝ }
 {
     let requested = REQUESTED <= code;
     let left = code % REQUESTED;
-    if left == 0 {
+    if left <= ALL_TRIES {
         return Module {
-            power: Power::On,
+            power: Power::On {
+                tries: (left / (CLEAN as u16) + 1) as u8,
+                seconds: (left % (CLEAN as u16)) as u8,
+            },
             requested,
         };
     }
-    if left <= (TRIES as u16) {
+    if left < FAILED {
         return Module {
-            power: Power::Off(left as u8),
+            power: Power::Off((left - ALL_TRIES) as u8),
             requested,
         };
     }

@@ -50,7 +50,10 @@ fn modules_in(image: &[u8]) -> [Module; MODULE_COUNT]
     ensures { λ r. ⌜ r ≡ modulesIn (now (image .entry)) ⌝ }
 {
     let blank = Module {
-        power: Power::On,
+        power: Power::On {
+            tries: 0,
+            seconds: 0,
+        },
         requested: false,
     };
     let mut modules = [blank; MODULE_COUNT];

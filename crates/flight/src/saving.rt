@@ -17,7 +17,7 @@ use modules::power::Module;
 use supervisor::state::State;
 
 // The version of the layout: an image of other software has another.
-pub(crate) const VERSION: u8 = 3;
+pub(crate) const VERSION: u8 = 4;
 
 // The bytes of an image.
 pub(crate) const IMAGE_BYTES: usize = 50;

@@ -31,7 +31,10 @@ fn power_bits(power: Power) -> u32
     ensures { λ r. ⌜ r ≡ below (isOn power) 0 * 256 + below (isFailed power) 0 * 65536 ⌝ }
 {
     match power {
-        Power::On => ON,
+        Power::On {
+            tries: _,
+            seconds: _,
+        } => ON,
         Power::Off(_) => 0,
         Power::Failed(_) => FAILED,
     }

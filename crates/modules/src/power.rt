@@ -1,11 +1,12 @@
 // One module: its power, its request, and what a second does to it.
 ghost use mathlib.Core.Path.{_≡_};
-ghost use Rattle.modules.specs.Power.{switched, powerInRange, withPower, withRequest};
+ghost use Rattle.modules.specs.Power.{oneTryFewer, started, stayedOn, switched};
+ghost use Rattle.modules.specs.Power.{powerInRange, withPower, withRequest};
 
 // What powers a module.
 pub enum Power {
-    // powered
-    On,
+    // powered, with tries left, and the seconds since its start that count towards having them all again
+    On { tries: u8, seconds: u8 },
     // not powered, with tries left
     Off(u8),
     // given up, with seconds left until the next attempt
@@ -18,11 +19,48 @@ pub struct Module {
     pub requested: bool,
 }
 
-// The tries that a module has when it goes off.
+// The most tries that a module has.
 pub const TRIES: u8 = 5;
+
+// The seconds in a row, on and without a short, after which a module has them all again.
+pub const CLEAN: u8 = 60;
 
 // The seconds that a failed module waits.
 const RETRY: u16 = 600;
+
+// A short takes a try: off with one fewer, failed at none.
+fn one_try_fewer(tries: u8) -> Power
+    ensures { λ r. ⌜ r ≡ oneTryFewer tries ⌝ }
+{
+    if tries <= 1 {
+        Power::Failed(RETRY)
+    } else {
+        Power::Off(tries - 1)
+    }
+}
+
+// On, with the tries it has; the second that starts it is not counted.
+fn started(tries: u8) -> Power
+    ensures { λ r. ⌜ r ≡ started tries ⌝ }
+{
+    Power::On { tries, seconds: 0 }
+}
+
+// On for another second without a short.
+fn stayed_on(tries: u8, seconds: u8) -> Power
+    ensures { λ r. ⌜ r ≡ stayedOn tries seconds ⌝ }
+{
+    if tries == TRIES {
+        Power::On { tries, seconds }
+    } else if seconds < CLEAN - 1 {
+        Power::On {
+            tries,
+            seconds: seconds + 1,
+        }
+    } else {
+        started(TRIES)
+    }
+}
 
 impl Power {
     // The power after one second in which the module was wanted or not, and short or not.
@@ -30,25 +68,21 @@ impl Power {
         ensures { λ r. ⌜ r ≡ switched wanted short self ⌝ }
     {
         match self {
-            Power::On => {
+            Power::On { tries, seconds } => {
                 if short {
-                    Power::Off(TRIES)
+                    one_try_fewer(tries)
                 } else if wanted {
-                    Power::On
+                    stayed_on(tries, seconds)
                 } else {
-                    Power::Off(TRIES)
+                    Power::Off(tries)
                 }
             }
             Power::Off(tries) => {
                 if wanted {
                     if short {
-                        if tries <= 1 {
-                            Power::Failed(RETRY)
-                        } else {
-                            Power::Off(tries - 1)
-                        }
+                        one_try_fewer(tries)
                     } else {
-                        Power::On
+                        started(tries)
                     }
                 } else {
                     Power::Off(tries)
@@ -61,7 +95,7 @@ impl Power {
                     if short {
                         Power::Failed(RETRY)
                     } else {
-                        Power::On
+                        started(1)
                     }
                 } else {
                     Power::Failed(0)
@@ -75,7 +109,12 @@ impl Power {
         ensures { λ r. ⌜ r ≡ powerInRange self ⌝ }
     {
         match self {
-            Power::On => true,
+            Power::On { tries, seconds } => {
+                (1 <= tries)
+                    & (tries <= TRIES)
+                    & (seconds < CLEAN)
+                    & ((tries < TRIES) | (seconds == 0))
+            }
             Power::Off(tries) => (1 <= tries) & (tries <= TRIES),
             Power::Failed(left) => left <= RETRY,
         }
