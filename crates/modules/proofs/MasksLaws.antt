@@ -64,7 +64,7 @@ packed-room i all ms eight h e =
     omega (arith, small (λ m. m .requested), small (λ m. isOn (m .power)), small (λ m. isFailed (m .power)))
 
 pub power-bits-small : (p : Power) → powerBits p ≤ 65536
-power-bits-small On = omega arith
+power-bits-small (On tries seconds) = omega arith
 power-bits-small (Off tries) = omega arith
 power-bits-small (Failed left) = omega arith
 

@@ -19,7 +19,12 @@ use Rattle.basics.proofs.EachLaws.{each-kept, each-one, each-twice, worked, wor
 use Rattle.modules.specs.Power.{powerInRange, withRequest}
 use Rattle.modules.specs.Stage.{isWanted, moduleSecond, stageOf, moduleRequested, requestedBy, moduleAsked, requestedOne, modulesInRange}
 use Rattle.modules.proofs.PowerLaws.{switched-in-range}
+use Rattle.modules.specs.declared.power.Power.the-variants.{On}
 use Rattle.modules.specs.declared.power.Module.{Module}
+
+-- what the code's arrays are said to hold past the last module
+abbrev pub noModule : Module
+noModule = record { power = On 0 0; requested = false }
 
 module _ (which : ℕ) (on : Bool) where
   others : (i : ℕ) (m : Module) → (i ≡ which → ⊥) → moduleAsked which on i m ≡ m

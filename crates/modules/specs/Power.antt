@@ -82,6 +82,12 @@ isFailed (On tries seconds) = false
 isFailed (Off tries) = false
 isFailed (Failed left) = true
 
+-- the tries that it has; given up, none
+abbrev pub triesLeft : Power → ℕ
+triesLeft (On tries seconds) = tries
+triesLeft (Off tries) = tries
+triesLeft (Failed left) = 0
+
 -- a module with another power
 abbrev pub withPower : Power → Module → Module
 withPower power m = record { power = power; requested = m .requested }

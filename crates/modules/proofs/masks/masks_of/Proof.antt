@@ -4,11 +4,10 @@ use Prim.Native.Nat.{_-_, _≤_, _<_}
 use mathlib.Core.Path.{_≡_, sym, _∙_}
 use native.Mathlib.Omega.{arith}
 use lib.ListN.{length, drop, getD}
-use mathlib.Core.Bool.{false}
-use Rattle.modules.specs.declared.power.Power.the-variants.{On}
 use Rattle.modules.specs.declared.power.Module.{Module}
 use borrow.Author.Needs.{needs}
 use Rattle.basics.proofs.EachLaws.{gathered-turn, gathered-none, length-mapped}
+use Rattle.modules.proofs.StageLaws.{noModule}
 use Rattle.modules.proofs.MasksLaws.{packed, packedWith, packed-step, packed-none, packed-room, power-bits-small, request-bit-small, unpacked}
 use Rattle.modules.proofs.masks.masks_of.Statement.{statement}
 use Rattle.modules.proofs.masks.masks_of.Tie as tie
@@ -25,7 +24,7 @@ room here h = packed-room _ _ (here .before .args .t1) (search (needs, length-ma
 
 -- the module at hand
 abbrev taken : tie.At-loop Inv-loop μ-loop → Module
-taken here = getD (here .before .args .t1) (here .loop .i - 1) (record { power = On; requested = false })
+taken here = getD (here .before .args .t1) (here .loop .i - 1) noModule
 
 loop-holds : tie.Need-loop-holds Inv-loop μ-loop
 loop-holds c = record { low = search needs; done = sym (gathered-none packed packedWith packed-step 8 (c .args .t1) (search (needs, length-mapped)) ∙ packed-none) }

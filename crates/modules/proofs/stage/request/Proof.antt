@@ -2,15 +2,13 @@
 -- Assumes nothing.
 use Prim.Native.Nat.{ℕ, _-_, _/_, _≤_}
 use mathlib.Core.Path.{_≡_, ap, sym, _∙_}
-use mathlib.Core.Bool.{false}
 use mathlib.Core.Logic.{⊎-elim}
 use native.Mathlib.Omega.{arith}
 use borrow.Author.Needs.{needs}
 use Rattle.basics.proofs.EachLaws.{worked, worked-none, worked-all, length-mapped}
 use Rattle.modules.specs.Stage.{moduleRequested, requestedBy}
-use Rattle.modules.specs.declared.power.Power.the-variants.{On}
 use Rattle.modules.proofs.MarkLaws.{marked, marked-none, marked-next, marked-more, marked-end}
-use Rattle.modules.proofs.StageLaws.{in-mask, not-in-mask}
+use Rattle.modules.proofs.StageLaws.{noModule, in-mask, not-in-mask}
 use Rattle.modules.proofs.stage.request.Statement.{statement}
 use Rattle.modules.proofs.stage.request.Tie as tie
 
@@ -61,7 +59,7 @@ loop-again c =
       done =
           ⊎-elim
           (λ w. w .3 ∙ simp (w .2 .ensures, here .loop .inv .done) (in-mask _ _ (here .loop .i) _ _ (sym (c .before .has .ensures) ∙ w .0 .taken)))
-          (λ w. w .1 ∙ here .loop .inv .done ∙ not-in-mask _ _ (here .loop .i) _ (record { power = On; requested = false }) (sym (c .before .has .ensures) ∙ w .0 .left))
+          (λ w. w .1 ∙ here .loop .inv .done ∙ not-in-mask _ _ (here .loop .i) _ noModule (sym (c .before .has .ensures) ∙ w .0 .left))
           (c .if1 .came);
     }
 

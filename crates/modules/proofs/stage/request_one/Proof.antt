@@ -1,12 +1,10 @@
 -- `request_one` meets its contract.
 -- Assumes nothing.
 use mathlib.Core.Path.{_≡_}
-use mathlib.Core.Bool.{false}
 use native.Mathlib.Omega.{arith}
 use lib.ListN.{length}
 use Rattle.basics.proofs.EachLaws.{length-mapped}
-use Rattle.modules.specs.declared.power.Power.the-variants.{On}
-use Rattle.modules.proofs.StageLaws.{request-stored, request-past}
+use Rattle.modules.proofs.StageLaws.{noModule, request-stored, request-past}
 use borrow.Author.Needs.{needs}
 use Rattle.modules.proofs.stage.request_one.Statement.{statement}
 use Rattle.modules.proofs.stage.request_one.Tie as tie
@@ -34,7 +32,7 @@ returns c =
 returns-2 : tie.Need-returns-2
 returns-2 c =
     let eight : length (c .before .args .modules) ≡ 8 = search (needs, length-mapped) in
-    request-past (c .before .args .which) (c .before .args .on) (c .before .args .modules) (record { power = On; requested = false }) (omega arith)
+    request-past (c .before .args .which) (c .before .args .on) (c .before .args .modules) noModule (omega arith)
 
 pub request-one-spec : {M : Type 1} → statement M
 request-one-spec =
