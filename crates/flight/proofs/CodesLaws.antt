@@ -1,22 +1,23 @@
 -- Laws of the numbers of modes and modules: a number says what has it, what is in range has the number that says it,
 -- and the numbers of what is in range are those up to the last. Assumes nothing.
-use Prim.Native.Nat.{ℕ, _+_, _-_, _%_, _≤_, _<_}
+use Prim.Native.Nat.{ℕ, _+_, _-_, _*_, _/_, _%_, _≤_, _<_}
 use native.Mathlib.Omega.{arith}
 use mathlib.Core.Path.{_≡_, refl, sym, ap, _∙_}
 use mathlib.Core.Bool.{Bool, true, false}
 use lib.Dec.{T, eqb, leb, ltb, ltb→lt}
 use borrow.Author.Tests.{eqb-true, eqb-false, leb-true, leb-false, ltb-true, ltb-false, ne-eqb, le-leb, lt-leb, lt-ltb, le-ltb}
 use Rattle.basics.proofs.ChoiceLaws.{is-true, decided, within-low, within-high, within-of}
-use Rattle.modules.specs.Power.{powerInRange, fullTries, retrySeconds}
+use Rattle.modules.specs.Power.{powerInRange, fullTries, cleanSeconds, retrySeconds}
 use Rattle.modules.specs.declared.power.Power.{Power}
 use Rattle.modules.specs.declared.power.Power.the-variants.{On, Off, Failed}
 use Rattle.modules.specs.declared.power.Module.{Module}
+use Rattle.modules.proofs.PowerLaws.{OnFits, on-fits, on-in-range}
 use Rattle.supervisor.specs.Range.{waitSeconds, settleSeconds, phaseInRange}
 use Rattle.supervisor.specs.declared.state.Phase.the-variants.{Waiting, Settling}
 use Rattle.supervisor.specs.declared.state.Mode.{Mode}
 use Rattle.supervisor.specs.declared.state.Mode.the-variants.{DeployWait, Recovery, Safe}
 use Rattle.flight.specs.Codes.{settlingCode, recoveryCode, safeCode, modeCode, modeFrom}
-use Rattle.flight.specs.Codes.{failedCode, requestedCode, powerCode, powerFrom, moduleCode, moduleFrom}
+use Rattle.flight.specs.Codes.{allTriesCode, failedCode, requestedCode, powerCode, powerFrom, moduleCode, moduleFrom}
 
 -- a mode whose phase, if it has one, is in range
 abbrev pub modeInRange : Mode → Bool
@@ -66,34 +67,43 @@ mode-small m h = leb-true (modeCode m) safeCode (sym (mode-fits (modeCode m)) �
 
 -- what holds of each power that a number may say
 by-power :
-    (P : Power → Type 0) (code : ℕ) → (code ≡ 0 → P On) → (0 < code → code ≤ fullTries → P (Off code)) →
-    (fullTries < code → P (Failed (code - failedCode))) → P (powerFrom code)
+    (P : Power → Type 0) (code : ℕ) → (code ≤ allTriesCode → P (On (code / cleanSeconds + 1) (code % cleanSeconds))) →
+    (allTriesCode < code → code < failedCode → P (Off (code - allTriesCode))) → (failedCode ≤ code → P (Failed (code - failedCode))) → P (powerFrom code)
 by-power P code on off failed =
-    decided P (eqb code 0) (λ e. on (eqb-true code 0 e))
-    (λ e. decided P (leb code fullTries) (λ f. off (omega (arith, eqb-false code 0 e)) (leb-true code fullTries f))
-    (λ f. failed (leb-false code fullTries f)))
+    decided P (leb code allTriesCode) (λ e. on (leb-true code allTriesCode e))
+    (λ e. decided P (ltb code failedCode) (λ f. off (leb-false code allTriesCode e) (ltb-true code failedCode f))
+    (λ f. failed (ltb-false code failedCode f)))
 
 -- a number is that of the power that it says
 pub power-code : (code : ℕ) → powerCode (powerFrom code) ≡ code
-power-code code = by-power (λ p. powerCode p ≡ code) code sym (λ e f. refl) (λ e. omega arith)
+power-code code = by-power (λ p. powerCode p ≡ code) code (λ e. omega arith) (λ e f. omega arith) (λ e. omega arith)
 
 -- a power in range is what its number says
 pub power-back : (p : Power) → T (powerInRange p) → powerFrom (powerCode p) ≡ p
-power-back On h = refl
+power-back (On tries seconds) h =
+    let fits : OnFits tries seconds = on-fits tries seconds h in
+    let code : ℕ = (tries - 1) * cleanSeconds + seconds in
+    let own-tries : code / cleanSeconds + 1 ≡ tries = omega (arith, fits .low, fits .few) in
+    let own-seconds : code % cleanSeconds ≡ seconds = omega (arith, fits .low, fits .few) in
+    rw (le-leb code allTriesCode (omega (arith, fits .low, fits .held)), own-tries, own-seconds)
 power-back (Off tries) h =
     let least = within-low 1 fullTries tries h in
-    rw (ne-eqb tries 0 (λ e. omega arith), le-leb tries fullTries (within-high 1 fullTries tries h))
-power-back (Failed left) h = rw (ne-eqb (failedCode + left) 0 (λ e. omega arith), lt-leb (failedCode + left) fullTries (omega arith)) (ap Failed (omega arith))
+    let most = within-high 1 fullTries tries h in
+    rw (lt-leb (allTriesCode + tries) allTriesCode (omega arith), lt-ltb (allTriesCode + tries) failedCode (omega arith)) (ap Off (omega arith))
+power-back (Failed left) h =
+    rw (lt-leb (failedCode + left) allTriesCode (omega arith), le-ltb (failedCode + left) failedCode (omega arith)) (ap Failed (omega arith))
 
 -- a number says a power in range if it is at most that of 600 seconds left, and else one out of range
 pub power-fits : (code : ℕ) → powerInRange (powerFrom code) ≡ leb code (failedCode + retrySeconds)
 power-fits code =
     by-power (λ p. powerInRange p ≡ leb code (failedCode + retrySeconds)) code
-    (λ e. sym (le-leb code (failedCode + retrySeconds) (omega arith)))
-    (λ e f. is-true _ (within-of 1 fullTries code (omega arith) f) ∙ sym (le-leb code (failedCode + retrySeconds) (omega arith)))
+    (λ e.
+    is-true _ (on-in-range (code / cleanSeconds + 1) (code % cleanSeconds) (record { low = omega arith; high = omega arith; few = omega arith; held = omega arith }))
+    ∙ sym (le-leb code (failedCode + retrySeconds) (omega arith)))
+    (λ e f. is-true _ (within-of 1 fullTries (code - allTriesCode) (omega arith) (omega arith)) ∙ sym (le-leb code (failedCode + retrySeconds) (omega arith)))
     (λ e. by-last e (leb code (failedCode + retrySeconds)) refl)
   where
-    by-last : fullTries < code → (t : Bool) → leb code (failedCode + retrySeconds) ≡ t → leb (code - failedCode) retrySeconds ≡ t
+    by-last : failedCode ≤ code → (t : Bool) → leb code (failedCode + retrySeconds) ≡ t → leb (code - failedCode) retrySeconds ≡ t
     by-last e true f = le-leb (code - failedCode) retrySeconds (omega (arith, leb-true code (failedCode + retrySeconds) f))
     by-last e false f = lt-leb (code - failedCode) retrySeconds (omega (arith, leb-false code (failedCode + retrySeconds) f))
 

@@ -1,13 +1,13 @@
 -- Laws of one module's second, for theorems about flights: when it is on, the tries that it has, and the ranges.
 -- Assumes nothing.
-use Prim.Native.Nat.{ℕ, _+_, _-_, _≤_, _<_}
+use Prim.Native.Nat.{ℕ, _+_, _-_, _*_, _≤_, _<_}
 use native.Mathlib.Omega.{arith}
 use mathlib.Core.Path.{_≡_, refl}
 use mathlib.Core.Bool.{Bool, true, false, not, _&&_, _||_, true≢false}
 use lib.Dec.{T, eqb, leb, ltb, leb→le, le→leb, ltb→lt, lt→ltb, lit<}
-use borrow.Author.Tests.{eqb-true, eqb-false, ltb-true, ltb-false}
+use borrow.Author.Tests.{eqb-true, eqb-false, eq-eqb, ltb-true, ltb-false}
 use Rattle.basics.specs.Choice.{if_then_else_, within}
-use Rattle.basics.proofs.ChoiceLaws.{and-left, and-right, and-both, or-left, or-right, decided, either, within-low, within-high, within-of}
+use Rattle.basics.proofs.ChoiceLaws.{is-true, holds, and-left, and-right, and-both, or-left, or-right, decided, either, within-low, within-high, within-of}
 use Rattle.modules.specs.Power.{oneTryFewer, stayedOn, attempted, switched, powerInRange, fullTries, retrySeconds, cleanSeconds, isOn, isFailed, triesLeft}
 use Rattle.modules.specs.declared.power.Power.{Power}
 use Rattle.modules.specs.declared.power.Power.the-variants.{On, Off, Failed}
@@ -70,12 +70,43 @@ switched-least least true false (Off tries) full h = omega arith
 switched-least least true true (Off tries) full h = fewer-least least tries h
 switched-least least wanted short (Failed left) full h = omega arith
 
--- a second keeps tries and seconds in their ranges
-on-of : (tries seconds : ℕ) → 1 ≤ tries → tries ≤ fullTries → seconds < cleanSeconds → T (ltb tries fullTries || eqb seconds 0) → T (powerInRange (On tries seconds))
-on-of tries seconds low high few held =
-    and-both (within 1 fullTries tries && ltb seconds cleanSeconds) (ltb tries fullTries || eqb seconds 0)
-    (and-both (within 1 fullTries tries) (ltb seconds cleanSeconds) (within-of 1 fullTries tries low high) (lt→ltb seconds cleanSeconds few)) held
+-- the ranges of a module that is on, as numbers: the last of them says that with 5 tries the seconds are 0
+abbrev pub OnFits : (tries seconds : ℕ) → Type 0
+OnFits tries seconds = record { low : 1 ≤ tries; high : tries ≤ fullTries; few : seconds < cleanSeconds; held : tries * cleanSeconds + seconds ≤ 300 }
 
+pub on-in-range : (tries seconds : ℕ) → OnFits tries seconds → T (powerInRange (On tries seconds))
+on-in-range tries seconds h =
+    and-both (within 1 fullTries tries && ltb seconds cleanSeconds) (ltb tries fullTries || eqb seconds 0)
+    (and-both (within 1 fullTries tries) (ltb seconds cleanSeconds) (within-of 1 fullTries tries (h .low) (h .high)) (lt→ltb seconds cleanSeconds (h .few)))
+    (by-tries (ltb tries fullTries) refl)
+  where
+    by-tries : (fewer : Bool) → ltb tries fullTries ≡ fewer → T (ltb tries fullTries || eqb seconds 0)
+    by-tries true e = or-left (ltb tries fullTries) (eqb seconds 0) (holds (ltb tries fullTries) e)
+    by-tries false e = or-right (ltb tries fullTries) (eqb seconds 0) (holds (eqb seconds 0) (eq-eqb seconds 0 (omega (arith, h .held, ltb-false tries fullTries e))))
+
+pub on-fits : (tries seconds : ℕ) → T (powerInRange (On tries seconds)) → OnFits tries seconds
+on-fits tries seconds h =
+    let ranges = and-left (within 1 fullTries tries && ltb seconds cleanSeconds) (ltb tries fullTries || eqb seconds 0) h in
+    let range = and-left (within 1 fullTries tries) (ltb seconds cleanSeconds) ranges in
+    let low = within-low 1 fullTries tries range in
+    let high = within-high 1 fullTries tries range in
+    let few = ltb→lt seconds cleanSeconds (and-right (within 1 fullTries tries) (ltb seconds cleanSeconds) ranges) in
+    record {
+      low = low;
+      high = high;
+      few = few;
+      held =
+          by-tries low high few (ltb tries fullTries) refl
+          (and-right (within 1 fullTries tries && ltb seconds cleanSeconds) (ltb tries fullTries || eqb seconds 0) h);
+    }
+  where
+    by-tries :
+        1 ≤ tries → tries ≤ fullTries → seconds < cleanSeconds → (fewer : Bool) → ltb tries fullTries ≡ fewer → T (fewer || eqb seconds 0) →
+        tries * cleanSeconds + seconds ≤ 300
+    by-tries low high few true e held = omega (arith, ltb-true tries fullTries e)
+    by-tries low high few false e held = omega (arith, eqb-true seconds 0 (is-true (eqb seconds 0) held))
+
+-- a second keeps tries and seconds in their ranges
 fewer-in-range : (tries : ℕ) → tries ≤ fullTries → T (powerInRange (oneTryFewer tries))
 fewer-in-range tries high =
     decided (λ (q : Power). T (powerInRange q)) (eqb (tries - 1) 0) (λ e. tt)
@@ -86,28 +117,29 @@ attempted-in-range false short = tt
 attempted-in-range true false = tt
 attempted-in-range true true = tt
 
-on-tries : (tries seconds : ℕ) → T (powerInRange (On tries seconds)) → T (powerInRange (Off tries))
-on-tries tries seconds h =
-    and-left (within 1 fullTries tries) (ltb seconds cleanSeconds)
-    (and-left (within 1 fullTries tries && ltb seconds cleanSeconds) (ltb tries fullTries || eqb seconds 0) h)
-
-stayed-in-range : (tries seconds : ℕ) → T (powerInRange (On tries seconds)) → T (powerInRange (stayedOn tries seconds))
-stayed-in-range tries seconds h =
-    let low = within-low 1 fullTries tries (on-tries tries seconds h) in
-    let high = within-high 1 fullTries tries (on-tries tries seconds h) in
-    decided (λ (q : Power). T (powerInRange q)) (eqb tries fullTries) (λ e. h)
-    (λ e. decided (λ (q : Power). T (powerInRange q)) (ltb (seconds + 1) cleanSeconds)
-    (λ f. on-of tries (seconds + 1) low high (ltb-true (seconds + 1) cleanSeconds f) (or-left (ltb tries fullTries) (eqb (seconds + 1) 0) (lt→ltb tries fullTries (omega (arith, eqb-false tries fullTries e)))))
-    (λ f. tt))
+off-in-range : (tries seconds : ℕ) → OnFits tries seconds → T (powerInRange (Off tries))
+off-in-range tries seconds h = within-of 1 fullTries tries (h .low) (h .high)
 
 started-in-range : (tries : ℕ) → T (powerInRange (Off tries)) → T (powerInRange (On tries 0))
-started-in-range tries h = on-of tries 0 (within-low 1 fullTries tries h) (within-high 1 fullTries tries h) (lit< tt) (or-right (ltb tries fullTries) true tt)
+started-in-range tries h =
+    let low = within-low 1 fullTries tries h in
+    let high = within-high 1 fullTries tries h in
+    on-in-range tries 0 (record { low = low; high = high; few = lit< tt; held = omega arith })
+
+stayed-in-range : (tries seconds : ℕ) → OnFits tries seconds → T (powerInRange (stayedOn tries seconds))
+stayed-in-range tries seconds h =
+    decided (λ (q : Power). T (powerInRange q)) (eqb tries fullTries) (λ e. on-in-range tries seconds h)
+    (λ e. decided (λ (q : Power). T (powerInRange q)) (ltb (seconds + 1) cleanSeconds)
+    (λ f.
+    let few = ltb-true (seconds + 1) cleanSeconds f in
+    on-in-range tries (seconds + 1) (record { low = h .low; high = h .high; few = few; held = omega (arith, h .high, eqb-false tries fullTries e) }))
+    (λ f. tt))
 
 pub switched-in-range : (wanted short : Bool) (p : Power) → T (powerInRange p) → T (powerInRange (switched wanted short p))
 unfolding switched
-switched-in-range wanted true (On tries seconds) h = fewer-in-range tries (within-high 1 fullTries tries (on-tries tries seconds h))
-switched-in-range false false (On tries seconds) h = on-tries tries seconds h
-switched-in-range true false (On tries seconds) h = stayed-in-range tries seconds h
+switched-in-range wanted true (On tries seconds) h = fewer-in-range tries (on-fits tries seconds h .high)
+switched-in-range false false (On tries seconds) h = off-in-range tries seconds (on-fits tries seconds h)
+switched-in-range true false (On tries seconds) h = stayed-in-range tries seconds (on-fits tries seconds h)
 switched-in-range false short (Off tries) h = h
 switched-in-range true false (Off tries) h = started-in-range tries h
 switched-in-range true true (Off tries) h = fewer-in-range tries (within-high 1 fullTries tries h)

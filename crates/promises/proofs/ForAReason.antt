@@ -1,16 +1,15 @@
 -- Powered for a reason, proved: what the module stage makes of one module.
 -- Assumes nothing.
-use Prim.Native.Nat.{ℕ, _-_}
+use Prim.Native.Nat.{ℕ}
 use mathlib.Core.Path.{_≡_, sym, _∙_}
 use mathlib.Core.Bool.{Bool, true, false, not, _&&_, true≢false}
-use lib.Dec.{T, eqb, ltb}
+use lib.Dec.{T}
 use borrow.Author.Tests.{not-true}
 use Rattle.basics.specs.Choice.{bit}
-use Rattle.basics.proofs.ChoiceLaws.{is-true, either}
-use Rattle.modules.specs.Power.{switched, attempted, isOn, isFailed}
+use Rattle.basics.proofs.ChoiceLaws.{is-true}
+use Rattle.modules.specs.Power.{switched, isOn, isFailed}
 use Rattle.modules.specs.declared.power.Power.{Power}
-use Rattle.modules.specs.declared.power.Power.the-variants.{On, Off, Failed}
-use Rattle.modules.proofs.PowerLaws.{on-switched}
+use Rattle.modules.proofs.PowerLaws.{on-switched, switched-reason}
 use Rattle.supervisor.specs.State.{inDeployWait, moduleAt}
 use Rattle.supervisor.specs.Due.{beaconStage}
 use Rattle.supervisor.specs.Tick.{ticked, beforeModules, moduleStage, stages}
@@ -24,21 +23,6 @@ use Rattle.promises.proofs.EachModule.{at-stage, before-power}
 use Rattle.promises.proofs.OnlyTicks.{Turn, moves, still, turn, only-ticks}
 
 -- one module's second
-attempted-reason : (w short : Bool) → T (isOn (attempted w short)) → T (w && not short)
-attempted-reason true true t = absurd t
-attempted-reason true false t = tt
-attempted-reason false short t = absurd t
-
-on-reason : (w short : Bool) (p : Power) → T (isOn (switched w short p)) → T (w && not short)
-unfolding switched
-on-reason w true On t = absurd t
-on-reason true false On t = tt
-on-reason false false On t = absurd t
-on-reason true true (Off tries) t = either (λ (q : Power). T (isOn q) → ⊥) (eqb (tries - 1) 0) (λ x. x) (λ x. x) t
-on-reason true false (Off tries) t = tt
-on-reason false short (Off tries) t = absurd t
-on-reason w short (Failed left) t = either (λ (q : Power). T (isOn q) → T (w && not short)) (ltb 0 left) (λ x. absurd x) (attempted-reason w short) t
-
 wanted-on : (w short : Bool) (p : Power) → T (w && not short) → T (sound p) → T (isOn (switched w short p))
 wanted-on true true p t h = absurd t
 wanted-on true false p t h = rw (on-switched true p (not-true (isFailed p) (is-true (sound p) h))) tt
@@ -80,7 +64,7 @@ module _ (i : ℕ) (s : State) (c : Call) (d : T (doneTick s c)) (out : T (deplo
   second = called-second i s c (turn s c) d (not-true (inDeployWait s) (is-true (deployed s) out))
 
   on : T (isOn (moduleAt i (called s c .result .state) .power)) → T (wantedIn (called s c .result .state) i && not (shorted i (aboutOf c)))
-  on t = on-reason (wantedIn (called s c .result .state) i) (shorted i (aboutOf c)) (moduleAt i s .power) (rw second at t)
+  on t = switched-reason (wantedIn (called s c .result .state) i) (shorted i (aboutOf c)) (moduleAt i s .power) (rw second at t)
 
   is-on :
       T (wantedIn (called s c .result .state) i && not (shorted i (aboutOf c))) → T (sound (moduleAt i s .power)) →

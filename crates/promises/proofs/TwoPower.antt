@@ -4,16 +4,15 @@ use Prim.Native.Nat.{ℕ, _+_, _-_, _≤_, _<_}
 use native.Mathlib.Omega.{arith}
 use mathlib.Core.Path.{_≡_, refl}
 use mathlib.Core.Bool.{Bool, true, false, _&&_}
-use lib.Dec.{T, eqb, leb, leb→le, le→leb}
-use borrow.Author.Tests.{eqb-true}
+use lib.Dec.{T, leb, leb→le, le→leb}
 use Rattle.basics.specs.Choice.{if_then_else_, bit}
-use Rattle.basics.proofs.ChoiceLaws.{decided}
-use Rattle.modules.specs.Power.{switched, isOn, isFailed, fullTries}
+use Rattle.basics.proofs.ChoiceLaws.{and-left, and-right}
+use Rattle.modules.specs.Power.{switched, isOn, isFailed, triesLeft, fullTries}
 use Rattle.modules.specs.Groups.{isMission, moduleCount}
 use Rattle.modules.specs.declared.power.Power.{Power}
 use Rattle.modules.specs.declared.power.Power.the-variants.{On, Off, Failed}
 use Rattle.modules.specs.declared.power.Module.{Module}
-use Rattle.modules.proofs.PowerLaws.{on-switched}
+use Rattle.modules.proofs.PowerLaws.{on-switched, switched-reason, switched-least}
 use Rattle.frames.specs.About.{isTick, about}
 use Rattle.frames.specs.declared.frame.Frame.{Frame}
 use Rattle.frames.specs.declared.reading.Reading.the-variants.{Accepted}
@@ -34,47 +33,30 @@ use Rattle.promises.proofs.TwoModes.{AtMost, even, behind, safe-at-most
 use Rattle.promises.proofs.TwoControl.{Beside}
 use Rattle.promises.proofs.TwoEnds.{before-beside}
 
--- after n shorts a module has lost n tries at most, and is not failed
+-- after n shorts a module has lost n tries at most
 abbrev pub isSturdy : (n : ℕ) → Power → Bool
-isSturdy n On = true
-isSturdy n (Off tries) = leb fullTries (tries + n)
-isSturdy n (Failed left) = false
+isSturdy n p = leb fullTries (triesLeft p + n)
 
 abbrev Sturdy : (n : ℕ) → Power → Type 0
 Sturdy n p = T (isSturdy n p)
 
-sturdy-sound : (n : ℕ) (p : Power) → Sturdy n p → isFailed p ≡ false
-sturdy-sound n On h = refl
-sturdy-sound n (Off tries) h = refl
-sturdy-sound n (Failed left) h = absurd h
+-- so after four it is not failed
+sturdy-sound : (n : ℕ) (p : Power) → n ≤ shortsBorne → Sturdy n p → isFailed p ≡ false
+sturdy-sound n (On tries seconds) few h = refl
+sturdy-sound n (Off tries) few h = refl
+sturdy-sound n (Failed left) few h = absurd (omega (arith, leb→le fullTries (0 + n) h))
 
 -- one short more
 abbrev pub oneMore : Bool → ℕ
 oneMore short = if short then 1 else 0
 
 sturdy-later : (n m : ℕ) → n ≤ m → (p : Power) → Sturdy n p → Sturdy m p
-sturdy-later n m more On h = tt
-sturdy-later n m more (Off tries) h = omega (arith, leb→le, le→leb)
-sturdy-later n m more (Failed left) h = h
+sturdy-later n m more p h = omega (arith, leb→le, le→leb)
 
-sturdy-switched : (n : ℕ) (w short : Bool) (p : Power) → n + oneMore short ≤ shortsBorne → Sturdy n p → Sturdy (n + oneMore short) (switched w short p)
-unfolding switched
-sturdy-switched n w true On few h = omega (arith, le→leb)
-sturdy-switched n true false On few h = tt
-sturdy-switched n false false On few h = omega (arith, le→leb)
-sturdy-switched n false short (Off tries) few h = sturdy-later n (n + oneMore short) (omega arith) (Off tries) h
-sturdy-switched n true false (Off tries) few h = tt
-sturdy-switched n true true (Off tries) few h =
-    decided (Sturdy (n + 1)) (eqb (tries - 1) 0) (λ e. absurd (omega (arith, leb→le, eqb-true (tries - 1) 0 e))) (λ e. omega (arith, leb→le, le→leb))
-sturdy-switched n w short (Failed left) few h = absurd h
-
--- a short leaves it off
-shorted-off : (n : ℕ) (w : Bool) (p : Power) → Sturdy n p → isOn (switched w true p) ≡ false
-unfolding switched
-shorted-off n w On h = refl
-shorted-off n false (Off tries) h = refl
-shorted-off n true (Off tries) h = decided (λ (q : Power). isOn q ≡ false) (eqb (tries - 1) 0) (λ e. refl) (λ e. refl)
-shorted-off n w (Failed left) h = absurd h
+sturdy-switched : (n : ℕ) (w short : Bool) (p : Power) → Sturdy n p → Sturdy (n + oneMore short) (switched w short p)
+sturdy-switched n w short p h =
+    let least = switched-least (fullTries - n) w short p (omega arith) (omega (arith, leb→le fullTries (triesLeft p + n) h)) in
+    le→leb fullTries (triesLeft (switched w short p) + (n + oneMore short)) (omega arith)
 
 -- both are sturdy after n shorts, and the first is on only if the second is
 abbrev pub Lit : (n : ℕ) → Power → Power → Type 0
@@ -83,18 +65,19 @@ Lit n p q = record { sturdy : Sturdy n p; sturdy′ : Sturdy n q; lit : T (isOn 
 pub lit-later : (n m : ℕ) → n ≤ m → (p q : Power) → Lit n p q → Lit m p q
 lit-later n m more p q l = record { sturdy = sturdy-later n m more p (l .sturdy); sturdy′ = sturdy-later n m more q (l .sturdy′); lit = l .lit }
 
-on-grows : (n : ℕ) (short w w′ : Bool) (p q : Power) → (T w → T w′) → Lit n p q → T (isOn (switched w short p)) → T (isOn (switched w′ short q))
-on-grows n true w w′ p q more l t = absurd (rw (shorted-off n w p (l .sturdy)) at t)
-on-grows n false w w′ p q more l t = rw (on-switched w′ q (sturdy-sound n q (l .sturdy′))) (more (rw (on-switched w p (sturdy-sound n p (l .sturdy))) at t))
+-- on in the first after a second, it is wanted and not short, and so on in the second
+on-grows : (n : ℕ) (short w w′ : Bool) (p q : Power) → n ≤ shortsBorne → (T w → T w′) → Lit n p q → T (isOn (switched w short p)) → T (isOn (switched w′ short q))
+on-grows n true w w′ p q few more l t = absurd (and-right w false (switched-reason w true p t))
+on-grows n false w w′ p q few more l t = rw (on-switched w′ q (sturdy-sound n q few (l .sturdy′))) (more (and-left w true (switched-reason w false p t)))
 
 lit-switched :
     (n : ℕ) (short w w′ : Bool) (p q : Power) → n + oneMore short ≤ shortsBorne → (T w → T w′) → Lit n p q →
     Lit (n + oneMore short) (switched w short p) (switched w′ short q)
 lit-switched n short w w′ p q few more l =
     record {
-      sturdy = sturdy-switched n w short p few (l .sturdy);
-      sturdy′ = sturdy-switched n w′ short q few (l .sturdy′);
-      lit = on-grows n short w w′ p q more l;
+      sturdy = sturdy-switched n w short p (l .sturdy);
+      sturdy′ = sturdy-switched n w′ short q (l .sturdy′);
+      lit = on-grows n short w w′ p q (omega arith) more l;
     }
 
 -- wanted on the first, wanted on the second

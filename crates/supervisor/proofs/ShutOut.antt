@@ -137,7 +137,7 @@ only-reports worksIn idle meets =
 -- SAFE with every module on and the tension below descend, a tick before the mode is judged
 abbrev pub aboutToFall : State
 aboutToFall =
-    withModules (replicate 8 (record { power = On; requested = true })) (withMode Safe (withControl 29 (withTension 6000 freshState)))
+    withModules (replicate 8 (record { power = On 5 0; requested = true })) (withMode Safe (withControl 29 (withTension 6000 freshState)))
 
 -- PAYLOAD after that tick: off by the rules, and still on
 payloadOn : Outcome Stepped → Bool

@@ -16,7 +16,7 @@ use Rattle.promises.proofs.Edge.Flights.{quiet, short, comm2, camera, c
 
 -- a state in range, of no flight: all modules on in DEPLOY_WAIT, where a tick switches nothing
 abbrev pub litTooSoon : State
-litTooSoon = withModules (replicate 8 (record { power = On; requested = true })) freshState
+litTooSoon = withModules (replicate 8 (record { power = On 5 0; requested = true })) freshState
 
 pub not-in-deploy-wait : OnMeansWanted (λ s. true) afterwards → ⊥
 unfolding rules
