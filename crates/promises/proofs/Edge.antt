@@ -6,6 +6,7 @@ pub mod InRange
 pub mod Deployment
 pub mod OnlyTicks
 pub mod ForAReason
+pub mod CountsAsFailed
 pub mod AsTold
 pub mod ItEnds
 pub mod Dawn

@@ -60,7 +60,8 @@ pub deploy-power : (i : ℕ) (s : State) (c : Call) → inDeployWait s ≡ true 
 deploy-power i s c e = deploy-by i s c e (turn s c)
 
 module _ (i : ℕ) (s : State) (c : Call) (d : T (doneTick s c)) (out : T (deployed s)) where
-  second : moduleAt i (called s c .result .state) .power ≡ switched (wantedIn (called s c .result .state) i) (shorted i (aboutOf c)) (moduleAt i s .power)
+  -- a done tick outside DEPLOY_WAIT
+  pub second : moduleAt i (called s c .result .state) .power ≡ switched (wantedIn (called s c .result .state) i) (shorted i (aboutOf c)) (moduleAt i s .power)
   second = called-second i s c (turn s c) d (not-true (inDeployWait s) (is-true (deployed s) out))
 
   on : T (isOn (moduleAt i (called s c .result .state) .power)) → T (wantedIn (called s c .result .state) i && not (shorted i (aboutOf c)))
