@@ -61,14 +61,17 @@ extern "C" {
  *               PAYLOAD's at 22, SBAND1's at 26, SBAND2's at 30
  *   34     2    module 0, then 2 bytes for each of the modules 1 to 7; when it
  *               is requested, 32,768 more (the top bit of its second byte):
- *                 0                 on
- *                 1 to 5            off, so many tries left
- *                 6 to 606          failed, 0 to 600 seconds left (6 more)
+ *                 0 to 239          on, 1 to 4 tries left and 0 to 59 seconds of
+ *                                   the 60 that bring all tries back: the seconds,
+ *                                   and 60 more for each try after the first
+ *                 240               on, 5 tries left
+ *                 241 to 245        off, 1 to 5 tries left (240 more)
+ *                 246 to 846        failed, 0 to 600 seconds left (246 more)
  *
  * Each state in range has one image. Bytes that are none are refused with
  * EMS_BAD_STATE. */
 #define EMS_IMAGE_BYTES 50
-#define EMS_IMAGE_VERSION 3
+#define EMS_IMAGE_VERSION 4
 
 /* The bytes of a report: 81, kind answered, origin, serial (2), answer, mode,
  * requested mask, on mask, failed mask, beacon. */

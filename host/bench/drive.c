@@ -36,7 +36,7 @@ static struct ems state;
 
 /* The image's numbers, the low byte first, and those that stand for modes and modules. */
 static unsigned low(const uint8_t *at) { return (unsigned)(at[0] | at[1] << 8); }
-enum { SETTLING = 86399, RECOVERY = 87300, FAILED = 6, REQUESTED = 32768 };
+enum { SETTLING = 86399, RECOVERY = 87300, OFF = 240, FAILED = 246, REQUESTED = 32768 };
 
 /* The C version has no image: its state is set up from one. */
 static void put_back(const uint8_t *image)
@@ -55,8 +55,10 @@ static void put_back(const uint8_t *image)
     for (int i = 0; i < 8; i++) {
         unsigned code = low(image + 34 + 2 * i), power = code % REQUESTED;
         state.m[i] = (struct module){
-            power == 0 ? 0 : power < FAILED ? 1 : 2, code >= REQUESTED,
-            (uint16_t)(power < FAILED ? power : power - FAILED) };
+            .power = power <= OFF ? PW_ON : power < FAILED ? PW_OFF : PW_FAILED, .requested = code >= REQUESTED,
+            .tries = (uint8_t)(power <= OFF ? power / 60 + 1 : power < FAILED ? power - OFF : 0),
+            .seconds = (uint8_t)(power <= OFF ? power % 60 : 0),
+            .left = (uint16_t)(power < FAILED ? 0 : power - FAILED) };
     }
 }
 

@@ -85,7 +85,7 @@ impl Power {
                         started(tries)
                     }
                 } else {
-                    Power::Off(tries)
+                    self
                 }
             }
             Power::Failed(left) => {

@@ -1,6 +1,6 @@
 //! What is measured: an image to start from, and inputs that go round.
 
-use model::state::{Mode, Module, Power, END_SECONDS};
+use model::state::{Mode, Module, Power, END_SECONDS, TRIES};
 use model::table::{BATTERY, FROM_GROUND, MISSION, ORDER, PAYLOAD, THRESHOLDS, TICK, TIMED};
 use model::{calls, frame, image, report, State};
 
@@ -39,7 +39,7 @@ impl Stream {
 const TEXT: &[u8] = b"EMS S 8123 FF 00 THE QUICK BROWN FOX JUMPS OVER 1234567890 DOGS5";
 
 /// A board in a mode, charged so that it stays there, every module that may be
-/// on is.
+/// on is, and has all its tries.
 fn board(mode: Mode) -> State {
     let mut state = State::fresh();
     state.mode = mode;
@@ -47,8 +47,11 @@ fn board(mode: Mode) -> State {
     for module in &mut state.modules {
         let requested = module.requested || mode == Mode::Safe;
         let power = match requested && !mode.deploying() {
-            true => Power::On,
-            false => Power::Off(5),
+            true => Power::On {
+                tries: TRIES,
+                seconds: 0,
+            },
+            false => Power::Off(TRIES),
         };
         *module = Module { power, requested };
     }
@@ -115,7 +118,8 @@ pub fn streams() -> Vec<Stream> {
         }
     };
     let quiet = || vec![vec![TICK, 0x00]];
-    // Every module is shorted in every other second.
+    // Every module is shorted in every other second: five shorts fail it, and from
+    // then it waits, but for the second of 602 in which it is on.
     let shorts = || vec![vec![TICK, 0xFF], vec![TICK, 0x00]];
     let text = |name, call, input| Stream {
         name,

@@ -3,8 +3,8 @@
 use crate::rng::Rng;
 use model::image::{self, at, code};
 use model::state::{
-    Last, Mode, Module, Power, CONTROL_TICKS, END_SECONDS, FAILED_SECONDS, SETTLE_SECONDS, TRIES,
-    WAIT_SECONDS,
+    Last, Mode, Module, Power, CLEAN_SECONDS, CONTROL_TICKS, END_SECONDS, FAILED_SECONDS,
+    SETTLE_SECONDS, TRIES, WAIT_SECONDS,
 };
 use model::table::{HIGHEST, LOWEST};
 use model::State;
@@ -62,12 +62,22 @@ fn end(rng: &mut Rng) -> u32 {
 
 fn module(rng: &mut Rng) -> Module {
     let power = match rng.below(3) {
-        0 => Power::On,
+        0 => on(rng),
         1 => Power::Off(number(rng, 1, TRIES)),
         _ => Power::Failed(number(rng, 0, FAILED_SECONDS)),
     };
     let requested = rng.once_in(2);
     Module { power, requested }
+}
+
+/// On, with any tries; at its first second, about to have all of them, or between.
+fn on(rng: &mut Rng) -> Power {
+    let tries = rng.between(1, TRIES);
+    let seconds = match tries {
+        TRIES => 0,
+        _ => number(rng, 0, CLEAN_SECONDS - 1),
+    };
+    Power::On { tries, seconds }
 }
 
 /// A number in a range, with its ends favoured.
@@ -102,10 +112,18 @@ const MODES: [u32; 13] = [
 ];
 
 /// Numbers of powers around the ends of what each says, and beyond the last.
-const POWERS: [u16; 11] = [
+const POWERS: [u16; 19] = [
     0,
     1,
-    TRIES,
+    CLEAN_SECONDS - 1,
+    CLEAN_SECONDS,
+    CLEAN_SECONDS + 1,
+    code::OFF - CLEAN_SECONDS,
+    code::OFF - 1,
+    code::OFF,
+    code::OFF + 1,
+    code::OFF + TRIES - 1,
+    code::OFF + TRIES,
     code::FAILED,
     code::FAILED + 1,
     code::FAILED + FAILED_SECONDS - 1,
@@ -185,7 +203,7 @@ pub fn damaged(rng: &mut Rng) -> Vec<u8> {
             }
         }
         5 => match rng.below(2) {
-            0 => bytes[at::VERSION] = rng.pick(&[0, 1, 2, 4]),
+            0 => bytes[at::VERSION] = rng.pick(&[0, 1, 2, 3, 5]),
             _ => bytes[at::ANTENNAS] = rng.pick(&[2, 3, 128, 255]),
         },
         6 => {

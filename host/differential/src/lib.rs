@@ -13,6 +13,7 @@ pub mod groups;
 pub mod images;
 pub mod passes;
 pub mod rng;
+pub mod shorting;
 pub mod shrink;
 pub mod sides;
 pub mod texts;

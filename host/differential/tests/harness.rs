@@ -86,7 +86,7 @@ fn a_fault_at_one_equality_is_found() {
         step: judges_at_equality,
         ..MODEL
     };
-    let told = told("flights by the table", faulty);
+    let told = told("ends that run out", faulty);
     assert_eq!(frames(&told), 1, "{told}");
 }
 
@@ -218,6 +218,83 @@ fn an_end_that_an_order_should_have_dropped_is_found() {
     };
     let told = told("ends that run out", faulty);
     assert_eq!(frames(&told), 1, "{told}");
+}
+
+#[test]
+fn every_wrong_second_is_found_and_one_frame_shows_it() {
+    for group in ["every power in every second", "modules that short"] {
+        for (name, step) in wrong::seconds::SECONDS {
+            let told = told(group, Calls { step, ..MODEL });
+            assert_eq!(frames(&told), 1, "{group}: {name}\n{told}");
+        }
+    }
+}
+
+#[test]
+fn a_board_that_never_counts_as_failed_is_found() {
+    for wrong in [
+        "gives five tries at a short",
+        "gives five tries at a start",
+        "gives a failed one five tries",
+        "takes no try from one that is on",
+        "never fails one that is on",
+    ] {
+        let mut seconds = wrong::seconds::SECONDS.into_iter();
+        let (_, step) = seconds
+            .find(|(name, _)| *name == wrong)
+            .expect("it is wrong");
+        let told = told("a board that starts and shorts", Calls { step, ..MODEL });
+        assert_eq!(frames(&told), 1, "{wrong}\n{told}");
+    }
+}
+
+/// Takes a try, or a second, from MCS as it shorts in DEPLOY_WAIT.
+fn shorts_while_deploying(image: &mut [u8], frame: &[u8], room: &mut [u8]) -> u8 {
+    let deploying = image::load(image).is_some_and(|state| state.mode.deploying());
+    let answer = model::calls::step(image, frame, room);
+    let short = matches!(frame, [table::TICK, shorts] if shorts & 1 != 0);
+    if deploying && answer == 0 && short {
+        let number = &mut image[at::MODULES];
+        *number = number.saturating_sub(1);
+    }
+    answer
+}
+
+#[test]
+fn a_short_that_counts_at_the_wrong_time_is_found() {
+    let faulty = Calls {
+        step: shorts_while_deploying,
+        ..MODEL
+    };
+    let told = told("every power in every second", faulty);
+    assert_eq!(frames(&told), 1, "{told}");
+}
+
+/// Takes MCS for on where it is off with one try: on with five tries and a second would
+/// be the same number.
+fn takes_five_tries_and_a_second(image: &mut [u8], frame: &[u8], room: &mut [u8]) -> u8 {
+    let past = (image::code::OFF + 1).to_le_bytes();
+    if let Some(module) = image.get_mut(at::MODULES..at::MODULES + 2) {
+        if *module == past {
+            module[0] -= 1;
+        }
+    }
+    model::calls::step(image, frame, room)
+}
+
+#[test]
+fn a_number_past_those_that_are_on_is_found() {
+    for group in [
+        "every number of a mode, an end and a module",
+        "every power in every second",
+    ] {
+        let faulty = Calls {
+            step: takes_five_tries_and_a_second,
+            ..MODEL
+        };
+        let told = told(group, faulty);
+        assert_eq!(frames(&told), 1, "{told}");
+    }
 }
 
 /// The pieces of a told pass are frames as well.

@@ -1,13 +1,15 @@
 //! How far the generators get: flights by the table meet every answer in every
 //! mode, both crossings, both beacons, modules that fail and come back, timed orders
 //! with every answer, and ends with all that becomes of them. Starts in any state
-//! have ends that run, and run out, in every mode. Passes stop at every place, for
-//! every reason, in rooms about the end of every report.
+//! have ends that run, and run out, and modules on with all tries and seconds, in
+//! every mode. Modules that short do so, start, and are switched off, with all tries,
+//! about the second that brings them back. Passes stop at every place, for every
+//! reason, in rooms about the end of every report.
 
 use differential::frames::{Maker, Stream};
 use differential::rng::Rng;
-use differential::{images, passes};
-use model::state::{Mode, Power, END_SECONDS};
+use differential::{images, passes, shorting};
+use model::state::{Mode, Power, CLEAN_SECONDS, END_SECONDS, FAILED_SECONDS, TRIES};
 use model::table::{KINDS, MISSION, ORDER, TICK, TIMED};
 use model::{frame, image, pass, report, step, State};
 use std::collections::BTreeSet;
@@ -19,7 +21,8 @@ enum Met {
     TimedAnswer { mode: u8, answer: u8 },
     Crossing { from: u8, to: u8 },
     Due(u8),
-    Failed,
+    FailedOn,
+    FailedOff,
     Revived,
     End(Fate),
 }
@@ -80,8 +83,9 @@ fn fly(seed: u64, met: &mut BTreeSet<Met>) {
         }
         for (old, new) in before.modules.iter().zip(&state.modules) {
             match (old.power, new.power) {
-                (Power::Off(_), Power::Failed(_)) => met.insert(Met::Failed),
-                (Power::Failed(_), Power::On) => met.insert(Met::Revived),
+                (Power::On { .. }, Power::Failed(_)) => met.insert(Met::FailedOn),
+                (Power::Off(_), Power::Failed(_)) => met.insert(Met::FailedOff),
+                (Power::Failed(_), Power::On { .. }) => met.insert(Met::Revived),
                 _ => false,
             };
         }
@@ -95,7 +99,7 @@ fn flights_by_the_table_meet_it_all() {
         fly(seed, &mut met);
     }
     let modes = [Mode::Waiting(0), Mode::Recovery, Mode::Safe].map(Mode::number);
-    let mut wanted = BTreeSet::from([Met::Failed, Met::Revived]);
+    let mut wanted = BTreeSet::from([Met::FailedOn, Met::FailedOff, Met::Revived]);
     wanted.extend([(0, 1), (1, 2), (2, 1)].map(|(from, to)| Met::Crossing { from, to }));
     wanted.extend([0, 1, 2].map(Met::Due));
     for mode in modes {
@@ -144,6 +148,93 @@ fn starts_have_ends_in_every_mode() {
             }
         }
     }
+}
+
+#[test]
+fn starts_have_modules_on_with_all_tries_and_seconds() {
+    let mut rng = Rng::new(1);
+    let mut met = BTreeSet::new();
+    for _ in 0..40_000 {
+        let state = images::state(&mut rng);
+        for module in &state.modules {
+            if let Power::On { tries, seconds } = module.power {
+                met.insert((state.mode.number(), tries, seconds, module.requested));
+            }
+        }
+    }
+    for mode in [0, 1, 2] {
+        for tries in 1..=TRIES {
+            let counted = if tries == TRIES { 1 } else { CLEAN_SECONDS };
+            for seconds in 0..counted {
+                for requested in [false, true] {
+                    let wanted = (mode, tries, seconds, requested);
+                    assert!(met.contains(&wanted), "not met: {wanted:?}");
+                }
+            }
+        }
+    }
+}
+
+/// What can become of a module with so many tries in a second.
+#[derive(PartialEq, Eq, PartialOrd, Ord, Debug)]
+enum Second {
+    Started(u16),
+    ShortAsItStarts(u16),
+    ShortWhileOn { tries: u16, seconds: u16 },
+    SwitchedOff { tries: u16, seconds: u16 },
+    AllBack(u16),
+    FailedStarts,
+    FailedShorts,
+}
+
+/// What a second has done to a module; none where it has left it, or let its seconds
+/// grow or fall by 1.
+fn second(before: Power, after: Power) -> Option<Second> {
+    match (before, after) {
+        (Power::Off(tries), Power::On { .. }) => Some(Second::Started(tries)),
+        (Power::Off(tries), _) if before != after => Some(Second::ShortAsItStarts(tries)),
+        (Power::On { tries, seconds }, Power::Off(left)) if left == tries => {
+            Some(Second::SwitchedOff { tries, seconds })
+        }
+        (Power::On { tries, seconds }, Power::Off(_) | Power::Failed(_)) => {
+            Some(Second::ShortWhileOn { tries, seconds })
+        }
+        (Power::On { tries, .. }, Power::On { tries: TRIES, .. }) if tries != TRIES => {
+            Some(Second::AllBack(tries))
+        }
+        (Power::Failed(0), Power::On { .. }) => Some(Second::FailedStarts),
+        (Power::Failed(0), Power::Failed(FAILED_SECONDS)) => Some(Second::FailedShorts),
+        _ => None,
+    }
+}
+
+#[test]
+fn modules_that_short_meet_it_all() {
+    let mut rng = Rng::new(1);
+    let mut met = BTreeSet::new();
+    for _ in 0..400 {
+        let (mut state, shots) = shorting::flight(&mut rng);
+        for (frame, room) in shots {
+            let before = state.modules;
+            let report = step::step(&mut state, &frame, room.into());
+            assert!(report.is_ok(), "{frame:02X?}");
+            let modules = before.iter().zip(&state.modules);
+            met.extend(modules.filter_map(|(old, new)| second(old.power, new.power)));
+        }
+    }
+    let mut wanted = BTreeSet::from([Second::FailedStarts, Second::FailedShorts]);
+    for tries in 1..=TRIES {
+        wanted.insert(Second::Started(tries));
+        wanted.insert(Second::ShortAsItStarts(tries));
+        let counted = if tries == TRIES { 1 } else { CLEAN_SECONDS };
+        for seconds in [0, 58, 59].into_iter().filter(|own| *own < counted) {
+            wanted.insert(Second::ShortWhileOn { tries, seconds });
+            wanted.insert(Second::SwitchedOff { tries, seconds });
+        }
+    }
+    wanted.extend((1..TRIES).map(Second::AllBack));
+    let missing: Vec<_> = wanted.difference(&met).collect();
+    assert!(missing.is_empty(), "not met: {missing:?}");
 }
 
 /// What passes can meet.

@@ -6,35 +6,67 @@ mod wrong;
 use cases::pass;
 use differential::sides::{Calls, LIBRARY, MODEL};
 use ems::{answer, Craft, IMAGE_BYTES, REPORT_BYTES};
-use std::{fs, path::Path};
+use std::fs;
+use std::path::{Path, PathBuf};
+use wrong::seconds::Step;
 
-/// The library's log of a stream.
-fn library_log(input: &[u8]) -> String {
-    let mut craft = Craft::fresh();
+/// The log of a stream by a step.
+fn log_by(step: Step, input: &[u8]) -> String {
+    let mut image = *Craft::fresh().image();
     model::log_of(input, |frame| {
         let mut room = [0; REPORT_BYTES];
-        match craft.step(frame, &mut room) {
+        match step(&mut image, frame, &mut room) {
             given if answer::has_report(given) => Ok(room),
             refusal => Err(refusal),
         }
     })
 }
 
+/// A stream of `tests/vectors`.
+struct Stream {
+    name: String,
+    input: Vec<u8>,
+    log: String,
+}
+
+fn streams() -> Vec<Stream> {
+    let folder = Path::new(env!("CARGO_MANIFEST_DIR")).join("../../tests/vectors");
+    let entries = fs::read_dir(folder).expect("tests/vectors is there");
+    let paths = entries.map(|entry| entry.expect("its entries can be read").path());
+    let streams = paths.filter(|path| path.extension().is_some_and(|end| end == "bin"));
+    let read = |path: PathBuf| Stream {
+        name: path.display().to_string(),
+        input: fs::read(&path).expect("a stream"),
+        log: fs::read_to_string(path.with_extension("log")).expect("its log"),
+    };
+    streams.map(read).collect()
+}
+
 #[test]
 fn every_vector_gives_its_log() {
-    let folder = Path::new(env!("CARGO_MANIFEST_DIR")).join("../../tests/vectors");
-    let mut streams = 0;
-    for entry in fs::read_dir(folder).expect("tests/vectors is there") {
-        let stream = entry.expect("its entries can be read").path();
-        if stream.extension().is_none_or(|end| end != "bin") {
-            continue;
-        }
-        let input = fs::read(&stream).expect("a stream");
-        let wanted = fs::read_to_string(stream.with_extension("log")).expect("its log");
-        assert!(library_log(&input) == wanted, "{}", stream.display());
-        streams += 1;
+    let streams = streams();
+    assert!(streams.len() >= 126, "only {} streams", streams.len());
+    for stream in streams {
+        let given = log_by(LIBRARY.step, &stream.input);
+        assert!(given == stream.log, "{}", stream.name);
     }
-    assert!(streams >= 126, "only {streams} streams");
+}
+
+/// In no stream does a module short about the second that brings its tries back.
+const UNSEEN: [&str; 3] = [
+    "takes a short in the 60th second from five tries",
+    "brings the tries back after 59 seconds",
+    "counts the second that starts it",
+];
+
+#[test]
+fn every_other_wrong_second_gives_another_log_of_some_stream() {
+    let streams = streams();
+    for (name, step) in wrong::seconds::SECONDS {
+        let differs = |stream: &Stream| log_by(step, &stream.input) != stream.log;
+        let seen = streams.iter().any(differs);
+        assert_eq!(seen, !UNSEEN.contains(&name), "{name}");
+    }
 }
 
 /// The calls that a case of a pass makes.

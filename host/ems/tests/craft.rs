@@ -17,7 +17,7 @@ fn bytes_that_are_no_image_become_none() {
     let fresh = *Craft::fresh().image();
     assert_eq!(Craft::from_image(&[]), None);
     assert_eq!(Craft::from_image(&fresh[..IMAGE_BYTES - 1]), None);
-    for version in [2, 4] {
+    for version in [3, 5] {
         let mut other_version = fresh;
         other_version[at::VERSION] = version;
         assert_eq!(Craft::from_image(&other_version), None);
@@ -34,6 +34,16 @@ fn an_end_of_a_day_is_the_longest() {
     image[end.clone()].copy_from_slice(&86_400_u32.to_le_bytes());
     assert!(Craft::from_image(&image).is_some());
     image[end].copy_from_slice(&86_401_u32.to_le_bytes());
+    assert_eq!(Craft::from_image(&image), None);
+}
+
+#[test]
+fn a_module_failed_for_600_seconds_has_the_last_number() {
+    let mut image = *Craft::fresh().image();
+    let module = at::MODULES..at::MODULES + 2;
+    image[module.clone()].copy_from_slice(&846_u16.to_le_bytes());
+    assert!(Craft::from_image(&image).is_some());
+    image[module].copy_from_slice(&847_u16.to_le_bytes());
     assert_eq!(Craft::from_image(&image), None);
 }
 

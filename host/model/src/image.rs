@@ -1,11 +1,11 @@
 //! The state as 50 bytes, as `include/ems.h` lays them out.
 
-use crate::state::{Last, Mode, Module, Power, State, TRIES};
+use crate::state::{Last, Mode, Module, Power, State, CLEAN_SECONDS};
 
 /// The bytes of an image.
 pub const BYTES: usize = 50;
 /// The layout's version, an image's first byte.
-pub const VERSION: u8 = 3;
+pub const VERSION: u8 = 4;
 
 /// Where the fields begin.
 pub mod at {
@@ -43,8 +43,11 @@ pub mod code {
     pub const RECOVERY: u32 = 87_300;
     /// SAFE, the last number of a mode.
     pub const SAFE: u32 = 87_301;
-    /// Failed is this and the seconds left; on is 0, and off the tries left.
-    pub const FAILED: u16 = 6;
+    /// Off is this and the tries left; numbers up to it are on, 60 for each try
+    /// after the first, and the seconds.
+    pub const OFF: u16 = 240;
+    /// Failed is this and the seconds left.
+    pub const FAILED: u16 = 246;
     /// What a module's number has more when it is requested.
     pub const REQUESTED: u16 = 32_768;
 }
@@ -84,8 +87,8 @@ pub fn save(state: &State) -> [u8; BYTES] {
     }
     for (begin, module) in modules().zip(&state.modules) {
         let power = match module.power {
-            Power::On => 0,
-            Power::Off(tries) => tries,
+            Power::On { tries, seconds } => CLEAN_SECONDS * (tries - 1) + seconds,
+            Power::Off(tries) => code::OFF + tries,
             Power::Failed(seconds) => code::FAILED + seconds,
         };
         let requested = u16::from(module.requested) * code::REQUESTED;
@@ -135,8 +138,11 @@ fn guess(image: &[u8; BYTES]) -> State {
     for (begin, module) in modules().zip(&mut state.modules) {
         let requested = code::REQUESTED <= two(begin);
         let power = match two(begin) % code::REQUESTED {
-            0 => Power::On,
-            tries @ 1..=TRIES => Power::Off(tries),
+            on @ ..=code::OFF => Power::On {
+                tries: on / CLEAN_SECONDS + 1,
+                seconds: on % CLEAN_SECONDS,
+            },
+            off @ ..code::FAILED => Power::Off(off - code::OFF),
             failed => Power::Failed(failed - code::FAILED),
         };
         *module = Module { power, requested };

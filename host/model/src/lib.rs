@@ -1,5 +1,5 @@
 //! The rules a second time, in plain Rust: document 01's, and of document 02 the
-//! orders with an end and the pass.
+//! orders with an end, the pass, and the tries that a module keeps.
 //!
 //! It is written from their words alone and shares nothing with the proved
 //! library, so that a slip in either shows as a difference. It goes for being

@@ -9,7 +9,12 @@ use crate::table::{FROM_PAYLOAD, HIGHEST, LOWEST, MISSION, MODULES};
 #[derive(Clone, Copy, Debug, PartialEq, Eq)]
 pub enum Power {
     /// On.
-    On,
+    On {
+        /// Tries left.
+        tries: u16,
+        /// Seconds in a row, after which it has all tries again; 0 while it has.
+        seconds: u16,
+    },
     /// Off, with tries left.
     Off(u16),
     /// Failed, with seconds left.
@@ -81,8 +86,10 @@ impl Last {
     }
 }
 
-/// Tries of a module that has been switched off.
+/// The most tries of a module.
 pub const TRIES: u16 = 5;
+/// Seconds in a row, on and without a short, that give a module all its tries.
+pub const CLEAN_SECONDS: u16 = 60;
 /// Seconds that a failed module is left alone.
 pub const FAILED_SECONDS: u16 = 600;
 /// Seconds of waiting after which the antennas are taken as deployed.
@@ -162,7 +169,10 @@ impl State {
             && volts.contains(&self.descend)
             && self.descend <= self.ascend;
         let modules = self.modules.iter().all(|module| match module.power {
-            Power::On => true,
+            Power::On { tries, seconds } => {
+                let counting = (1..TRIES).contains(&tries) && seconds < CLEAN_SECONDS;
+                counting || (tries == TRIES && seconds == 0)
+            }
             Power::Off(tries) => (1..=TRIES).contains(&tries),
             Power::Failed(left) => left <= FAILED_SECONDS,
         });
@@ -191,7 +201,7 @@ impl State {
 
     /// The on mask.
     pub fn on_mask(&self) -> u8 {
-        self.mask(|module| module.power == Power::On)
+        self.mask(|module| matches!(module.power, Power::On { .. }))
     }
 
     /// The failed mask.

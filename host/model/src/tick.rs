@@ -1,8 +1,8 @@
 //! One tick: the deploy phase, or ends, control, modules and beacon in this order.
 
 use crate::state::{
-    Mode, Power, State, BASIC_TICKS, COMPLETE_TICKS, CONTROL_TICKS, FAILED_SECONDS, SETTLE_SECONDS,
-    TRIES, WAIT_SECONDS,
+    Mode, Power, State, BASIC_TICKS, CLEAN_SECONDS, COMPLETE_TICKS, CONTROL_TICKS, FAILED_SECONDS,
+    SETTLE_SECONDS, TRIES, WAIT_SECONDS,
 };
 use crate::table::{MISSION, MODULES};
 
@@ -77,14 +77,39 @@ fn request(state: &mut State, on: bool) {
 /// A module's power after a second of the module stage.
 fn second(power: Power, wanted: bool, short: bool) -> Power {
     match power {
-        Power::On if short || !wanted => Power::Off(TRIES),
-        Power::On => Power::On,
+        Power::On { tries, .. } if short => shorted(tries),
+        Power::On { tries, .. } if !wanted => Power::Off(tries),
+        Power::On { tries, seconds } => stayed(tries, seconds + 1),
         Power::Failed(left) if left > 0 => Power::Failed(left - 1),
         other if !wanted => other,
-        _ if !short => Power::On,
-        Power::Off(tries) if tries > 1 => Power::Off(tries - 1),
-        Power::Off(_) | Power::Failed(_) => Power::Failed(FAILED_SECONDS),
+        Power::Off(tries) if short => shorted(tries),
+        Power::Off(tries) => started(tries),
+        Power::Failed(_) if short => Power::Failed(FAILED_SECONDS),
+        Power::Failed(_) => started(1),
     }
+}
+
+/// A short takes one of the tries; at none the module has failed.
+fn shorted(tries: u16) -> Power {
+    match tries - 1 {
+        0 => Power::Failed(FAILED_SECONDS),
+        left => Power::Off(left),
+    }
+}
+
+/// On with these tries; the second that starts it is not counted.
+fn started(tries: u16) -> Power {
+    let seconds = 0;
+    Power::On { tries, seconds }
+}
+
+/// On for so many seconds in a row without a short: all tries return after the
+/// last, and nothing is counted while it has them.
+fn stayed(tries: u16, seconds: u16) -> Power {
+    if tries == TRIES || seconds == CLEAN_SECONDS {
+        return started(TRIES);
+    }
+    Power::On { tries, seconds }
 }
 
 /// The beacon stage: 0 none, 1 basic, 2 complete.

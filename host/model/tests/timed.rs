@@ -2,7 +2,7 @@
 //! an end.
 
 use model::frame::Body;
-use model::state::{Mode, Power};
+use model::state::{Mode, Power, TRIES};
 use model::table::{FROM_GROUND, FROM_PAYLOAD, MISSION, ORDER, PAYLOAD, TIMED};
 use model::{frame, image, report, step, step_log, State};
 
@@ -44,7 +44,10 @@ fn running(ends: [u32; 4]) -> State {
     let mut state = board(Mode::Safe);
     for module in &mut state.modules {
         module.requested = true;
-        module.power = Power::On;
+        module.power = Power::On {
+            tries: TRIES,
+            seconds: 0,
+        };
     }
     state.ends = ends;
     state

@@ -98,7 +98,7 @@ fn commands_of_the_readme_give_what_stands_there() {
 
 #[test]
 fn commands_of_pass_scripts_give_what_stands_there() {
-    assert!(run_document("docs/PASS-SCRIPTS.md") >= 25);
+    assert!(run_document("docs/PASS-SCRIPTS.md") >= 30);
 }
 
 #[test]

@@ -6,7 +6,7 @@ use common::{is_file, root, run, scratch};
 use std::fs;
 
 /// Each with its picture's title.
-const EXAMPLES: [(&str, &str); 6] = [
+const EXAMPLES: [(&str, &str); 7] = [
     ("dawn", "The night of the mission, as it goes now"),
     (
         "twenty-minutes",
@@ -14,6 +14,7 @@ const EXAMPLES: [(&str, &str); 6] = [
     ),
     ("orbit", "A day of fifteen orbits"),
     ("shorted", "Modules with a short"),
+    ("starts-and-shorts", "A board that starts and shorts"),
     ("sister-craft-a", "Sister craft A, the tired battery"),
     ("sister-craft-b", "Sister craft B, the fresh battery"),
 ];
@@ -167,6 +168,47 @@ fn after_twenty_minutes_the_camera_is_off_though_nobody_said_so() {
         lines[ordered..].iter().all(|line| line[5] == "2"),
         "a mode keeps the camera off"
     );
+}
+
+/// The sentence on top of `starts-and-shorts.pass`, in its log: five starts in ten
+/// seconds, one every 602 after that, none once it is ordered off; then it holds.
+#[test]
+fn a_board_that_starts_and_shorts_is_given_up_and_taken_back() {
+    let ran = run(&["log", "examples/starts-and-shorts.pass"]).status(0);
+    let lines: Vec<Vec<&str>> = ran
+        .text()
+        .lines()
+        .map(|line| line.split(' ').collect())
+        .collect();
+    let ticks: Vec<&Vec<&str>> = lines.iter().filter(|line| line[1] == "01").collect();
+    let ordered = ticks.iter().position(|tick| tick[6] == "67");
+    let ordered = ordered.expect("SBAND1 is requested");
+    let starts: Vec<usize> = (ordered..ticks.len())
+        .filter(|&at| ticks[at][7] == "67" && ticks[at - 1][7] == "27")
+        .map(|at| at - ordered)
+        .collect();
+    let first = (0..5).map(|n| 2 * n);
+    let later = (1..=9).map(|n| 8 + 602 * n);
+    let orbit = 99 * 60;
+    let held = [2 * orbit, 2 * orbit + 90];
+    assert_eq!(
+        starts,
+        first.chain(later).chain(held).collect::<Vec<usize>>()
+    );
+    let failed = |at: usize| ticks[ordered + at][8] == "40";
+    assert!(!failed(8) && failed(9), "failed after ten seconds");
+    assert!(
+        (orbit..2 * orbit).all(failed),
+        "left alone when ordered off"
+    );
+    // With the beacon's word on it, and with its tries.
+    run(&["log", "--explain", "examples/starts-and-shorts.pass"])
+        .status(0)
+        .prints(": SBAND1 failed, 600 seconds to wait\n")
+        .prints("the last EMS S 7600 27 40\n01:59:01      7,148  order ground 2 SBAND1 off: done")
+        .prints("SBAND1's 1 minute is over: requested off; SBAND1 off, 1 try left; ")
+        .prints("03:39:32     13,185  tick: SBAND1 on, 1 try left\n")
+        .prints("03:40:32     13,245  tick: SBAND1 has all 5 tries again\n");
 }
 
 #[test]

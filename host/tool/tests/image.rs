@@ -5,12 +5,12 @@ mod common;
 
 use common::{bash, fed, place, run, scratch, Ran};
 
-/// The fresh start: version 3, waiting for no second, thresholds of 7,400 and
+/// The fresh start: version 4, waiting for no second, thresholds of 7,400 and
 /// 7,000 mV, no end, every module off with 5 tries, the core four requested.
 const FRESH: [u8; 50] = [
-    3, 0, 0, 0, 0, 0, 0, 0, 0, 0, 0xE8, 0x1C, 0x58, 0x1B, 0, 0, 0, 0, //
+    4, 0, 0, 0, 0, 0, 0, 0, 0, 0, 0xE8, 0x1C, 0x58, 0x1B, 0, 0, 0, 0, //
     0, 0, 0, 0, 0, 0, 0, 0, 0, 0, 0, 0, 0, 0, 0, 0, //
-    5, 0x80, 5, 0x80, 5, 0x80, 5, 0, 5, 0, 5, 0x80, 5, 0, 5, 0,
+    0xF5, 0x80, 0xF5, 0x80, 0xF5, 0x80, 0xF5, 0, 0xF5, 0, 0xF5, 0x80, 0xF5, 0, 0xF5, 0,
 ];
 
 /// Where the ends begin, and whose they are.
@@ -48,7 +48,7 @@ fn says(image: &[u8], line: &str) {
 fn every_field_is_shown_with_its_bytes() {
     let wanted = "\
 at  bytes        field          says
- 0  03           version        3
+ 0  04           version        4
  1  00 00 00     mode           DEPLOY_WAIT, 0 seconds waited for the antennas
  4  00           control        0 of 30 seconds
  5  00 00        beacon         0 of 300 seconds
@@ -62,14 +62,14 @@ at  bytes        field          says
 22  00 00 00 00  PAYLOAD's end  none
 26  00 00 00 00  SBAND1's end   none
 30  00 00 00 00  SBAND2's end   none
-34  05 80        MCS            off, 5 tries left, requested
-36  05 80        COMM1          off, 5 tries left, requested
-38  05 80        COMM2          off, 5 tries left, requested
-40  05 00        ADCS           off, 5 tries left, not requested
-42  05 00        PAYLOAD        off, 5 tries left, not requested
-44  05 80        I2C            off, 5 tries left, requested
-46  05 00        SBAND1         off, 5 tries left, not requested
-48  05 00        SBAND2         off, 5 tries left, not requested
+34  F5 80        MCS            off, 5 tries left, requested
+36  F5 80        COMM1          off, 5 tries left, requested
+38  F5 80        COMM2          off, 5 tries left, requested
+40  F5 00        ADCS           off, 5 tries left, not requested
+42  F5 00        PAYLOAD        off, 5 tries left, not requested
+44  F5 80        I2C            off, 5 tries left, requested
+46  F5 00        SBAND1         off, 5 tries left, not requested
+48  F5 00        SBAND2         off, 5 tries left, not requested
 ";
     assert_eq!(shown(&FRESH).status(0).text(), wanted);
     let file = scratch("saved.bin", FRESH);
@@ -100,12 +100,26 @@ fn every_number_is_put_in_words() {
         let line = format!("48  {low:02X} {high:02X}        SBAND2         {said}");
         says(&with(48, &[low, high]), &line);
     };
-    module(0, "on, not requested");
-    module(32_768, "on, requested");
-    module(1, "off, 1 try left, not requested");
-    module(32_768 + 5, "off, 5 tries left, requested");
-    module(6, "failed, 0 seconds left, not requested");
-    module(32_768 + 606, "failed, 600 seconds left, requested");
+    for (number, power) in [
+        (0, "on, 1 try left, 0 of 60 seconds"),
+        (1, "on, 1 try left, 1 of 60 seconds"),
+        (59, "on, 1 try left, 59 of 60 seconds"),
+        (60, "on, 2 tries left, 0 of 60 seconds"),
+        (119, "on, 2 tries left, 59 of 60 seconds"),
+        (120, "on, 3 tries left, 0 of 60 seconds"),
+        (179, "on, 3 tries left, 59 of 60 seconds"),
+        (180, "on, 4 tries left, 0 of 60 seconds"),
+        (239, "on, 4 tries left, 59 of 60 seconds"),
+        (240, "on, 5 tries left"),
+        (241, "off, 1 try left"),
+        (245, "off, 5 tries left"),
+        (246, "failed, 0 seconds left"),
+        (247, "failed, 1 second left"),
+        (846, "failed, 600 seconds left"),
+    ] {
+        module(number, &format!("{power}, not requested"));
+        module(32_768 + number, &format!("{power}, requested"));
+    }
     for (at, module) in ENDS {
         let name = format!("{module}'s end");
         let end = |bytes: [u8; 4], hex: &str, said: &str| {
@@ -151,7 +165,8 @@ fn bytes_that_are_no_image_are_told_why() {
             "ems: standard input: no state has this image: {why}\n"
         ));
     };
-    wrong(&with(0, &[2]), "version is 2, not 3");
+    wrong(&with(0, &[3]), "version is 3, not 4");
+    wrong(&with(0, &[5]), "version is 5, not 4");
     wrong(
         &with(1, &[0x06, 0x55, 0x01]),
         "mode is 87,302, not 0 to 87,301",
@@ -188,11 +203,19 @@ fn bytes_that_are_no_image_are_told_why() {
             &format!("{module}'s end is 2,147,483,648, not 0 to 86,400"),
         );
     }
-    let module = "not 0 to 606, nor so much and 32,768";
-    wrong(&with(34, &[0x5F, 0x02]), &format!("MCS is 607, {module}"));
+    let module = "not 0 to 846, nor so much and 32,768";
+    wrong(&with(34, &[0x4F, 0x03]), &format!("MCS is 847, {module}"));
     wrong(
-        &with(48, &[0x5F, 0x82]),
-        &format!("SBAND2 is 33,375, {module}"),
+        &with(34, &[0xFF, 0x7F]),
+        &format!("MCS is 32,767, {module}"),
+    );
+    wrong(
+        &with(48, &[0x4F, 0x83]),
+        &format!("SBAND2 is 33,615, {module}"),
+    );
+    wrong(
+        &with(48, &[0xFF, 0xFF]),
+        &format!("SBAND2 is 65,535, {module}"),
     );
     shown(&with(7, &[2]))
         .status(1)
@@ -205,7 +228,7 @@ fn bytes_that_are_no_image_are_told_why() {
 #[test]
 fn other_lengths_are_no_image() {
     for length in [0, 1, 34, 46, 49, 51] {
-        let bytes = vec![3; length];
+        let bytes = vec![4; length];
         let said = if length == 1 {
             "1 byte".to_string()
         } else {
@@ -239,9 +262,9 @@ fn an_image_can_be_written_in_hex() {
             .status(1)
             .says(why);
     };
-    wrong("03 0", "standard input: the last byte has one digit");
-    wrong("03 0x", "standard input: `x` is no hexadecimal digit");
-    wrong("03 00", "standard input has 2 bytes, and an image has 50");
+    wrong("04 0", "standard input: the last byte has one digit");
+    wrong("04 0x", "standard input: `x` is no hexadecimal digit");
+    wrong("04 00", "standard input has 2 bytes, and an image has 50");
 }
 
 #[test]
@@ -261,8 +284,8 @@ fn a_flight_ends_with_an_image() {
         "16  03 00        payload        last number 3\n",
         "18  00 00 00 00  ADCS's end     none\n",
         "22  99 04 00 00  PAYLOAD's end  in 1,177 seconds\n",
-        "34  00 80        MCS            on, requested\n",
-        "42  03 80        PAYLOAD        off, 3 tries left, requested\n",
+        "34  F0 80        MCS            on, 5 tries left, requested\n",
+        "42  F2 80        PAYLOAD        off, 2 tries left, requested\n",
     ] {
         assert!(ran.text().contains(line), "{} lacks {line}", ran.text());
     }
@@ -280,6 +303,30 @@ fn a_flight_ends_with_an_image() {
             .text(),
         ran.text()
     );
+}
+
+/// The seconds on run towards 60 while tries are spent, and stand still once none are.
+#[test]
+fn a_module_that_is_on_has_tries_and_seconds() {
+    let flight = "antennas deployed\nbattery 7800\ntick 931\norder ground 1 SBAND1 on\ntick\n";
+    let sband1 = |script: &str, said: &str| {
+        let file = scratch("on.pass", format!("{flight}{script}"));
+        let line = format!("SBAND1         {said}, requested\n");
+        run(&["image", "--after", &file]).status(0).prints(&line);
+    };
+    sband1("", "on, 5 tries left");
+    sband1("tick 100\n", "on, 5 tries left");
+    let short = "tick 2 shorts SBAND1\ntick\n";
+    sband1(short, "on, 3 tries left, 0 of 60 seconds");
+    sband1(
+        &format!("{short}tick 12\n"),
+        "on, 3 tries left, 12 of 60 seconds",
+    );
+    sband1(
+        &format!("{short}tick 59\n"),
+        "on, 3 tries left, 59 of 60 seconds",
+    );
+    sband1(&format!("{short}tick 60\n"), "on, 5 tries left");
 }
 
 #[test]

@@ -144,6 +144,7 @@ fn every_mark_and_bar_says_what_it_is() {
         "orbit",
         "shorted",
         "sister-craft-a",
+        "starts-and-shorts",
         "twenty-minutes",
     ] {
         let ran = run(&["plot", &format!("examples/{script}.pass"), "-o", "-"]).status(0);
@@ -222,7 +223,7 @@ fn narrow_modes_at_one_place_are_all_seen() {
 
 #[test]
 fn the_longest_stretch_of_each_mode_is_named() {
-    for script in ["dawn", "orbit", "shorted"] {
+    for script in ["dawn", "orbit", "shorted", "starts-and-shorts"] {
         let ran = run(&["plot", &format!("examples/{script}.pass"), "-o", "-"]).status(0);
         let picture = Picture::read(ran.text());
         for mode in ["DEPLOY_WAIT", "RECOVERY", "SAFE"] {
@@ -378,9 +379,48 @@ fn shorts_and_tries_left_are_seen_in_a_day() {
     let short = picture.one("PAYLOAD short, 11:22:41 to 11:22:44");
     assert!(short.width() >= 5.0 && short.height() >= 5.0, "{short:?}");
     assert!((short.middle() - x(&picture, 40_961.0, 86_400.0)).abs() < 0.5);
-    let left = picture.one("PAYLOAD tries left: 4 and 3, 11:22:43 to 16:56:05");
-    assert_eq!(left.text, "3");
-    assert!((left.left - x(&picture, 40_963.0, 86_400.0)).abs() < 0.5);
+    // Off keeps them, and so does the start, until it was on for 60 seconds.
+    let left = picture.one("PAYLOAD tries left: 4, 3 and 2, 11:22:42 to 16:57:05");
+    assert_eq!(left.text, "2");
+    assert!((left.left - x(&picture, 40_962.0, 86_400.0)).abs() < 0.5);
+    assert!(picture.says("tries left"));
+}
+
+/// SBAND1 comes up cleanly and shorts ten seconds later, five times; then it holds.
+#[test]
+fn tries_left_are_seen_on_and_off_and_until_they_are_back() {
+    let script = format!(
+        "{SAFE}order ground 1 SBAND1 on\n{}tick 700\n",
+        "tick 10\ntick shorts SBAND1\n".repeat(5)
+    );
+    let picture = drawn_with(&script, &["--from", "00:16:00"]);
+    let left = picture.about("SBAND1 tries left");
+    let said: Vec<(&str, &str)> = left
+        .iter()
+        .map(|one| (one.text.as_str(), one.about.as_str()))
+        .collect();
+    assert_eq!(
+        said,
+        [
+            ("4", "SBAND1 tries left: 4, 00:16:12 to 00:16:23"),
+            ("3", "SBAND1 tries left: 3, 00:16:23 to 00:16:34"),
+            ("2", "SBAND1 tries left: 2, 00:16:34 to 00:16:45"),
+            ("1", "SBAND1 tries left: 1, 00:16:45 to 00:16:56"),
+            ("1", "SBAND1 tries left: 1, 00:26:57 to 00:27:57"),
+        ]
+    );
+    // Each stands in its module's lane, under the bars, from where it begins on.
+    let next = picture.texts().find(|one| one.text == "SBAND2");
+    let next = next.expect("there is a lane for SBAND2").top;
+    for (digit, second) in left.iter().zip([12.0, 23.0, 34.0, 45.0, 657.0]) {
+        assert!(near(digit.left, x(&picture, second, 756.0)), "{digit:?}");
+        let over = picture.about("SBAND1 on, ");
+        assert!(over.iter().all(|bar| bar.bottom < digit.top), "{digit:?}");
+        assert!(digit.bottom < next, "{digit:?}");
+    }
+    // A module with all five has no digit.
+    assert!(picture.about("MCS tries left").is_empty());
+    assert!(drawn(SAFE).about("tries left").is_empty());
 }
 
 /// The corners of the wedges that are about something, each as left, top left, right

@@ -19,7 +19,8 @@ static void frame(const char *bytes, size_t length) {
     ems_step(image, sizeof image, (const uint8_t *)bytes, length, report, sizeof report);
 }
 
-/* A board from its start to SAFE, with orders, an end that comes, shorts and refusals. */
+/* A board from its start to SAFE, with orders, an end that comes, shorts, tries that
+ * come back, and refusals. */
 static void step(void) {
     int seconds;
     ems_fresh(image, sizeof image);
@@ -33,7 +34,7 @@ static void step(void) {
     frame("\5\2\0\2\x1C\xE8\x1B\x58", 8);
     frame("\4\1\0\3\10\1", 6);
     frame("\6\1\0\3\4\0\1", 7);
-    for (seconds = 0; seconds < 61; seconds++)
+    for (seconds = 0; seconds < 200; seconds++)
         frame("\1\0", 2);
 }
 

@@ -74,6 +74,7 @@ fn the_answer_is_that_of_one_call_with_the_bytes_of_frames() {
         "morning",
         "shorted",
         "sister-craft-a",
+        "starts-and-shorts",
         "twenty-minutes",
     ] {
         let script = format!("examples/{name}.pass");
@@ -249,7 +250,8 @@ fn room_that_runs_out_stops_it_before_a_bad_frame_does() {
     );
 }
 
-/// A pass that is cut at a frame, and handed over in two calls, is the same pass.
+/// A pass that is cut at a frame, and handed over in two calls, is the same pass; also
+/// where a module has spent a try, and its seconds run.
 #[test]
 fn the_next_pass_goes_on_from_the_image() {
     let script = fs::read_to_string(root().join("examples/shorted.pass")).expect("a script");
@@ -258,23 +260,30 @@ fn the_next_pass_goes_on_from_the_image() {
         .out;
     let (whole, half, rest) = (place("whole.bin"), place("half.bin"), place("rest.bin"));
     let all = handed(&script, &["-o", &whole]).status(0);
-    let first = handed(&script, &["--room", "15000", "-o", &half]).status(2);
-    let cut = verdict(&first)[2];
-    let (_, byte) = cut.split_once("from byte ").expect("where the rest begins");
-    let digits: String = byte.chars().filter(char::is_ascii_digit).collect();
-    let tail = &bytes[digits.parse().expect("a number")..];
-    let next = fed(&["uplink", "-", "--image", &half, "-o", &rest], tail).status(0);
-    assert_eq!(
-        fs::read(&rest).expect("an image"),
-        fs::read(&whole).expect("an image")
-    );
     let said = |ran: &Ran| -> Vec<String> {
         let lines = frames(ran).into_iter().skip(1);
         let told = lines.map(|line| line[21..].to_string());
         told.filter(|line| !line.contains("nothing changed"))
             .collect()
     };
-    assert_eq!([said(&first), said(&next)].concat(), said(&all));
+    for room in ["12320", "15000"] {
+        let first = handed(&script, &["--room", room, "-o", &half]).status(2);
+        let cut = verdict(&first)[2];
+        let (_, byte) = cut.split_once("from byte ").expect("where the rest begins");
+        let digits: String = byte.chars().filter(char::is_ascii_digit).collect();
+        let tail = &bytes[digits.parse().expect("a number")..];
+        let next = fed(&["uplink", "-", "--image", &half, "-o", &rest], tail).status(0);
+        assert_eq!(
+            fs::read(&rest).expect("an image"),
+            fs::read(&whole).expect("an image")
+        );
+        assert_eq!([said(&first), said(&next)].concat(), said(&all));
+    }
+    // The seconds of the first cut.
+    handed(&script, &["--room", "12320", "-o", &half]).status(2);
+    run(&["image", &half])
+        .status(0)
+        .prints("PAYLOAD        on, 4 tries left, 33 of 60 seconds, requested\n");
 }
 
 /// After a flight the board is known; of an image alone, less is.

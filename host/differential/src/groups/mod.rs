@@ -5,6 +5,7 @@ mod images;
 mod passes;
 mod texts;
 mod timed;
+mod tries;
 
 use crate::compare;
 use crate::frames::Maker;
@@ -12,9 +13,19 @@ use crate::rng::Rng;
 use crate::shrink::{flight, tell_counted, tell_flight, Shot};
 use crate::sides::{Calls, Counted};
 use model::report;
+use model::state::{Mode, SETTLE_SECONDS};
 
 /// The reply room that a report just fits.
 const ROOM: u8 = report::BYTES as u8;
+
+/// The modes, DEPLOY_WAIT with both its phases and its last second.
+const MODES: [Mode; 5] = [
+    Mode::Waiting(0),
+    Mode::Settling(SETTLE_SECONDS),
+    Mode::Settling(1),
+    Mode::Recovery,
+    Mode::Safe,
+];
 
 /// The calls that a group has made, or the telling of a difference.
 pub type Verdict = Result<u64, String>;
@@ -23,7 +34,7 @@ pub type Verdict = Result<u64, String>;
 pub type Group = (&'static str, fn(&[Calls; 2], &mut Rng) -> Verdict);
 
 /// All groups.
-pub const GROUPS: [Group; 21] = [
+pub const GROUPS: [Group; 24] = [
     ("fresh start, every length", images::fresh_starts),
     ("flights by the table", |sides, rng| {
         flights::of(sides, rng, Maker::Structured, 4_000_000)
@@ -43,6 +54,9 @@ pub const GROUPS: [Group; 21] = [
     ("timed orders about every limit", timed::timed_orders),
     ("ends that run out", timed::ends_run_out),
     ("the longest end", timed::longest_end),
+    ("every power in every second", tries::every_power),
+    ("modules that short", tries::modules_that_short),
+    ("a board that starts and shorts", tries::starts_and_shorts),
     ("passes", passes::any_passes),
     ("passes stopped in every way", passes::stops),
     ("passes in every room", passes::pass_rooms),

@@ -1,6 +1,6 @@
 //! Timed orders: their fields about every limit, ends that run out, the longest.
 
-use super::{fly, Verdict, ROOM};
+use super::{fly, Verdict, MODES, ROOM};
 use crate::compare::hex;
 use crate::frames::{Maker, Stream};
 use crate::images;
@@ -8,18 +8,9 @@ use crate::rng::Rng;
 use crate::shrink::Shot;
 use crate::sides::Calls;
 use model::image;
-use model::state::{Mode, END_SECONDS, SETTLE_SECONDS};
+use model::state::{Mode, END_SECONDS};
 use model::table::{self, FROM_GROUND, FROM_PAYLOAD, MISSION, PAYLOAD};
 use model::State;
-
-/// The modes, DEPLOY_WAIT with both its phases and its last second.
-const MODES: [Mode; 5] = [
-    Mode::Waiting(0),
-    Mode::Settling(SETTLE_SECONDS),
-    Mode::Settling(1),
-    Mode::Recovery,
-    Mode::Safe,
-];
 
 fn timed(origin: u8, serial: u16, module: u8, minutes: u16) -> Shot {
     let ([high, low], [more, less]) = (serial.to_be_bytes(), minutes.to_be_bytes());

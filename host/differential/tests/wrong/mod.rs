@@ -1,4 +1,6 @@
-//! Passes that go wrong in ways that look right.
+//! Passes that go wrong in ways that look right; [`seconds`] has seconds that do.
+
+pub mod seconds;
 
 use differential::sides::Pass;
 use model::{calls, frame, image, report};

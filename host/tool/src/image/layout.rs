@@ -1,6 +1,7 @@
 //! The layout of the image, as `include/ems.h` has it: a row for each field, and
 //! what its number says. Every number has its low byte first.
 
+use super::supply::Supply;
 use crate::words::{count, thousands};
 use ems::{Mode, Module};
 
@@ -19,7 +20,7 @@ pub struct Field {
     pub range: &'static str,
 }
 
-pub const VERSION: Field = field("version", 0, 1, version, "3");
+pub const VERSION: Field = field("version", 0, 1, version, "4");
 pub const MODE: Field = field("mode", 1, 3, mode, "0 to 87,301");
 pub const CONTROL: Field = field("control", 4, 1, control, "0 to 29");
 pub const BEACON: Field = field("beacon", 5, 2, beacon, "0 to 299");
@@ -39,7 +40,7 @@ const ENDS: [(Module, Field); 4] = [
 ];
 
 /// The first of the modules; each next one follows the one before.
-const MODULE: Field = field("", 34, 2, module, "0 to 606, nor so much and 32,768");
+const MODULE: Field = field("", 34, 2, module, "0 to 846, nor so much and 32,768");
 
 const fn field(
     name: &'static str,
@@ -90,7 +91,7 @@ pub fn of_module(module: Module) -> Field {
 }
 
 fn version(number: u32) -> Option<String> {
-    (number == 3).then(|| "3".to_string())
+    (number == 4).then(|| "4".to_string())
 }
 
 fn mode(number: u32) -> Option<String> {
@@ -182,52 +183,5 @@ impl Watch {
             Watch::Recovery => Mode::Recovery,
             Watch::Safe => Mode::Safe,
         }
-    }
-}
-
-/// A module's power.
-#[derive(Clone, Copy, Debug, PartialEq, Eq)]
-pub enum Power {
-    On,
-    /// With so many tries left.
-    Off(u16),
-    /// With so many seconds left.
-    Failed(u16),
-}
-
-/// A module's power, and whether it is requested on.
-#[derive(Clone, Copy, Debug, PartialEq, Eq)]
-pub struct Supply {
-    pub power: Power,
-    pub requested: bool,
-}
-
-impl Supply {
-    /// What a module's number says.
-    pub fn of(number: u32) -> Option<Supply> {
-        const REQUESTED: u16 = 32_768;
-        let number = u16::try_from(number).ok()?;
-        let power = match number % REQUESTED {
-            0 => Power::On,
-            tries @ 1..=5 => Power::Off(tries),
-            more @ 6..=606 => Power::Failed(more - 6),
-            _ => return None,
-        };
-        let requested = number >= REQUESTED;
-        Some(Supply { power, requested })
-    }
-
-    fn said(self) -> String {
-        let power = match self.power {
-            Power::On => "on".to_string(),
-            Power::Off(tries) => format!("off, {} left", count(u64::from(tries), "try")),
-            Power::Failed(left) => format!("failed, {} left", count(u64::from(left), "second")),
-        };
-        let requested = if self.requested {
-            "requested"
-        } else {
-            "not requested"
-        };
-        format!("{power}, {requested}")
     }
 }

@@ -1,14 +1,17 @@
 //! The board's state, read off an image.
 
 mod layout;
+mod supply;
 
-pub use layout::{fields, Field, Power, BYTES};
+pub use layout::{fields, Field, BYTES};
+pub use supply::Power;
 
 use ems::{Mode, Module};
 use layout::{
-    of_end, of_module, Supply, Watch, ANTENNAS, ASCEND, BEACON, CONTROL, DESCEND, GROUND, MODE,
-    PAYLOAD, TENSION,
+    of_end, of_module, Watch, ANTENNAS, ASCEND, BEACON, CONTROL, DESCEND, GROUND, MODE, PAYLOAD,
+    TENSION,
 };
+use supply::Supply;
 
 /// What a board in DEPLOY_WAIT does.
 #[derive(Clone, Copy, Debug, PartialEq, Eq)]
@@ -119,9 +122,10 @@ impl Image {
         self.two(if ground { &GROUND } else { &PAYLOAD })
     }
 
-    /// A module's power; a number that no power has is taken for on.
+    /// A module's power; a number that no power has is taken for failed.
     pub fn power(&self, module: Module) -> Power {
-        self.supply(module).map_or(Power::On, |supply| supply.power)
+        let supply = self.supply(module);
+        supply.map_or(Power::Failed(0), |supply| supply.power)
     }
 
     fn supply(&self, module: Module) -> Option<Supply> {
@@ -140,7 +144,7 @@ impl Image {
 
     /// The modules that are on, as a mask.
     pub fn on(&self) -> u8 {
-        self.mask(|supply| supply.power == Power::On)
+        self.mask(|supply| matches!(supply.power, Power::On { .. }))
     }
 
     /// The modules that have failed, as a mask.
@@ -185,7 +189,7 @@ mod tests {
         }
         for (module, own) in Module::ALL.into_iter().zip(&state.modules) {
             let power = match own.power {
-                state::Power::On => Power::On,
+                state::Power::On { tries, seconds } => Power::On { tries, seconds },
                 state::Power::Off(tries) => Power::Off(tries),
                 state::Power::Failed(left) => Power::Failed(left),
             };
@@ -216,19 +220,31 @@ mod tests {
             ends: [1, 1_200, 86_399, 86_400],
             ..fresh
         };
-        let powers = [
-            state::Power::On,
-            state::Power::Off(3),
-            state::Power::Failed(599),
-        ];
-        for (module, power) in state.modules.iter_mut().zip(powers.into_iter().cycle()) {
-            module.power = power;
-        }
         use state::Mode::{Recovery, Safe, Settling, Waiting};
         for mode in [Waiting(86_399), Settling(900), Settling(1), Recovery, Safe] {
             state.mode = mode;
             is_read(&state);
         }
+        for powers in powers().chunks(state.modules.len()) {
+            for (module, power) in state.modules.iter_mut().zip(powers) {
+                module.power = *power;
+            }
+            is_read(&state);
+        }
+    }
+
+    /// Every power that a module can have.
+    fn powers() -> Vec<state::Power> {
+        use state::Power::{Failed, Off, On};
+        let some = (1..=4).flat_map(|tries| (0..60).map(move |seconds| On { tries, seconds }));
+        let all = On {
+            tries: 5,
+            seconds: 0,
+        };
+        some.chain([all])
+            .chain((1..=5).map(Off))
+            .chain((0..=600).map(Failed))
+            .collect()
     }
 
     #[test]
@@ -245,7 +261,7 @@ mod tests {
     #[test]
     fn the_library_has_the_same_images() {
         let near = [
-            0, 300, 606, 5_000, 9_000, 32_768, 33_374, 65_535, 86_400, 87_300,
+            0, 60, 240, 300, 846, 5_000, 9_000, 32_768, 33_008, 33_614, 65_535, 86_400, 87_300,
         ];
         let near = near
             .into_iter()

@@ -1,7 +1,7 @@
 //! What a picture needs of a flight: when what changed.
 
 use crate::board::Step;
-use crate::image::{Image, Power};
+use crate::image::Image;
 use crate::script::in_words;
 use crate::tables::{shorts, TICK};
 use ems::{answer, Beacon, Module, Report};
@@ -71,7 +71,7 @@ pub struct Record {
     pub failed: Track<u8>,
     /// Shorts seen in each second, at the second's begin.
     pub shorts: Track<u8>,
-    /// The tries that a module has left, where it has spent some.
+    /// The tries that a module has left, on or off, where it has spent some.
     pub tries: [Track<Option<u16>>; Module::ALL.len()],
     /// The second at which a module's end comes, while one is running.
     pub ends: [Track<Option<u64>>; Module::ALL.len()],
@@ -79,8 +79,6 @@ pub struct Record {
     pub events: Vec<Event>,
     /// When a beacon was due, and which.
     pub beacons: Vec<(u64, Beacon)>,
-    /// The powers of a board that has seen nothing.
-    fresh: Image,
 }
 
 impl Record {
@@ -101,7 +99,6 @@ impl Record {
             ends: Module::ALL.map(|_| Track::new()),
             events: Vec::new(),
             beacons: Vec::new(),
-            fresh: *fresh,
         };
         record.state(fresh);
         record
@@ -155,14 +152,7 @@ impl Record {
             ends.at(now, (left > 0).then_some(now + left));
         }
         for (module, tries) in Module::ALL.into_iter().zip(&mut self.tries) {
-            let power = image.power(module);
-            tries.at(
-                now,
-                match power {
-                    Power::Off(left) if power != self.fresh.power(module) => Some(left),
-                    _ => None,
-                },
-            );
+            tries.at(now, image.power(module).tries_left());
         }
     }
 }
