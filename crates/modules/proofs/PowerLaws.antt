@@ -3,11 +3,11 @@
 use Prim.Native.Nat.{ℕ, _+_, _-_, _*_, _≤_, _<_}
 use native.Mathlib.Omega.{arith}
 use mathlib.Core.Path.{_≡_, refl}
-use mathlib.Core.Bool.{Bool, true, false, not, _&&_, _||_, true≢false}
+use mathlib.Core.Bool.{Bool, true, false, not, _&&_, true≢false}
 use lib.Dec.{T, eqb, leb, ltb, leb→le, le→leb, ltb→lt, lt→ltb, lit<}
-use borrow.Author.Tests.{eqb-true, eqb-false, eq-eqb, ltb-true, ltb-false}
+use borrow.Author.Tests.{eqb-true, eqb-false, eq-eqb, ltb-true}
 use Rattle.basics.specs.Choice.{if_then_else_, within}
-use Rattle.basics.proofs.ChoiceLaws.{is-true, holds, and-left, and-right, and-both, or-left, or-right, decided, either, within-low, within-high, within-of}
+use Rattle.basics.proofs.ChoiceLaws.{is-true, holds, and-left, and-right, and-both, decided, either, within-low, within-high, within-of}
 use Rattle.modules.specs.Power.{oneTryFewer, stayedOn, attempted, switched, powerInRange, fullTries, retrySeconds, cleanSeconds, isOn, isFailed, triesLeft}
 use Rattle.modules.specs.declared.power.Power.{Power}
 use Rattle.modules.specs.declared.power.Power.the-variants.{On, Off, Failed}
@@ -76,35 +76,24 @@ OnFits tries seconds = record { low : 1 ≤ tries; high : tries ≤ fullTries; f
 
 pub on-in-range : (tries seconds : ℕ) → OnFits tries seconds → T (powerInRange (On tries seconds))
 on-in-range tries seconds h =
-    and-both (within 1 fullTries tries && ltb seconds cleanSeconds) (ltb tries fullTries || eqb seconds 0)
-    (and-both (within 1 fullTries tries) (ltb seconds cleanSeconds) (within-of 1 fullTries tries (h .low) (h .high)) (lt→ltb seconds cleanSeconds (h .few)))
-    (by-tries (ltb tries fullTries) refl)
-  where
-    by-tries : (fewer : Bool) → ltb tries fullTries ≡ fewer → T (ltb tries fullTries || eqb seconds 0)
-    by-tries true e = or-left (ltb tries fullTries) (eqb seconds 0) (holds (ltb tries fullTries) e)
-    by-tries false e = or-right (ltb tries fullTries) (eqb seconds 0) (holds (eqb seconds 0) (eq-eqb seconds 0 (omega (arith, h .held, ltb-false tries fullTries e))))
+    decided (λ (b : Bool). T b) (eqb tries fullTries)
+    (λ e. holds (eqb seconds 0) (eq-eqb seconds 0 (omega (arith, h .held, eqb-true tries fullTries e))))
+    (λ e. and-both (within 1 fullTries tries) (ltb seconds cleanSeconds) (within-of 1 fullTries tries (h .low) (h .high)) (lt→ltb seconds cleanSeconds (h .few)))
 
 pub on-fits : (tries seconds : ℕ) → T (powerInRange (On tries seconds)) → OnFits tries seconds
 on-fits tries seconds h =
-    let ranges = and-left (within 1 fullTries tries && ltb seconds cleanSeconds) (ltb tries fullTries || eqb seconds 0) h in
-    let range = and-left (within 1 fullTries tries) (ltb seconds cleanSeconds) ranges in
+    decided (λ (b : Bool). T b → OnFits tries seconds) (eqb tries fullTries)
+    (λ e none.
+    let all = eqb-true tries fullTries e in
+    let zero = eqb-true seconds 0 (is-true (eqb seconds 0) none) in
+    record { low = omega arith; high = omega arith; few = omega arith; held = omega arith })
+    (λ e some.
+    let range = and-left (within 1 fullTries tries) (ltb seconds cleanSeconds) some in
     let low = within-low 1 fullTries tries range in
     let high = within-high 1 fullTries tries range in
-    let few = ltb→lt seconds cleanSeconds (and-right (within 1 fullTries tries) (ltb seconds cleanSeconds) ranges) in
-    record {
-      low = low;
-      high = high;
-      few = few;
-      held =
-          by-tries low high few (ltb tries fullTries) refl
-          (and-right (within 1 fullTries tries && ltb seconds cleanSeconds) (ltb tries fullTries || eqb seconds 0) h);
-    }
-  where
-    by-tries :
-        1 ≤ tries → tries ≤ fullTries → seconds < cleanSeconds → (fewer : Bool) → ltb tries fullTries ≡ fewer → T (fewer || eqb seconds 0) →
-        tries * cleanSeconds + seconds ≤ 300
-    by-tries low high few true e held = omega (arith, ltb-true tries fullTries e)
-    by-tries low high few false e held = omega (arith, eqb-true seconds 0 (is-true (eqb seconds 0) held))
+    let few = ltb→lt seconds cleanSeconds (and-right (within 1 fullTries tries) (ltb seconds cleanSeconds) some) in
+    record { low = low; high = high; few = few; held = omega (arith, eqb-false tries fullTries e) })
+    h
 
 -- a second keeps tries and seconds in their ranges
 fewer-in-range : (tries : ℕ) → tries ≤ fullTries → T (powerInRange (oneTryFewer tries))

@@ -1,7 +1,7 @@
 -- One module in one second: on with tries and seconds, off with tries left, or failed with seconds left.
 -- Assumes nothing.
 use Prim.Native.Nat.{ℕ, _+_, _-_}
-use mathlib.Core.Bool.{Bool, true, false, _&&_, _||_}
+use mathlib.Core.Bool.{Bool, true, false, _&&_}
 use lib.Dec.{ltb, leb, eqb}
 use Rattle.basics.specs.Choice.{if_then_else_, within}
 use Rattle.modules.specs.declared.power.Power.{Power}
@@ -66,7 +66,7 @@ switched wanted short (Failed left) = failedSwitched wanted short left
 -- seconds left (0 to 600)
 abbrev pub powerInRange : Power → Bool
 powerInRange (On tries seconds) =
-    within 1 fullTries tries && ltb seconds cleanSeconds && (ltb tries fullTries || eqb seconds 0)
+    if eqb tries fullTries then eqb seconds 0 else within 1 fullTries tries && ltb seconds cleanSeconds
 powerInRange (Off tries) = within 1 fullTries tries
 powerInRange (Failed left) = leb left retrySeconds
 

@@ -51,15 +51,15 @@ fn stayed_on(tries: u8, seconds: u8) -> Power
     ensures { λ r. ⌜ r ≡ stayedOn tries seconds ⌝ }
 {
     if tries == TRIES {
-        Power::On { tries, seconds }
-    } else if seconds < CLEAN - 1 {
-        Power::On {
+        return Power::On { tries, seconds };
+    }
+    if seconds < CLEAN - 1 {
+        return Power::On {
             tries,
             seconds: seconds + 1,
-        }
-    } else {
-        started(TRIES)
+        };
     }
+    started(TRIES)
 }
 
 impl Power {
@@ -70,23 +70,21 @@ impl Power {
         match self {
             Power::On { tries, seconds } => {
                 if short {
-                    one_try_fewer(tries)
-                } else if wanted {
-                    stayed_on(tries, seconds)
-                } else {
-                    Power::Off(tries)
+                    return one_try_fewer(tries);
                 }
+                if wanted {
+                    return stayed_on(tries, seconds);
+                }
+                Power::Off(tries)
             }
             Power::Off(tries) => {
-                if wanted {
-                    if short {
-                        one_try_fewer(tries)
-                    } else {
-                        started(tries)
-                    }
-                } else {
-                    self
+                if !wanted {
+                    return self;
                 }
+                if short {
+                    return one_try_fewer(tries);
+                }
+                started(tries)
             }
             Power::Failed(left) => {
                 if 0 < left {
@@ -110,10 +108,11 @@ impl Power {
     {
         match self {
             Power::On { tries, seconds } => {
-                (1 <= tries)
-                    & (tries <= TRIES)
-                    & (seconds < CLEAN)
-                    & ((tries < TRIES) | (seconds == 0))
+                if tries == TRIES {
+                    seconds == 0
+                } else {
+                    (1 <= tries) & (tries <= TRIES) & (seconds < CLEAN)
+                }
             }
             Power::Off(tries) => (1 <= tries) & (tries <= TRIES),
             Power::Failed(left) => left <= RETRY,
