@@ -6,7 +6,7 @@ use mathlib.Core.Bool.{Bool, true, false, not, true≢false}
 use mathlib.Core.List.{List, [], _∷_, _++_}
 use lib.Dec.{T}
 use Rattle.basics.specs.Choice.{bit}
-use Rattle.basics.proofs.ChoiceLaws.{and-left}
+use Rattle.basics.proofs.ChoiceLaws.{is-false, and-left}
 use Rattle.modules.specs.Power.{isOn}
 use Rattle.modules.specs.Groups.{isMission, moduleCount}
 use Rattle.modules.proofs.EndsLaws.{none-at}
@@ -46,10 +46,6 @@ fresh-held i low cs =
 
 fresh-said : Requested crossing
 fresh-said i low cs = fresh-held i low cs .requested
-
-pub is-false : (b : Bool) → (T b → ⊥) → b ≡ false
-is-false true h = absurd (h tt)
-is-false false h = refl
 
 module _ (i : ℕ) where
   -- in DEPLOY_WAIT the module is off

@@ -9,7 +9,7 @@ use lib.Dec.{eqb, leb}
 use lib.ListN.{length}
 use borrow.Author.Tests.{leb-true, eqb-true}
 use Rattle.basics.specs.Choice.{if_then_else_}
-use Rattle.basics.proofs.ChoiceLaws.{is-true, holds, either, decided}
+use Rattle.basics.proofs.ChoiceLaws.{is-true, is-false, holds, either, decided}
 use Rattle.basics.specs.Outcome.{Outcome}
 use Rattle.modules.specs.Groups.{isMission, moduleCount}
 use Rattle.modules.specs.Power.{isOn}
@@ -33,7 +33,7 @@ use Rattle.promises.specs.Dawn.{Dawn, OrderedOff, StillOff, memory}
 use Rattle.promises.proofs.OnlyTicks.{only-ticks}
 use Rattle.promises.proofs.WordLaws.{aged-off}
 use Rattle.promises.proofs.Requests.{Held, called-held}
-use Rattle.promises.proofs.AsTold.{is-false, Dark, after-dark, called-off, fresh-dark, fresh-held}
+use Rattle.promises.proofs.AsTold.{Dark, after-dark, called-off, fresh-dark, fresh-held}
 use Rattle.promises.proofs.Late.{old}
 
 -- what is done had room

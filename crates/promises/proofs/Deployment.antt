@@ -6,8 +6,9 @@ use mathlib.Core.Path.{_≡_, refl}
 use mathlib.Core.Bool.{Bool, true, false, _||_, true≢false}
 use mathlib.Core.List.{List, [], _∷_}
 use lib.Dec.{T, eqb, ltb→lt}
+use borrow.Author.Tests.{not-true}
 use Rattle.basics.specs.Choice.{if_then_else_}
-use Rattle.basics.proofs.ChoiceLaws.{holds, and-left, either, within-low, within-high}
+use Rattle.basics.proofs.ChoiceLaws.{is-true, holds, and-left, either, within-low, within-high}
 use Rattle.supervisor.specs.Range.{inRange, watchInRange, phaseInRange, waitSeconds, settleSeconds}
 use Rattle.supervisor.specs.Tick.{ticked}
 use Rattle.supervisor.specs.Deploy.{phaseTicked}
@@ -22,7 +23,7 @@ use Rattle.supervisor.proofs.ActLaws.{watch-still}
 use Rattle.supervisor.proofs.HistoryLaws.{after-in-range, after-keeps}
 use Rattle.supervisor.proofs.RangeLaws.{parts, phase-in-range}
 use Rattle.supervisor.proofs.TickLaws.{Ticks, waits, runs, ticks, ticked-flies}
-use Rattle.promises.specs.Deployment.{Deployment, longestDeployment}
+use Rattle.promises.specs.Deployment.{Deployment, deployed, longestDeployment}
 use Rattle.promises.proofs.OnlyTicks.{Turn, moves, still, turn, only-ticks}
 use Rattle.promises.proofs.OutOfRange.{no-ticks}
 
@@ -74,6 +75,9 @@ left-in-all (c ∷ cs) s = omega (arith, left-in-all cs (called s c .result .sta
 pub stays-over : (s : State) (cs : List Call) → inDeployWait s ≡ false → inDeployWait (after s cs) ≡ false
 stays-over s cs h =
     after-keeps (λ t. inDeployWait t ≡ false) (λ shorts t v e. ticked-flies shorts t e) (λ f fits i t v e. rw (watch-still f fits i t) e) cs s h
+
+pub stays-deployed : (s : State) (cs : List Call) → T (deployed s) → T (deployed (after s cs))
+stays-deployed s cs out = rw (stays-over s cs (not-true (inDeployWait s) (is-true (deployed s) out))) tt
 
 -- from a state in range there are 87,300 seconds left at most
 most-left : (m : Mode) (c b : ℕ) → T (watchInRange m c b) → secondsLeft m ≤ longestDeployment

@@ -7,6 +7,7 @@ pub mod OnlyTicks
 pub mod ForAReason
 pub mod OutOfRange
 pub mod Deployment
+pub mod TriesFall
 pub mod CountsAsFailed
 pub mod TwoModes
 pub mod TwoControl

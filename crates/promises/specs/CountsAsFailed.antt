@@ -34,13 +34,13 @@ abbrev pub costlyShorts : ℕ → State → List Call → ℕ
 costlyShorts i s [] = 0
 costlyShorts i s (c ∷ cs) = (if costly i s c then 1 else 0) + costlyShorts i (called s c .result .state) cs
 
--- module i is on before and after a call: if it is a done tick, a clean one
-abbrev pub onThrough : ℕ → State → Call → Bool
-onThrough i s c = isOn (moduleAt i s .power) && isOn (moduleAt i (called s c .result .state) .power)
+-- a clean tick: module i is on before it and after it
+abbrev pub isClean : ℕ → State → Call → Bool
+isClean i s c = isOn (moduleAt i s .power) && isOn (moduleAt i (called s c .result .state) .power)
 
--- the clean ticks in a row, a call later: a done tick that is not clean ends the row, and other frames leave it
+-- the clean ticks in a row, a call later: a done tick that is not clean ends the row, and other calls leave it
 abbrev pub rowAfter : ℕ → State → Call → (row : ℕ) → ℕ
-rowAfter i s c row = if doneTick s c then (if onThrough i s c then row + 1 else 0) else row
+rowAfter i s c row = if doneTick s c then (if isClean i s c then row + 1 else 0) else row
 
 -- somewhere in a history, at its end too, there are so many in a row; `row` of them came before it
 abbrev pub hasRow : (many i : ℕ) → State → List Call → (row : ℕ) → Bool
@@ -52,7 +52,7 @@ hasRow many i s (c ∷ cs) row = leb many row || hasRow many i (called s c .resu
 pub record Tried (many i tries : ℕ) (s : State) (since : List Call) : Type 0 where
   pub flies : T (deployed s)
   pub begins : (moduleAt i s .power ≡ Off tries) ⊎ (moduleAt i s .power ≡ On tries 0)
-  pub short : hasRow many i s since 0 ≡ false
+  pub row : hasRow many i s since 0 ≡ false
 
 -- it has its tries less the costly shorts so far
 abbrev pub TriesFall : (many : ℕ) → Type 0
@@ -60,22 +60,24 @@ TriesFall many =
     (i tries : ℕ) (s : State) (since : List Call) → Tried many i tries s since → costlyShorts i s since < tries →
     triesLeft (moduleAt i (after s since) .power) ≡ tries - costlyShorts i s since
 
--- and the costly short that takes the last one, or one that comes so much sooner, leaves it failed with 600 seconds left
-abbrev pub FailsAtLast : (many sooner : ℕ) → Type 0
-FailsAtLast many sooner =
+-- and the costly short that would leave it so many tries leaves it failed, with 600 seconds left
+abbrev pub FailsWith : (many left : ℕ) → Type 0
+FailsWith many left =
     (i tries : ℕ) (s : State) (since : List Call) (c : Call) → Tried many i tries s since →
-    T (costly i (after s since) c) → costlyShorts i s since + 1 + sooner ≡ tries →
+    T (costly i (after s since) c) → costlyShorts i s since + 1 + left ≡ tries →
     moduleAt i (called (after s since) c .result .state) .power ≡ Failed 600
 
--- module i is wanted in every done tick of a history, and short in those that find it on, and in no other
+-- in a tick module i is wanted, and it is short if the tick finds it on, and else not
+abbrev pub startsOrShorts : ℕ → State → Call → Bool
+startsOrShorts i s c =
+    wantedIn (called s c .result .state) i
+    && (if isOn (moduleAt i s .power) then shorted i (aboutOf c) else not (shorted i (aboutOf c)))
+
+-- so it goes in every done tick of a history
 abbrev pub startsAndShorts : ℕ → State → List Call → Bool
 startsAndShorts i s [] = true
 startsAndShorts i s (c ∷ cs) =
-    (if doneTick s c then
-    wantedIn (called s c .result .state) i
-    && (if isOn (moduleAt i s .power) then shorted i (aboutOf c) else not (shorted i (aboutOf c)))
-    else true)
-    && startsAndShorts i (called s c .result .state) cs
+    (if doneTick s c then startsOrShorts i s c else true) && startsAndShorts i (called s c .result .state) cs
 
 -- such a module comes from one power to another in so many ticks
 abbrev pub ComesTo : (ticks : ℕ) → (from to : Power) → Type 0
@@ -86,7 +88,7 @@ ComesTo ticks from to =
 -- the flaw that two teams flew
 pub record CountsAsFailed : Type 0 where
   pub fall : TriesFall 60
-  pub fails : FailsAtLast 60 0
+  pub fails : FailsWith 60 0
   -- their own case: with 5 tries it is failed after 10 ticks
   pub teams : ComesTo 10 (Off 5) (Failed 600)
   -- and then again after every 602: 600 to wait, one to start, one to short

@@ -14,7 +14,7 @@ use Rattle.supervisor.specs.Fresh.{freshState}
 use Rattle.supervisor.specs.History.{Call, after}
 use Rattle.supervisor.specs.declared.state.State.{State}
 use Rattle.supervisor.proofs.Rules.{rules}
-use Rattle.promises.specs.CountsAsFailed.{Tried, TriesFall, FailsAtLast, ComesTo}
+use Rattle.promises.specs.CountsAsFailed.{Tried, TriesFall, FailsWith, ComesTo}
 use Rattle.promises.proofs.Edge.Flights.{quiet, short, comm2, seconds, toRecovery, send, sent}
 
 -- in RECOVERY, before its first start, COMM2 has five tries; each short takes one
@@ -27,21 +27,21 @@ aMinuteOn = sent (seconds 61)
 
 minute-tried : Tried 61 comm2 1 (comm2Shorted 4) aMinuteOn
 unfolding rules
-minute-tried = record { flies = tt; begins = inl refl; short = refl }
+minute-tried = record { flies = tt; begins = inl refl; row = refl }
 
 pub not-over-a-minute : TriesFall 61 → ⊥
 unfolding rules
 not-over-a-minute says = omega (arith, says comm2 1 (comm2Shorted 4) aMinuteOn minute-tried (lit< tt))
 
-pub not-failed-after-a-minute : FailsAtLast 61 0 → ⊥
+pub not-failed-after-a-minute : FailsWith 61 0 → ⊥
 unfolding rules
 not-failed-after-a-minute says = false≢true (ap isFailed (says comm2 1 (comm2Shorted 4) aMinuteOn (send (short 4)) minute-tried tt refl))
 
 -- with two tries left a short leaves one
-pub not-a-short-sooner : FailsAtLast 60 1 → ⊥
+pub not-a-short-sooner : FailsWith 60 1 → ⊥
 unfolding rules
 not-a-short-sooner says =
-    false≢true (ap isFailed (says comm2 2 (comm2Shorted 3) [] (send (short 4)) (record { flies = tt; begins = inl refl; short = refl }) tt refl))
+    false≢true (ap isFailed (says comm2 2 (comm2Shorted 3) [] (send (short 4)) (record { flies = tt; begins = inl refl; row = refl }) tt refl))
 
 -- COMM2 comes up cleanly and shorts a second later: after nine ticks it is on, with its last try
 abbrev pub nineTicks : List (List ℕ)
