@@ -118,9 +118,13 @@ pub fn streams() -> Vec<Stream> {
         }
     };
     let quiet = || vec![vec![TICK, 0x00]];
-    // Every module is shorted in every other second: five shorts fail it, and from
-    // then it waits, but for the second of 602 in which it is on.
-    let shorts = || vec![vec![TICK, 0xFF], vec![TICK, 0x00]];
+    // Every module is shorted in one second of 62: it starts again in the next, and the
+    // other 60 are those after which it has all its tries.
+    let shorts = || {
+        let mut seconds = vec![vec![TICK, 0x00]; 62];
+        seconds[0] = vec![TICK, 0xFF];
+        seconds
+    };
     let text = |name, call, input| Stream {
         name,
         call,
