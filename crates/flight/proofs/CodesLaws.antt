@@ -5,7 +5,7 @@ use native.Mathlib.Omega.{arith}
 use mathlib.Core.Path.{_≡_, refl, sym, ap, _∙_}
 use mathlib.Core.Bool.{Bool, true, false}
 use lib.Dec.{T, eqb, leb, ltb, ltb→lt}
-use borrow.Author.Tests.{eqb-true, eqb-false, leb-true, leb-false, ltb-true, ltb-false, ne-eqb, le-leb, lt-leb, lt-ltb, le-ltb}
+use borrow.Author.Tests.{eqb-true, eqb-false, leb-true, leb-false, ltb-true, ltb-false, le-leb, lt-leb, lt-ltb, le-ltb}
 use Rattle.basics.proofs.ChoiceLaws.{is-true, decided, within-low, within-high, within-of}
 use Rattle.modules.specs.Power.{powerInRange, fullTries, cleanSeconds, retrySeconds}
 use Rattle.modules.specs.declared.power.Power.{Power}

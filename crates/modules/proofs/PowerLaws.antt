@@ -4,7 +4,7 @@ use Prim.Native.Nat.{ℕ, _+_, _-_, _*_, _≤_, _<_}
 use native.Mathlib.Omega.{arith}
 use mathlib.Core.Path.{_≡_, refl}
 use mathlib.Core.Bool.{Bool, true, false, not, _&&_, true≢false}
-use lib.Dec.{T, eqb, leb, ltb, leb→le, le→leb, ltb→lt, lt→ltb, lit<}
+use lib.Dec.{T, eqb, ltb, leb→le, le→leb, ltb→lt, lt→ltb, lit<}
 use borrow.Author.Tests.{eqb-true, eqb-false, eq-eqb, ltb-true}
 use Rattle.basics.specs.Choice.{if_then_else_, within}
 use Rattle.basics.proofs.ChoiceLaws.{is-true, holds, and-left, and-right, and-both, decided, either, within-low, within-high, within-of}
@@ -80,20 +80,22 @@ on-in-range tries seconds h =
     (λ e. holds (eqb seconds 0) (eq-eqb seconds 0 (omega (arith, h .held, eqb-true tries fullTries e))))
     (λ e. and-both (within 1 fullTries tries) (ltb seconds cleanSeconds) (within-of 1 fullTries tries (h .low) (h .high)) (lt→ltb seconds cleanSeconds (h .few)))
 
+all-fits : (tries seconds : ℕ) → tries ≡ fullTries → seconds ≡ 0 → OnFits tries seconds
+all-fits tries seconds all none = record { low = omega arith; high = omega arith; few = omega arith; held = omega arith }
+
+some-fits : (tries seconds : ℕ) → (tries ≡ fullTries → ⊥) → T (within 1 fullTries tries && ltb seconds cleanSeconds) → OnFits tries seconds
+some-fits tries seconds fewer h =
+    let range = and-left (within 1 fullTries tries) (ltb seconds cleanSeconds) h in
+    let low = within-low 1 fullTries tries range in
+    let high = within-high 1 fullTries tries range in
+    let few = ltb→lt seconds cleanSeconds (and-right (within 1 fullTries tries) (ltb seconds cleanSeconds) h) in
+    record { low = low; high = high; few = few; held = omega (arith, fewer) }
+
 pub on-fits : (tries seconds : ℕ) → T (powerInRange (On tries seconds)) → OnFits tries seconds
 on-fits tries seconds h =
     decided (λ (b : Bool). T b → OnFits tries seconds) (eqb tries fullTries)
-    (λ e none.
-    let all = eqb-true tries fullTries e in
-    let zero = eqb-true seconds 0 (is-true (eqb seconds 0) none) in
-    record { low = omega arith; high = omega arith; few = omega arith; held = omega arith })
-    (λ e some.
-    let range = and-left (within 1 fullTries tries) (ltb seconds cleanSeconds) some in
-    let low = within-low 1 fullTries tries range in
-    let high = within-high 1 fullTries tries range in
-    let few = ltb→lt seconds cleanSeconds (and-right (within 1 fullTries tries) (ltb seconds cleanSeconds) some) in
-    record { low = low; high = high; few = few; held = omega (arith, eqb-false tries fullTries e) })
-    h
+    (λ e none. all-fits tries seconds (eqb-true tries fullTries e) (eqb-true seconds 0 (is-true (eqb seconds 0) none)))
+    (λ e some. some-fits tries seconds (eqb-false tries fullTries e) some) h
 
 -- a second keeps tries and seconds in their ranges
 fewer-in-range : (tries : ℕ) → tries ≤ fullTries → T (powerInRange (oneTryFewer tries))
@@ -115,13 +117,14 @@ started-in-range tries h =
     let high = within-high 1 fullTries tries h in
     on-in-range tries 0 (record { low = low; high = high; few = lit< tt; held = omega arith })
 
+more-fits : (tries seconds : ℕ) → OnFits tries seconds → (tries ≡ fullTries → ⊥) → seconds + 1 < cleanSeconds → OnFits tries (seconds + 1)
+more-fits tries seconds h fewer few = record { low = h .low; high = h .high; few = few; held = omega (arith, h .high, fewer) }
+
 stayed-in-range : (tries seconds : ℕ) → OnFits tries seconds → T (powerInRange (stayedOn tries seconds))
 stayed-in-range tries seconds h =
     decided (λ (q : Power). T (powerInRange q)) (eqb tries fullTries) (λ e. on-in-range tries seconds h)
     (λ e. decided (λ (q : Power). T (powerInRange q)) (ltb (seconds + 1) cleanSeconds)
-    (λ f.
-    let few = ltb-true (seconds + 1) cleanSeconds f in
-    on-in-range tries (seconds + 1) (record { low = h .low; high = h .high; few = few; held = omega (arith, h .high, eqb-false tries fullTries e) }))
+    (λ f. on-in-range tries (seconds + 1) (more-fits tries seconds h (eqb-false tries fullTries e) (ltb-true (seconds + 1) cleanSeconds f)))
     (λ f. tt))
 
 pub switched-in-range : (wanted short : Bool) (p : Power) → T (powerInRange p) → T (powerInRange (switched wanted short p))

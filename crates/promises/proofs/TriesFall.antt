@@ -20,7 +20,7 @@ use Rattle.supervisor.specs.declared.state.State.{State}
 use Rattle.promises.specs.Deployment.{deployed}
 use Rattle.promises.specs.ForAReason.{wantedIn}
 use Rattle.promises.specs.TwoCraft.{shorted}
-use Rattle.promises.specs.CountsAsFailed.{costs, costly, costlyShorts, rowAfter, hasRow, Tried, TriesFall, FailsWith}
+use Rattle.promises.specs.CountsAsFailed.{costs, costly, costlyShorts, rowAfter, hasRow, TriesFall, FailsWith}
 use Rattle.promises.proofs.Deployment.{stays-deployed}
 use Rattle.promises.proofs.ForAReason.{second}
 use Rattle.promises.proofs.OnlyTicks.{only-ticks}
