@@ -1,4 +1,5 @@
--- It counts as failed, a hair more: not though it was on for 60 clean ticks in a row, not a short sooner, not after nine.
+-- It counts as failed, a hair more: not though it was on for 60 clean ticks in a row, not a short sooner, not after nine
+-- ticks, and not again after 601.
 -- Assumes nothing.
 use Prim.Native.Nat.{ℕ}
 use native.Mathlib.Omega.{arith}
@@ -50,3 +51,8 @@ nineTicks = quiet ∷ short 4 ∷ quiet ∷ short 4 ∷ quiet ∷ short 4 ∷ qu
 pub not-after-nine : ComesTo 9 (Off 5) (Failed 600) → ⊥
 unfolding rules
 not-after-nine says = false≢true (ap isFailed (says comm2 (comm2Shorted 0) (sent nineTicks) tt refl tt refl))
+
+-- failed by five shorts it waits for 600, and starts: after 601 ticks it is on, with one try
+pub not-again-after-601 : ComesTo 601 (Failed 600) (Failed 600) → ⊥
+unfolding rules
+not-again-after-601 says = false≢true (ap isFailed (says comm2 (comm2Shorted 5) (sent (seconds 601)) tt refl tt refl))
