@@ -16,6 +16,29 @@ use Rattle.morse.specs.Units.{span}
 use Rattle.morse.proofs.SignsLaws.{same-marks-eq}
 use Rattle.hearing.specs.Numbers.{grown, numbers, shorter, noByte, byteOf, afterMark}
 
+-- a number that isn't 32 yet is doubled once more
+pub past-on : (turns first n : ℕ) → 0 < turns → n < shorter → pastBy turns first n ≡ pastBy (turns - 1) (first + 1) (2 * n)
+past-on zero first n t h = absurd (not-suc-le-zero t)
+past-on (suc turns) first n t h = simp (ne-eqb n shorter (lt-ne h))
+
+-- at 32 it is the byte at hand
+pub past-here : (turns first : ℕ) → 0 < turns → pastBy turns first shorter ≡ first
+past-here zero first t = absurd (not-suc-le-zero t)
+past-here (suc turns) first t = refl
+
+-- beyond, there is none
+pub past-never : (turns first n : ℕ) → shorter < n → pastBy turns first n ≡ noByte
+past-never zero first n h = refl
+past-never (suc turns) first n h = simp (ne-eqb n shorter (omega arith)) (past-never turns (first + 1) (2 * n) (omega arith))
+
+-- the byte of a sign of five marks, by its last one
+figureHeard : ℕ → ℕ
+figureHeard n =
+    if eqb (n % 2) 1 then pastBy shorter firstFigure (n - 31) else pastBy shorter (firstFigure + 5) (numbers - n)
+
+-- it is that whose sign has the number: a test over the signs of five marks
+pub figure-heard : (n : ℕ) → shorter ≤ n → n < numbers → figureHeard n ≡ byteOf n
+
 -- the marks that lead to a number, the last of so many
 abbrev marksTo : (most number : ℕ) → List Mark
 marksTo zero number = []

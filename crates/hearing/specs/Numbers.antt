@@ -1,6 +1,6 @@
 -- The numbers by which the decoder knows a sign: no promise speaks of them.
 -- Assumes nothing.
-use Prim.Native.Nat.{ℕ, suc, _+_, _*_}
+use Prim.Native.Nat.{ℕ, zero, suc, _+_, _*_}
 use mathlib.Core.Bool.{Bool, _&&_}
 use mathlib.Core.List.{List, [], _∷_}
 use lib.Dec.{eqb, leb, ltb}
@@ -23,7 +23,7 @@ climb number (m ∷ ms) = climb (grown number m) ms
 abbrev pub numbers : ℕ
 numbers = 64
 
--- the numbers of signs that may have one more mark are below it
+-- the numbers of signs of up to four marks are below it: those of the letters, and of all that may have one more mark
 abbrev pub shorter : ℕ
 shorter = 32
 
@@ -40,9 +40,15 @@ byteAmong number k (s ∷ ss) = if signed s && eqb (climb 1 s) number then k els
 unfoldable pub byteOf : ℕ → ℕ
 byteOf number = if ltb number numbers then byteAmong number 0 signs else noByte
 
--- the rule of the code's table of bytes at entry k
+-- the rule of the code's table of letters at entry k
 abbrev pub isByte : List ℕ → ℕ → Bool
 isByte table k = eqb (getD table k 0) (byteOf k)
+
+-- how the code works a figure out: the byte as many past a first one as a number is doubled to be 32, in so many turns at
+-- most; no byte where it never is
+abbrev pub pastBy : (turns first number : ℕ) → ℕ
+pastBy zero first number = noByte
+pastBy (suc turns) first number = if eqb number shorter then first else pastBy turns (first + 1) (2 * number)
 
 -- the number of a sign after one more mark, by the units for which the key was down; 0 where they are no mark, or no
 -- sign has so many

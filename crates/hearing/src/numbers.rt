@@ -1,15 +1,20 @@
 // The numbers by which a sign is known while it is heard.
 // A sign's number is 1, then doubled for each mark, and one more for a dash.
 ghost use mathlib.Core.Path.{_≡_};
+ghost use Prim.Native.Nat.{_+_, _<_, _≤_};
 ghost use lib.Dec.{T};
 ghost use Rattle.basics.specs.Tables.{allBelow};
-ghost use Rattle.hearing.specs.Numbers.{numbers, isByte, byteOf, afterMark};
+ghost use Rattle.morse.specs.Signs.{firstFigure};
+ghost use Rattle.hearing.specs.Numbers.{shorter, isByte, byteOf, pastBy, afterMark};
+
+// The numbers of signs of up to four marks are below it: those of the letters, and of all that may have one more mark.
+const SHORTER: u8 = 32;
 
 // The numbers of signs of up to five marks are below it.
-const NUMBERS: usize = 64;
+const NUMBERS: u8 = 64;
 
-// The numbers of signs that may have one more mark are below it.
-const SHORTER: u8 = 32;
+// How many numbers the letters' table has.
+const LETTERS: usize = 32;
 
 // What stands for no byte, and is not of the alphabet.
 pub(crate) const NO_BYTE: u8 = b'_';
@@ -20,23 +25,43 @@ const DOT: usize = 1;
 // For how many units it is at a dash.
 const DASH: usize = 3;
 
-// The byte of each sign's number in turn, and `_` for a number that no sign has.
-fn table() -> [u8; NUMBERS]
-    ensures { λ r. ⌜ T (allBelow (isByte r) numbers) ⌝ }
+// The letter of each sign's number in turn, and `_` for a number that no letter has.
+fn table() -> [u8; LETTERS]
+    ensures { λ r. ⌜ T (allBelow (isByte r) shorter) ⌝ }
 {
-    *b"__ETIANMSURWDKGOHVF_L_PJBXCYZQ__54_3___2_______16_______7___8_90"
+    *b"__ETIANMSURWDKGOHVF_L_PJBXCYZQ__"
 }
 
-// The byte whose sign has a number.
+// The byte as many past a first one as a number is doubled to be 32; no byte where it never is.
+fn past(first: u8, number: u8) -> u8
+    requires { ⌜ (first ≤ firstFigure + 5) × (0 < number) × (number ≤ shorter) ⌝ }
+    ensures { λ r. ⌜ r ≡ pastBy shorter first number ⌝ }
+{
+    let mut byte = first;
+    let mut rest = number;
+    while rest < SHORTER {
+        byte += 1;
+        rest = 2 * rest;
+    }
+    if rest == SHORTER { byte } else { NO_BYTE }
+}
+
+// The byte whose sign has a number. A figure has d marks of one kind, then 5 - d of the other: dashes last, its number is
+// 2^(5 - d) past 31, and d is the figure; dots last, it is as much before 64, and 5 + d is.
 pub(crate) fn byte_of(number: u8) -> u8
     ensures { λ r. ⌜ r ≡ byteOf number ⌝ }
 {
-    let bytes = table();
-    let at = number as usize;
-    if at < NUMBERS {
-        return bytes[at];
+    if number < SHORTER {
+        let letters = table();
+        return letters[number as usize];
     }
-    NO_BYTE
+    if NUMBERS <= number {
+        return NO_BYTE;
+    }
+    if number % 2 == 1 {
+        return past(b'0', number - (SHORTER - 1));
+    }
+    past(b'5', NUMBERS - number)
 }
 
 // The number of a sign after a mark for which the key was down so long; 0 where that is no mark of any sign.

@@ -1,18 +1,19 @@
--- Laws of the signs: the code's table agrees with the page's, and which bytes have no sign.
+-- Laws of the signs: the code's letters and figures are the page's, and which bytes have no sign.
 -- Assumes nothing.
 use mathlib.Core.Path.{_≡_, refl, ap}
 use mathlib.Core.Bool.{Bool, true, false, not, _||_}
 use mathlib.Core.List.{List, [], _∷_}
-use Prim.Native.Nat.{ℕ, _<_, _≤_}
-use lib.Dec.{T, eqb}
+use Prim.Native.Nat.{ℕ, _+_, _-_, _*_, _/_, _%_, _^_, _<_, _≤_}
+use lib.Dec.{T, eqb, ltb}
 use lib.ListN.{length, getD}
-use Rattle.basics.specs.Choice.{within}
+use Rattle.basics.specs.Choice.{if_then_else_, within}
 use Rattle.basics.proofs.ChoiceLaws.{holds, and-left, within-low, within-high}
 use Rattle.basics.specs.Tables.{allBelow}
 use Rattle.basics.proofs.TablesLaws.{upto}
 use Rattle.morse.specs.declared.signs.Sign.{Sign}
-use Rattle.morse.specs.Signs.{Mark, dot, dash, isFigure, isLetter, signs, signOf, signed}
-use Rattle.morse.specs.SignTable.{marksOf, lasts, entries, entryByte, sameMarks, noSign, isSign}
+use Rattle.morse.specs.Signs.{Mark, dot, dash, firstFigure, firstLetter, isFigure, isLetter, signs, signOf, signed}
+use Rattle.morse.specs.SignTable.{unpack, marksOf, lasts, letterCount, sameMarks, noSign, isSign}
+use Rattle.morse.specs.SignTable.{figureCount, figureMarks, isFigureSign}
 use Rattle.morse.specs.Units.{signUnits}
 use Rattle.morse.proofs.Everywhere.{everywhere}
 
@@ -26,12 +27,26 @@ same-marks-eq (dot ∷ s) (dash ∷ t) h = absurd h
 same-marks-eq (dash ∷ s) (dot ∷ t) h = absurd h
 
 -- what the rule of the code's table says of an entry
-pub entry-right : (table : List Sign) (k : ℕ) → T (allBelow (isSign table) entries) → k < entries
-    → marksOf (getD table k noSign) ≡ signOf (entryByte k)
-entry-right table k t h =
-    let same = sameMarks (marksOf (getD table k noSign)) (signOf (entryByte k)) in
-    let long = eqb (length (signUnits 0 (signOf (entryByte k)))) (lasts (getD table k noSign)) in
-    same-marks-eq _ _ (and-left same long (upto (isSign table) entries t k h))
+pub letter-right : (table : List Sign) (k : ℕ) → T (allBelow (isSign table) letterCount) → k < letterCount
+    → marksOf (getD table k noSign) ≡ signOf (firstLetter + k)
+letter-right table k t h =
+    let same = sameMarks (marksOf (getD table k noSign)) (signOf (firstLetter + k)) in
+    let long = eqb (length (signUnits 0 (signOf (firstLetter + k)))) (lasts (getD table k noSign)) in
+    same-marks-eq _ _ (and-left same long (upto (isSign table) letterCount t k h))
+
+-- the rule gives each of the ten figures: antt computes its test
+pub figure-right : (digit : ℕ) → digit < figureCount → figureMarks digit ≡ signOf (firstFigure + digit)
+unfolding signs signOf
+figure-right digit h = same-marks-eq _ _ (upto isFigureSign figureCount tt digit h)
+
+-- the bits by which the code works a figure out
+abbrev pub figureBits : ℕ → ℕ
+figureBits digit = if ltb digit 5 then 31 * 2 ^ digit % 256 else 31 / 2 ^ (10 - digit)
+
+-- they are its marks: a test over the figures
+pub figure-bits : (digit : ℕ) → digit < figureCount → unpack 5 (figureBits digit) ≡ figureMarks digit
+figure-bits digit h =
+    same-marks-eq _ _ (upto (λ d. sameMarks (unpack 5 (figureBits d)) (figureMarks d)) figureCount tt digit h)
 
 -- a byte is a letter or a figure, or has no sign
 abbrev named : ℕ → List Mark → Bool

@@ -1,12 +1,13 @@
--- The code's form of a sign, dashes as bits, and the rule that its table meets: which signs they are, and how long.
+-- The code's form of a sign, dashes as bits; the rule that its table of letters meets: which signs they are, and how
+-- long; and the rule by which it works out the figures.
 -- Assumes nothing.
 use Prim.Native.Nat.{ℕ, zero, suc, _+_, _-_, _*_, _/_, _%_}
 use mathlib.Core.Bool.{Bool, true, false, _&&_}
-use mathlib.Core.List.{List, [], _∷_}
+use mathlib.Core.List.{List, [], _∷_, _++_}
 use lib.Count.{onesIn}
-use lib.Dec.{eqb, ltb}
-use lib.ListN.{length, getD}
-use Rattle.basics.specs.Choice.{if_then_else_}
+use lib.Dec.{eqb}
+use lib.ListN.{length, getD, replicate}
+use Rattle.basics.specs.Choice.{if_then_else_, within}
 use Rattle.morse.specs.declared.signs.Sign.{Sign}
 use Rattle.morse.specs.Signs.{Mark, dot, dash, firstFigure, firstLetter, signOf}
 use Rattle.morse.specs.Units.{span, insideSign, signUnits}
@@ -37,14 +38,6 @@ lasts s = (s .len - dashes s) * span dot + dashes s * span dash + (s .len - 1) *
 abbrev pub letterCount : ℕ
 letterCount = 26
 
--- how many entries the code's table has: the letters, then the figures
-abbrev pub entries : ℕ
-entries = 36
-
--- the byte whose sign is entry k of the code's table: A to Z, then 0 to 9
-abbrev pub entryByte : ℕ → ℕ
-entryByte k = if ltb k letterCount then firstLetter + k else firstFigure + (k - letterCount)
-
 -- whether two signs have the same marks
 abbrev pub sameMarks : List Mark → List Mark → Bool
 sameMarks [] [] = true
@@ -59,8 +52,28 @@ sameMarks (dash ∷ s) (dot ∷ t) = false
 abbrev pub noSign : Sign
 noSign = record { marks = 0; len = 0 }
 
--- the rule of the code's table at entry k: it is the sign of its byte, whose units are as many as its timing says
+-- the rule of the code's table at entry k: it is the sign of that letter, whose units are as many as its timing says
 abbrev pub isSign : List Sign → ℕ → Bool
 isSign table k =
-    sameMarks (marksOf (getD table k noSign)) (signOf (entryByte k))
-    && eqb (length (signUnits 0 (signOf (entryByte k)))) (lasts (getD table k noSign))
+    sameMarks (marksOf (getD table k noSign)) (signOf (firstLetter + k))
+    && eqb (length (signUnits 0 (signOf (firstLetter + k)))) (lasts (getD table k noSign))
+
+-- how many figures there are
+abbrev pub figureCount : ℕ
+figureCount = 10
+
+-- so many marks of one kind, then of the other to five
+abbrev pub toFive : ℕ → (first rest : Mark) → List Mark
+toFive n first rest = replicate n first ++ replicate (5 - n) rest
+
+-- the marks of a figure, worked out: 1 to 5 are that many dots, then dashes; 6 to 9 are one to four dashes, then dots;
+-- 0 is five dashes
+abbrev pub figureMarks : ℕ → List Mark
+figureMarks digit =
+    if within 1 5 digit then toFive digit dot dash
+    else if within 6 9 digit then toFive (digit - 5) dash dot
+    else toFive 5 dash dot
+
+-- the rule gives a figure its sign
+abbrev pub isFigureSign : ℕ → Bool
+isFigureSign digit = sameMarks (figureMarks digit) (signOf (firstFigure + digit))

@@ -1,10 +1,11 @@
 // The signs of ITU-R M.1677-1, in the form that keying walks through.
-// What they are is `specs/Signs.antt`; the table below meets it by one computed test.
+// What they are is `specs/Signs.antt`: the letters' table meets it by one computed test, and a figure is worked out.
 ghost use mathlib.Core.Path.{_≡_};
+ghost use Prim.Native.Nat.{_<_};
 ghost use lib.Dec.{T};
 ghost use Rattle.basics.specs.Tables.{allBelow};
 ghost use Rattle.morse.specs.Signs.{signOf};
-ghost use Rattle.morse.specs.SignTable.{entries, marksOf, isSign};
+ghost use Rattle.morse.specs.SignTable.{marksOf, letterCount, isSign, figureCount, figureMarks};
 
 // A sign: its dashes as bits, the first mark lowest, and how many marks it has.
 pub(crate) struct Sign {
@@ -15,11 +16,17 @@ pub(crate) struct Sign {
 // How many letters there are.
 const LETTERS: usize = 26;
 
-// How many letters and figures there are.
-const ENTRIES: usize = 36;
+// How many figures there are.
+const FIGURES: u8 = 10;
 
-// A to Z, then 0 to 9.
-const SIGNS: [Sign; ENTRIES] = [
+// How many marks a figure has.
+const FIVE: u8 = 5;
+
+// All five of them dashes.
+const DASHES: u8 = 31;
+
+// A to Z.
+const SIGNS: [Sign; LETTERS] = [
     Sign { marks: 2, len: 2 }, // A
     Sign { marks: 1, len: 4 }, // B
     Sign { marks: 5, len: 4 }, // C
@@ -46,35 +53,43 @@ const SIGNS: [Sign; ENTRIES] = [
     Sign { marks: 9, len: 4 }, // X
     Sign { marks: 13, len: 4 }, // Y
     Sign { marks: 3, len: 4 }, // Z
-    Sign { marks: 31, len: 5 }, // 0
-    Sign { marks: 30, len: 5 }, // 1
-    Sign { marks: 28, len: 5 }, // 2
-    Sign { marks: 24, len: 5 }, // 3
-    Sign { marks: 16, len: 5 }, // 4
-    Sign { marks: 0, len: 5 }, // 5
-    Sign { marks: 1, len: 5 }, // 6
-    Sign { marks: 3, len: 5 }, // 7
-    Sign { marks: 7, len: 5 }, // 8
-    Sign { marks: 15, len: 5 }, // 9
 ];
 
-// The table: each entry is the sign of its byte, and as long as its timing says.
-fn table() -> [Sign; ENTRIES]
-    ensures { λ r. ⌜ T (allBelow (isSign r) entries) ⌝ }
+// The table: each entry is the sign of its letter, and as long as its timing says.
+fn table() -> [Sign; LETTERS]
+    ensures { λ r. ⌜ T (allBelow (isSign r) letterCount) ⌝ }
 {
     SIGNS
+}
+
+// The sign of a figure, worked out. 0 to 4 are that many dots, then dashes to five; 5 to 9 are none to four dashes, then
+// dots to five.
+fn figure(digit: u8) -> Sign
+    requires { ⌜ digit < figureCount ⌝ }
+    ensures { λ r. ⌜ marksOf r ≡ figureMarks digit ⌝ }
+{
+    if digit < FIVE {
+        return Sign {
+            marks: DASHES << digit,
+            len: FIVE,
+        };
+    }
+    Sign {
+        marks: DASHES >> (FIGURES - digit),
+        len: FIVE,
+    }
 }
 
 // The sign of a byte; one of no marks where the byte has none.
 pub(crate) fn sign_of(c: u8) -> Sign
     ensures { λ r. ⌜ marksOf r ≡ signOf c ⌝ }
 {
-    let signs = table();
     if (b'A' <= c) & (c <= b'Z') {
-        return signs[(c - b'A') as usize];
+        let letters = table();
+        return letters[(c - b'A') as usize];
     }
     if (b'0' <= c) & (c <= b'9') {
-        return signs[(c - b'0') as usize + LETTERS];
+        return figure(c - b'0');
     }
     Sign { marks: 0, len: 0 }
 }

@@ -1,29 +1,42 @@
 #include "morse.h"
 
-/* A sign's marks from the highest bit below the leading 1: 0 dot, 1 dash. Letters, then figures. */
+/* A sign's marks from the highest bit below the leading 1: 0 dot, 1 dash. The letters'. */
 static const uint8_t letters[26] = {
     0x05, 0x18, 0x1A, 0x0C, 0x02, 0x12, 0x0E, 0x10, 0x04, 0x17, 0x0D, 0x14, 0x07,
     0x06, 0x0F, 0x16, 0x1D, 0x0A, 0x08, 0x03, 0x09, 0x11, 0x0B, 0x19, 0x1B, 0x1C,
 };
-static const uint8_t figures[10] = { 0x3F, 0x2F, 0x27, 0x23, 0x21, 0x20, 0x30, 0x38, 0x3C, 0x3E };
+
+/* Those of a figure: up to 4 so many dots, then dashes; from 5 on none to four dashes, then dots. */
+static uint8_t figure(uint8_t digit)
+{
+    return (uint8_t)(digit < 5 ? 0x20 + (0x1F >> digit) : 0x3F - (0x1F >> (digit - 5)));
+}
 
 /* A sign's marks, by what they stand for; 0 for a byte that has none. */
 static uint8_t sign(uint8_t c)
 {
     if (c >= 'A' && c <= 'Z') return letters[c - 'A'];
-    if (c >= '0' && c <= '9') return figures[c - '0'];
+    if (c >= '0' && c <= '9') return figure((uint8_t)(c - '0'));
     return 0;
 }
 
-/* What marks stand for, letters and figures together; 0 for none. */
-static const uint8_t heard[64] = {
+/* What marks stand for, the letters; 0 for none. */
+static const uint8_t heard_letters[32] = {
     [0x05] = 'A', [0x18] = 'B', [0x1A] = 'C', [0x0C] = 'D', [0x02] = 'E', [0x12] = 'F', [0x0E] = 'G',
     [0x10] = 'H', [0x04] = 'I', [0x17] = 'J', [0x0D] = 'K', [0x14] = 'L', [0x07] = 'M', [0x06] = 'N',
     [0x0F] = 'O', [0x16] = 'P', [0x1D] = 'Q', [0x0A] = 'R', [0x08] = 'S', [0x03] = 'T', [0x09] = 'U',
     [0x11] = 'V', [0x0B] = 'W', [0x19] = 'X', [0x1B] = 'Y', [0x1C] = 'Z',
-    [0x3F] = '0', [0x2F] = '1', [0x27] = '2', [0x23] = '3', [0x21] = '4',
-    [0x20] = '5', [0x30] = '6', [0x38] = '7', [0x3C] = '8', [0x3E] = '9',
 };
+
+/* What up to five marks stand for; 0 for nothing. A figure's end with 5 - d of a kind, d the first of the other: then
+   the number is 2^(5 - d) past 31 or before 64. */
+static uint8_t heard(uint8_t marks)
+{
+    if (marks < 0x20) return heard_letters[marks];
+    uint8_t byte = marks & 1 ? '0' : '5', rest = (uint8_t)(marks & 1 ? marks - 31 : 64 - marks);
+    for (; rest < 32; rest *= 2) byte++;
+    return rest == 32 ? byte : 0;
+}
 
 static size_t put(uint8_t *units, size_t at, uint8_t unit, int times)
 {
@@ -79,8 +92,9 @@ uint8_t peer_read(const uint8_t *units, size_t n, uint8_t *text, size_t room, si
             while (i < n && units[i] == 0) i++;
             gap = i - gap;
         } while (gap == 1 && i < n);
-        if (at == 64 || !heard[marks]) return 15;
-        said[at++] = heard[marks];
+        uint8_t byte = heard(marks);
+        if (at == 64 || !byte) return 15;
+        said[at++] = byte;
         if (i == n) { if (gap) return 15; break; }
         if (gap == 7) { if (at == 64) return 15; said[at++] = ' '; }
         else if (gap != 3) return 15;

@@ -8,7 +8,8 @@ use crate::streams::{self, streams, Stream};
 /// How the names of its calls begin, and no other function's.
 pub const EXPORTED: &str = "ems_";
 
-/// What it costs: instructions a call, bytes of code, bytes of stack.
+/// What it costs: instructions a call, bytes of code and of constants, bytes of
+/// stack.
 pub fn costs(bench: &Bench) -> Result<Vec<Row>> {
     let driver = bench.library_driver()?;
     let mut rows = Vec::new();
@@ -19,8 +20,9 @@ pub fn costs(bench: &Bench) -> Result<Vec<Row>> {
         let instructions = program.instructions_a_call(stream)?;
         row(stream.name.into(), instructions.round() as u64);
     }
-    let code = measure::code_bytes(std::slice::from_ref(&bench.archive))?;
-    row("code and constants".into(), code);
+    let archive = std::slice::from_ref(&bench.archive);
+    row("code and constants".into(), measure::code_bytes(archive)?);
+    row("constants".into(), measure::constant_bytes(archive)?);
     for (call, depth) in stack::depths(&measure::disassembly(&driver)?) {
         if call.starts_with(EXPORTED) {
             row(format!("stack of {call}"), depth);

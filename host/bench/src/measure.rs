@@ -158,6 +158,17 @@ pub fn code_bytes(files: &[PathBuf]) -> Result<u64> {
     Ok(total.ok_or("size prints nothing")?.parse()?)
 }
 
+/// Their bytes of constants: all sections of `.rodata`, as `size -A` has them.
+pub fn constant_bytes(files: &[PathBuf]) -> Result<u64> {
+    let (sections, _) = print_of(Command::new("size").arg("-A").args(files))?;
+    let mut bytes = 0;
+    for line in sections.lines().filter(|line| line.starts_with(".rodata")) {
+        let size = line.split_whitespace().nth(1);
+        bytes += size.ok_or("size prints no size")?.parse::<u64>()?;
+    }
+    Ok(bytes)
+}
+
 /// A program's disassembly.
 pub fn disassembly(program: &Path) -> Result<String> {
     let mut objdump = Command::new("objdump");

@@ -38,6 +38,9 @@ impl Stream {
 /// 64 characters in words as long as a beacon's.
 const TEXT: &[u8] = b"EMS S 8123 FF 00 THE QUICK BROWN FOX JUMPS OVER 1234567890 DOGS5";
 
+/// 64 digits, each of the ten as often as any other, or once more.
+const DIGITS: &[u8] = b"0123456789012345678901234567890123456789012345678901234567890123";
+
 /// A board in a mode, charged so that it stays there, every module that may be
 /// on is, and has all its tries.
 fn board(mode: Mode) -> State {
@@ -150,7 +153,7 @@ pub fn streams() -> Vec<Stream> {
         vec![TIMED, FROM_GROUND, high, low, PAYLOAD, 0, 20]
     };
     let all = |order: fn(u16) -> Vec<u8>| (1..=1_024).map(|i| order(i % 1_024)).collect();
-    let units = model::morse::key(TEXT).unwrap_or_default();
+    let units = |text| model::morse::key(text).unwrap_or_default();
     vec![
         step("tick in DEPLOY_WAIT", board(Mode::Waiting(0)), quiet()),
         step(
@@ -177,7 +180,9 @@ pub fn streams() -> Vec<Stream> {
         passes("pass of 100 frames", b'p'),
         passes("the same 100 frames, one call each", b'o'),
         text("keying 64 characters", b'k', TEXT.to_vec()),
-        text("reading 64 characters", b'r', units),
+        text("reading 64 characters", b'r', units(TEXT)),
+        text("keying 64 digits", b'k', DIGITS.to_vec()),
+        text("reading 64 digits", b'r', units(DIGITS)),
     ]
 }
 

@@ -107,7 +107,7 @@ fn growth(bench: &Bench, library: &Path, lines: &mut Lines) -> Result<()> {
     Ok(())
 }
 
-/// Bytes of code and of stack. The C version has no beacon.
+/// Bytes of code, of constants and of stack. The C version has no beacon.
 fn sizes(
     bench: &Bench,
     library: &Path,
@@ -117,10 +117,16 @@ fn sizes(
 ) -> Result<()> {
     lines.push("| bytes | library | C |");
     lines.push("|---|---:|---:|");
-    let archive = measure::code_bytes(std::slice::from_ref(&bench.archive))?;
-    let objects = measure::code_bytes(c_objects)?;
+    let archive = std::slice::from_ref(&bench.archive);
     lines.push(format!(
-        "| code and constants (`size`: text) | {archive} | {objects} |"
+        "| code and constants (`size`: text) | {} | {} |",
+        measure::code_bytes(archive)?,
+        measure::code_bytes(c_objects)?
+    ));
+    lines.push(format!(
+        "| constants of it (`size -A`: `.rodata`) | {} | {} |",
+        measure::constant_bytes(archive)?,
+        measure::constant_bytes(c_objects)?
     ));
     let theirs = stack::depths(&measure::disassembly(c)?);
     for (name, own) in stack::depths(&measure::disassembly(library)?) {

@@ -39,6 +39,18 @@ pub fn any(rng: &mut Rng) -> Vec<u8> {
     text
 }
 
+/// The units of every sign of so many marks, whether a byte has it or not.
+pub fn signs_of(marks: usize) -> impl Iterator<Item = Vec<u8>> {
+    let units = move |dashes: usize| {
+        let mark = |place| match dashes >> place & 1 {
+            0 => vec![1],
+            _ => vec![1; 3],
+        };
+        (0..marks).map(mark).collect::<Vec<_>>().join(&0)
+    };
+    (0..1 << marks).map(units)
+}
+
 /// Damages units in one place.
 pub fn damage(rng: &mut Rng, units: &mut Vec<u8>) {
     let place = rng.below(units.len() + 1);

@@ -385,3 +385,26 @@ fn a_reader_that_takes_too_much_is_found() {
         "{told}"
     );
 }
+
+/// Takes five marks that no figure has for the figure that they begin like.
+fn goes_by_the_first_marks(units: &[u8], text: &mut [u8]) -> (u8, usize) {
+    let heard = model::calls::read(units, text);
+    let marks: Vec<usize> = units.split(|unit| *unit == 0).map(<[u8]>::len).collect();
+    let alike = marks.iter().take_while(|mark| **mark == marks[0]).count();
+    match (heard, &marks[..], &mut text[..]) {
+        ((15, _), [1, _, _, _, _], [first, ..]) => *first = b'0' + alike as u8,
+        ((15, _), [3, _, _, _, _], [first, ..]) => *first = b'5' + alike as u8,
+        _ => return heard,
+    }
+    (0, 1)
+}
+
+#[test]
+fn a_sign_that_no_byte_has_is_found() {
+    let faulty = Calls {
+        read: goes_by_the_first_marks,
+        ..MODEL
+    };
+    let told = told("every sign of up to 7 marks, and any two", faulty);
+    assert!(told.starts_with("input:   01 "), "{told}");
+}

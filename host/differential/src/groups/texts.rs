@@ -31,6 +31,25 @@ pub fn short_texts(sides: &[Calls; 2], _: &mut Rng) -> Verdict {
     Ok(made)
 }
 
+/// All signs of one to seven marks, those that no byte has among them: each by
+/// itself, and any two, in one word and in two.
+pub fn every_sign(sides: &[Calls; 2], _: &mut Rng) -> Verdict {
+    let signs: Vec<_> = (1..=7).flat_map(texts::signs_of).collect();
+    let mut made = 0;
+    for first in &signs {
+        call(sides, |calls| calls.read, first, 3)?;
+        made += 1;
+        for second in &signs {
+            for gap in [3, 7] {
+                let units = [&first[..], &vec![0; gap], second].concat();
+                call(sides, |calls| calls.read, &units, 3)?;
+                made += 1;
+            }
+        }
+    }
+    Ok(made)
+}
+
 /// Texts of every sort, in rooms around what they need, and back.
 pub fn any_texts(sides: &[Calls; 2], rng: &mut Rng) -> Verdict {
     let mut made = 0;

@@ -1,13 +1,12 @@
--- `morse::signs::sign_of` meets its contract: an entry of the table is right by the table's rule, and any other byte
--- has no sign.
+-- `morse::signs::sign_of` meets its contract: an entry of the table is right by the table's rule, a figure by its own,
+-- and any other byte has no sign.
 use mathlib.Core.Path.{_≡_, ap, sym, _∙_}
 use Prim.Native.Nat.{_+_, _-_}
 use native.Mathlib.Omega.{arith}
-use borrow.Author.Tests.{lt-ltb, le-ltb}
 use borrow.Author.Needs.{needs}
-use Rattle.morse.specs.Signs.{signOf}
-use Rattle.morse.specs.SignTable.{marksOf, letterCount, entryByte}
-use Rattle.morse.proofs.SignsLaws.{letter-ends, figure-ends, entry-right, no-sign}
+use Rattle.morse.specs.Signs.{firstFigure, firstLetter, signOf}
+use Rattle.morse.specs.SignTable.{marksOf}
+use Rattle.morse.proofs.SignsLaws.{letter-ends, figure-ends, letter-right, figure-right, no-sign}
 use Rattle.morse.proofs.signs.sign_of.Statement.{statement}
 use Rattle.morse.proofs.signs.sign_of.Tie as tie
 
@@ -15,7 +14,7 @@ table-requires : tie.Need-table-requires
 table-requires c κs = search needs
 
 sub-result : tie.Need-sub-result
-sub-result c = letter-ends (c .before .before .args .c) (c .if1 .taken) .0
+sub-result c = let r = letter-ends (c .before .before .args .c) (c .before .if1 .taken) in omega arith
 
 cast-result : tie.Need-cast-result
 cast-result c = search needs
@@ -24,39 +23,28 @@ mul-result : tie.Need-mul-result
 mul-result c = search needs
 
 array-copy-out-result : tie.Need-array-copy-out-result
-array-copy-out-result c = let r = letter-ends (c .before .before .args .c) (c .if1 .taken) in omega arith
+array-copy-out-result c = let r = letter-ends (c .before .before .args .c) (c .before .if1 .taken) in omega arith
 
 returns : tie.Need-returns
 returns c =
     let b = c .before .before .before .args .c in
-    let r = letter-ends b (c .before .if1 .taken) in
-    let e : entryByte (b - 65) ≡ b = simp (lt-ltb (b - 65) letterCount (omega arith)) (omega arith) in
-    let t = c .before .before .table in
-    entry-right (t .result) (b - 65) (t .ensures) (omega arith) ∙ ap signOf e
+    let r = letter-ends b (c .before .before .if1 .taken) in
+    let e : firstLetter + (b - firstLetter) ≡ b = omega arith in
+    let t = c .before .table in
+    letter-right (t .result) (b - firstLetter) (t .ensures) (omega arith) ∙ ap signOf e
 
-sub-result-2 : tie.Need-sub-result-2
-sub-result-2 c = figure-ends (c .before .before .before .args .c) (c .if2 .taken) .0
+sub-figure : tie.Need-sub-figure
+sub-figure c = figure-ends (c .before .before .args .c) (c .if2 .taken) .0
 
-cast-result-2 : tie.Need-cast-result-2
-cast-result-2 c = search needs
-
-add-result : tie.Need-add-result
-add-result c = search needs
-
-mul-result-2 : tie.Need-mul-result-2
-mul-result-2 c = search needs
-
-array-copy-out-result-2 : tie.Need-array-copy-out-result-2
-array-copy-out-result-2 c = let r = figure-ends (c .before .before .before .args .c) (c .if2 .taken) in omega arith
+figure-requires : tie.Need-figure-requires
+figure-requires c κs = let r = figure-ends (c .before .before .args .c) (c .if2 .taken) in omega arith
 
 returns-2 : tie.Need-returns-2
 returns-2 c =
-    let b = c .before .before .before .before .args .c in
+    let b = c .before .before .before .args .c in
     let r = figure-ends b (c .before .if2 .taken) in
-    let k = b - 48 + letterCount in
-    let e : entryByte k ≡ b = simp (le-ltb k letterCount (omega arith)) (omega arith) in
-    let t = c .before .before .before .table in
-    entry-right (t .result) k (t .ensures) (omega arith) ∙ ap signOf e
+    let e : firstFigure + (b - firstFigure) ≡ b = omega arith in
+    c .figure .ensures ∙ figure-right (b - firstFigure) (omega arith) ∙ ap signOf e
 
 returns-3 : tie.Need-returns-3
 unfolding marksOf
@@ -72,10 +60,7 @@ sign-of-spec =
     mul-result
     array-copy-out-result
     returns
-    sub-result-2
-    cast-result-2
-    add-result
-    mul-result-2
-    array-copy-out-result-2
+    sub-figure
+    figure-requires
     returns-2
     returns-3)
