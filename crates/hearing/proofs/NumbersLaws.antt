@@ -1,25 +1,31 @@
--- What a sign's number stands for: the marks that lead to it, one more mark, and the byte of a sign with those marks.
+-- What a sign's number stands for: the figure that is worked out of it, the marks that lead to it, one more mark, and the
+-- byte of a sign with those marks.
 -- Assumes nothing.
-use Prim.Native.Nat.{ℕ, zero, suc, _/_, _%_, _<_}
+use Prim.Native.Nat.{ℕ, zero, suc, _+_, _-_, _*_, _/_, _%_, _<_, _≤_}
 use mathlib.Core.Path.{_≡_, refl}
 use mathlib.Core.Bool.{Bool, true, false, not, _&&_, _||_, true≢false}
 use mathlib.Core.List.{List, [], _∷_, _++_}
-use lib.Dec.{T, eqb, leb, ltb}
-use borrow.Author.Tests.{eqb-true, ltb-true, leb-false, le-ltb, not-true}
+use native.Mathlib.Nat.{not-suc-le-zero}
+use native.Mathlib.Omega.{arith}
+use lib.Dec.{T, eqb, leb, ltb, eqb→eq}
+use borrow.Author.Tests.{eqb-true, ltb-true, leb-false, le-ltb, ne-eqb, not-true}
 use Rattle.basics.specs.Choice.{if_then_else_}
 use Rattle.basics.proofs.ChoiceLaws.{is-true, and-left, and-right}
 use Rattle.basics.proofs.TablesLaws.{upto}
-use Rattle.morse.specs.Signs.{Mark, dot, dash, signs, signOf, signed}
+use Rattle.morse.specs.Signs.{Mark, dot, dash, firstFigure, signs, signOf, signed}
 use Rattle.morse.specs.SignTable.{markOf, sameMarks}
 use Rattle.morse.specs.Texts.{isSpace}
 use Rattle.morse.specs.Units.{span}
 use Rattle.morse.proofs.SignsLaws.{same-marks-eq}
-use Rattle.hearing.specs.Numbers.{grown, numbers, shorter, noByte, byteOf, afterMark}
+use Rattle.hearing.specs.Numbers.{grown, numbers, shorter, noByte, byteOf, pastBy, afterMark}
 
--- a number that isn't 32 yet is doubled once more
-pub past-on : (turns first n : ℕ) → 0 < turns → n < shorter → pastBy turns first n ≡ pastBy (turns - 1) (first + 1) (2 * n)
-past-on zero first n t h = absurd (not-suc-le-zero t)
-past-on (suc turns) first n t h = simp (ne-eqb n shorter (lt-ne h))
+-- a part that is not 32 yet is doubled once more
+pub past-on : (turns first part : ℕ) → 0 < turns → part < shorter
+    → pastBy turns first part ≡ pastBy (turns - 1) (first + 1) (2 * part)
+past-on zero first part t h = absurd (not-suc-le-zero t)
+past-on (suc turns) first part t h =
+    let e : suc turns - 1 ≡ turns = omega arith in
+    rw (ne-eqb part shorter (omega arith), e)
 
 -- at 32 it is the byte at hand
 pub past-here : (turns first : ℕ) → 0 < turns → pastBy turns first shorter ≡ first
@@ -27,17 +33,24 @@ past-here zero first t = absurd (not-suc-le-zero t)
 past-here (suc turns) first t = refl
 
 -- beyond, there is none
-pub past-never : (turns first n : ℕ) → shorter < n → pastBy turns first n ≡ noByte
-past-never zero first n h = refl
-past-never (suc turns) first n h = simp (ne-eqb n shorter (omega arith)) (past-never turns (first + 1) (2 * n) (omega arith))
+pub past-never : (turns first part : ℕ) → shorter < part → pastBy turns first part ≡ noByte
+past-never zero first part h = refl
+past-never (suc turns) first part h =
+    simp (ne-eqb part shorter (omega arith)) (past-never turns (first + 1) (2 * part) (omega arith))
 
 -- the byte of a sign of five marks, by its last one
-figureHeard : ℕ → ℕ
+abbrev pub figureHeard : ℕ → ℕ
 figureHeard n =
-    if eqb (n % 2) 1 then pastBy shorter firstFigure (n - 31) else pastBy shorter (firstFigure + 5) (numbers - n)
+    if eqb (n % 2) 1 then pastBy shorter firstFigure (n - (shorter - 1))
+    else pastBy shorter (firstFigure + 5) (numbers - n)
 
--- it is that whose sign has the number: a test over the signs of five marks
+-- it is the byte whose sign has the number: a test over the signs of five marks
 pub figure-heard : (n : ℕ) → shorter ≤ n → n < numbers → figureHeard n ≡ byteOf n
+unfolding signs byteOf
+figure-heard n low high =
+    let e : shorter + (n - shorter) ≡ n = omega arith in
+    let t = upto (λ k. eqb (figureHeard (shorter + k)) (byteOf (shorter + k))) shorter tt (n - shorter) (omega arith) in
+    eqb→eq _ _ (rw e at t)
 
 -- the marks that lead to a number, the last of so many
 abbrev marksTo : (most number : ℕ) → List Mark

@@ -44,11 +44,11 @@ byteOf number = if ltb number numbers then byteAmong number 0 signs else noByte
 abbrev pub isByte : List ℕ → ℕ → Bool
 isByte table k = eqb (getD table k 0) (byteOf k)
 
--- how the code works a figure out: the byte as many past a first one as a number is doubled to be 32, in so many turns at
--- most; no byte where it never is
-abbrev pub pastBy : (turns first number : ℕ) → ℕ
-pastBy zero first number = noByte
-pastBy (suc turns) first number = if eqb number shorter then first else pastBy turns (first + 1) (2 * number)
+-- how the code works a figure out: the byte as many past a first one as a part of 32 is doubled to be 32, in so many
+-- turns at most; no byte where it never is
+abbrev pub pastBy : (turns first part : ℕ) → ℕ
+pastBy zero first part = noByte
+pastBy (suc turns) first part = if eqb part shorter then first else pastBy turns (first + 1) (2 * part)
 
 -- the number of a sign after one more mark, by the units for which the key was down; 0 where they are no mark, or no
 -- sign has so many

@@ -1,10 +1,9 @@
 // The numbers by which a sign is known while it is heard.
 // A sign's number is 1, then doubled for each mark, and one more for a dash.
 ghost use mathlib.Core.Path.{_≡_};
-ghost use Prim.Native.Nat.{_+_, _<_, _≤_};
+ghost use Prim.Native.Nat.{_+_, _^_, _<_, _≤_};
 ghost use lib.Dec.{T};
 ghost use Rattle.basics.specs.Tables.{allBelow};
-ghost use Rattle.morse.specs.Signs.{firstFigure};
 ghost use Rattle.hearing.specs.Numbers.{shorter, isByte, byteOf, pastBy, afterMark};
 
 // The numbers of signs of up to four marks are below it: those of the letters, and of all that may have one more mark.
@@ -32,13 +31,13 @@ fn table() -> [u8; LETTERS]
     *b"__ETIANMSURWDKGOHVF_L_PJBXCYZQ__"
 }
 
-// The byte as many past a first one as a number is doubled to be 32; no byte where it never is.
-fn past(first: u8, number: u8) -> u8
-    requires { ⌜ (first ≤ firstFigure + 5) × (0 < number) × (number ≤ shorter) ⌝ }
-    ensures { λ r. ⌜ r ≡ pastBy shorter first number ⌝ }
+// The byte as many past a first one as a part of 32 is doubled to be 32; no byte where it never is.
+fn past(first: u8, part: u8) -> u8
+    requires { ⌜ (first + shorter < 2 ^ 8) × (0 < part) × (part ≤ shorter) ⌝ }
+    ensures { λ r. ⌜ r ≡ pastBy shorter first part ⌝ }
 {
     let mut byte = first;
-    let mut rest = number;
+    let mut rest = part;
     while rest < SHORTER {
         byte += 1;
         rest = 2 * rest;

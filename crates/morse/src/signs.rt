@@ -68,16 +68,12 @@ fn figure(digit: u8) -> Sign
     requires { ⌜ digit < figureCount ⌝ }
     ensures { λ r. ⌜ marksOf r ≡ figureMarks digit ⌝ }
 {
-    if digit < FIVE {
-        return Sign {
-            marks: DASHES << digit,
-            len: FIVE,
-        };
-    }
-    Sign {
-        marks: DASHES >> (FIGURES - digit),
-        len: FIVE,
-    }
+    let marks = if digit < FIVE {
+        DASHES << digit
+    } else {
+        DASHES >> (FIGURES - digit)
+    };
+    Sign { marks, len: FIVE }
 }
 
 // The sign of a byte; one of no marks where the byte has none.

@@ -6,22 +6,22 @@ use Rattle.morse.proofs.SignsLaws.{figure-bits}
 use Rattle.morse.proofs.signs.figure.Statement.{statement}
 use Rattle.morse.proofs.signs.figure.Tie as tie
 
-shl-t3 : tie.Need-shl-t3
-shl-t3 c = search needs
+shl-marks : tie.Need-shl-marks
+shl-marks c = search needs
+
+sub-marks : tie.Need-sub-marks
+sub-marks c = search needs
+
+shr-marks : tie.Need-shr-marks
+shr-marks c = search needs
 
 returns : tie.Need-returns
 unfolding marksOf
 returns c = rw (lt-ltb _ _ (c .if1 .taken)) at (figure-bits (c .before .args .digit) (c .before .pre))
-
-sub-t4 : tie.Need-sub-t4
-sub-t4 c = search needs
-
-shr-t5 : tie.Need-shr-t5
-shr-t5 c = search needs
 
 returns-2 : tie.Need-returns-2
 unfolding marksOf
 returns-2 c = rw (le-ltb _ _ (c .if1 .left)) at (figure-bits (c .before .args .digit) (c .before .pre))
 
 pub figure-spec : {M : Type 1} → statement M
-figure-spec = tie.close (tie.spec shl-t3 returns sub-t4 shr-t5 returns-2)
+figure-spec = tie.close (tie.spec shl-marks sub-marks shr-marks returns returns-2)
