@@ -65,7 +65,7 @@ pub const GROUPS: [Group; 25] = [
     ("every number of a mode, an end and a module", images::codes),
     ("damaged images", images::damaged_images),
     ("every text of up to 2 bytes", texts::short_texts),
-    ("every sign of up to 7 marks, and any two", texts::every_sign),
+    ("every sign of up to 7 marks", texts::every_sign),
     ("texts of up to 70 bytes", texts::any_texts),
     ("units damaged in one place", texts::damaged_units),
 ];
