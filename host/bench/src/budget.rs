@@ -3,6 +3,10 @@
 use crate::measure::Result;
 use std::collections::BTreeSet;
 
+/// The row of the bytes of constants, which has nothing to spare: the area that
+/// they stand in is full.
+pub const CONSTANTS: &str = "constants";
+
 /// A row of the budget, or of what was measured.
 #[derive(Debug, PartialEq)]
 pub struct Row {
@@ -43,14 +47,22 @@ pub fn amount(rows: &[Row], name: &str) -> Option<u64> {
         .map(|row| row.amount)
 }
 
-/// What is wrong, a line each: a row that is over its budget by more than a
-/// tenth, one that has none, and a budget for what isn't measured.
+/// The most that a row may cost: a tenth over its budget.
+fn most(budget: u64, name: &str) -> u64 {
+    match name {
+        CONSTANTS => budget,
+        _ => 11 * budget / 10,
+    }
+}
+
+/// What is wrong, a line each: a row that is over its budget by more than it
+/// may, one that has none, and a budget for what isn't measured.
 pub fn complaints(budget: &[Row], measured: &[Row]) -> Vec<String> {
     let mut found = Vec::new();
     for Row { amount: cost, name } in measured {
         match amount(budget, name) {
             None => found.push(format!("{name}: {cost} measured, and no budget")),
-            Some(budget) if 10 * cost > 11 * budget => {
+            Some(budget) if *cost > most(budget, name) => {
                 let over = cost - budget;
                 let percent = 100.0 * over as f64 / budget as f64;
                 found.push(format!(
@@ -98,6 +110,14 @@ mod tests {
         let said = ["tick: budget 1000, measured 1110, over by 110 (11.0 %)"];
         assert_eq!(said_of(1_110), said);
         assert_eq!(said_of(1_101).len(), 1);
+    }
+
+    #[test]
+    fn constants_have_nothing_to_spare() {
+        let said_of = |cost| complaints(&[row(356, CONSTANTS)], &[row(cost, CONSTANTS)]);
+        assert!(said_of(356).is_empty());
+        let said = ["constants: budget 356, measured 357, over by 1 (0.3 %)"];
+        assert_eq!(said_of(357), said);
     }
 
     #[test]

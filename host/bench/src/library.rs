@@ -1,6 +1,6 @@
 //! The library by itself: all of it that has a budget.
 
-use crate::budget::Row;
+use crate::budget::{Row, CONSTANTS};
 use crate::measure::{self, Bench, Program, Result};
 use crate::stack;
 use crate::streams::{self, streams, Stream};
@@ -22,7 +22,7 @@ pub fn costs(bench: &Bench) -> Result<Vec<Row>> {
     }
     let archive = std::slice::from_ref(&bench.archive);
     row("code and constants".into(), measure::code_bytes(archive)?);
-    row("constants".into(), measure::constant_bytes(archive)?);
+    row(CONSTANTS.into(), measure::constant_bytes(archive)?);
     for (call, depth) in stack::depths(&measure::disassembly(&driver)?) {
         if call.starts_with(EXPORTED) {
             row(format!("stack of {call}"), depth);
