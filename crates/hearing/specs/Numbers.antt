@@ -44,8 +44,8 @@ byteOf number = if ltb number numbers then byteAmong number 0 signs else noByte
 abbrev pub isByte : List ℕ → ℕ → Bool
 isByte table k = eqb (getD table k 0) (byteOf k)
 
--- how the code works a figure out: the byte as many past a first one as a part of 32 is doubled to be 32, in so many
--- turns at most; no byte where it never is
+-- how the code works a figure out: the byte d past a first one, if a part of 32 is 32 once it is doubled d times, fewer
+-- than so many; else no byte
 abbrev pub pastBy : (turns first part : ℕ) → ℕ
 pastBy zero first part = noByte
 pastBy (suc turns) first part = if eqb part shorter then first else pastBy turns (first + 1) (2 * part)

@@ -13,7 +13,7 @@ const SHORTER: u8 = 32;
 const NUMBERS: u8 = 64;
 
 // How many numbers the letters' table has.
-const LETTERS: usize = 32;
+const LETTERS: usize = SHORTER as usize;
 
 // What stands for no byte, and is not of the alphabet.
 pub(crate) const NO_BYTE: u8 = b'_';
@@ -31,7 +31,7 @@ fn table() -> [u8; LETTERS]
     *b"__ETIANMSURWDKGOHVF_L_PJBXCYZQ__"
 }
 
-// The byte as many past a first one as a part of 32 is doubled to be 32; no byte where it never is.
+// The byte d past a first one, if a part of 32 is 32 once it is doubled d times; no byte if doubling never gives 32.
 fn past(first: u8, part: u8) -> u8
     requires { ⌜ (first + shorter < 2 ^ 8) × (0 < part) × (part ≤ shorter) ⌝ }
     ensures { λ r. ⌜ r ≡ pastBy shorter first part ⌝ }
@@ -45,8 +45,8 @@ fn past(first: u8, part: u8) -> u8
     if rest == SHORTER { byte } else { NO_BYTE }
 }
 
-// The byte whose sign has a number. A figure has d marks of one kind, then 5 - d of the other: dashes last, its number is
-// 2^(5 - d) past 31, and d is the figure; dots last, it is as much before 64, and 5 + d is.
+// The byte whose sign has a number. A figure is worked out: it has d marks of one kind, then 5 - d of the other. With
+// dashes last its number is 2^(5 - d) past 31, and the figure d; with dots last as much before 64, and the figure 5 + d.
 pub(crate) fn byte_of(number: u8) -> u8
     ensures { λ r. ⌜ r ≡ byteOf number ⌝ }
 {

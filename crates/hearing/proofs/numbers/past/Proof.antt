@@ -1,6 +1,6 @@
 -- `hearing::numbers::past` meets its contract: the part at hand comes to the byte that the first one comes to, and there
 -- are turns left for as long as it is short of 32.
-use mathlib.Core.Path.{_≡_, refl, sym, _∙_}
+use mathlib.Core.Path.{_≡_, sym, _∙_}
 use Prim.Native.Nat.{_+_, _-_, _<_, _≤_}
 use native.Mathlib.Omega.{arith}
 use borrow.Author.Needs.{needs}
