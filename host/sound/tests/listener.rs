@@ -1,6 +1,6 @@
-//! A real listener: beacons keyed by the library, as sound, written down again
-//! by two programs that nobody here wrote, Debian's `multimon-ng` and
-//! `morse2ascii`.
+//! A real listener: beacons, and every sign, keyed by the library, as sound,
+//! written down again by two programs that nobody here wrote, Debian's
+//! `multimon-ng` and `morse2ascii`.
 
 use ems::{answer, Craft, BEACON_BASIC_BYTES, BEACON_COMPLETE_BYTES, REPORT_BYTES, UNITS_BYTES};
 use std::io::{self, Write};
@@ -8,6 +8,9 @@ use std::{env, fs, path::Path, process::Command};
 
 const SPEEDS: [u32; 3] = [12, 18, 25];
 const TONE_HZ: u32 = 700;
+
+/// Every sign once.
+const SIGNS: &[u8] = b"0123456789 ABCDEFGHIJKLM NOPQRSTUVWXYZ";
 
 /// Writes down a WAV file that is keyed at a speed.
 type Listener = fn(&Path, u32) -> io::Result<Vec<u8>>;
@@ -70,11 +73,11 @@ fn said(craft: &Craft) -> Vec<Vec<u8>> {
     vec![basic, complete]
 }
 
-/// Has a listener write down every beacon at every speed.
+/// Has a listener write down every beacon and every sign, at every speed.
 fn hear(name: &str, listener: Listener) {
     let folder = Path::new(env!("CARGO_TARGET_TMPDIR"));
     let file = folder.join(format!("{name}.wav"));
-    for text in beacons() {
+    for text in beacons().into_iter().chain([SIGNS.to_vec()]) {
         let mut units = [0; UNITS_BYTES];
         let (given, count) = ems::key(&text, &mut units);
         assert_eq!(given, answer::DONE);
@@ -102,11 +105,11 @@ fn skip(name: &str) {
 }
 
 #[test]
-fn multimon_writes_down_every_beacon() {
+fn multimon_writes_down_all_of_it() {
     hear("multimon-ng", multimon);
 }
 
 #[test]
-fn morse2ascii_writes_down_every_beacon() {
+fn morse2ascii_writes_down_all_of_it() {
     hear("morse2ascii", morse2ascii);
 }
