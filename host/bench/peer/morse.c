@@ -28,8 +28,8 @@ static const uint8_t heard_letters[32] = {
     [0x11] = 'V', [0x0B] = 'W', [0x19] = 'X', [0x1B] = 'Y', [0x1C] = 'Z',
 };
 
-/* What up to five marks stand for; 0 for nothing. A figure's end with 5 - d of a kind, d the first of the other: then
-   the number is 2^(5 - d) past 31 or before 64. */
+/* What up to five marks stand for; 0 for nothing. A figure has d marks of one kind, then 5 - d of the other: with dashes
+   last it is 2^(5 - d) past 31, with dots last as much before 64. */
 static uint8_t heard(uint8_t marks)
 {
     if (marks < 0x20) return heard_letters[marks];

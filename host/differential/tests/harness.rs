@@ -399,7 +399,8 @@ fn goes_by_the_first_marks(units: &[u8], text: &mut [u8]) -> (u8, usize) {
     (0, 1)
 }
 
-/// Four dots and a dash in their midst: no figure's sign is as short.
+/// Four dots with a dash in their midst, 11 units, are the shortest five marks that no
+/// figure has.
 #[test]
 fn a_sign_that_no_byte_has_is_found() {
     let faulty = Calls {
