@@ -16,7 +16,7 @@ use Rattle.modules.specs.Masks.{maskOf, masksOf}
 use Rattle.modules.specs.declared.power.Module.{Module}
 use Rattle.modules.proofs.MasksLaws.{maskOf-bound}
 use Rattle.frames.specs.Reading.{lowestReading, highestReading, isReading, areThresholds}
-use Rattle.morse.specs.Signs.{signs, signOf, signed}
+use Rattle.morse.specs.Signs.{alphabet, signOf, signed}
 use Rattle.morse.specs.Texts.{isSpace, faultOf}
 use Rattle.morse.specs.declared.texts.Fault.the-variants.{Nothing}
 use Rattle.supervisor.specs.Range.{batteryInRange, inRange}
@@ -48,15 +48,15 @@ plain c t =
     }
 
 plain-figure : (n : ℕ) → n < 10 → Plain (figure n)
-unfolding signs signOf
+unfolding alphabet signOf
 plain-figure n h = plain (figure n) (upto (λ n. isPlain (figure n)) 10 tt n h)
 
 plain-hex : (n : ℕ) → n < 16 → Plain (hexDigit n)
-unfolding signs signOf
+unfolding alphabet signOf
 plain-hex n h = plain (hexDigit n) (upto (λ n. isPlain (hexDigit n)) 16 tt n h)
 
 plain-mode : (m : Mode) → Plain (modeLetter m)
-unfolding signs signOf
+unfolding alphabet signOf
 plain-mode (DeployWait phase) = plain 68 tt
 plain-mode Recovery = plain 82 tt
 plain-mode Safe = plain 83 tt
@@ -75,7 +75,7 @@ tension-most b t = by-reading (eqb (b .tension) 0) refl (and-left (eqb (b .tensi
 
 module _ (s : State) (e : inRange s ≡ true) (eight : Eight s) where
   both : (faultOf (basicText s) ≡ Nothing) × (faultOf (completeText s) ≡ Nothing)
-  unfolding signs signOf faultOf basicText completeText masksOf
+  unfolding alphabet signOf faultOf basicText completeText masksOf
   both =
       let tension = tension-most (s .battery) (parts s (holds (inRange s) e) .battery) in
       let on = mask-byte (λ m. isOn (m .power)) (s .modules) eight in

@@ -1,6 +1,6 @@
 -- The units of a text that may be keyed are heard as that text.
 -- Assumes nothing.
-use Prim.Native.Nat.{ℕ}
+use Prim.Native.Nat.{ℕ, _-_}
 use native.Mathlib.Omega.{arith}
 use mathlib.Core.Path.{_≡_, refl, sym, ap, _∙_}
 use mathlib.Core.Bool.{Bool, true, false, not, _&&_, _||_}
@@ -11,7 +11,7 @@ use borrow.Author.Tests.{eqb-true, not-true, lt-leb, ne-eqb}
 use Rattle.basics.specs.Choice.{if_then_else_, within}
 use Rattle.basics.specs.Bytes.{space}
 use Rattle.basics.proofs.ChoiceLaws.{is-true, holds, and-left, and-right, within-low, within-high}
-use Rattle.morse.specs.Signs.{Mark, dot, dash, signs, signOf, signed}
+use Rattle.morse.specs.Signs.{Mark, dot, dash, alphabet, signOf, signed}
 use Rattle.morse.specs.Texts.{isSpace, allKnown, faultOf}
 use Rattle.morse.specs.Units.{up, span, signUnits, unitsAfter, unitsOf, betweenSigns, betweenWords}
 use Rattle.morse.specs.declared.texts.Fault.the-variants.{Nothing}
@@ -20,21 +20,21 @@ use Rattle.morse.proofs.TextsLaws.{fair}
 use Rattle.hearing.specs.declared.decoding.Ear.{Ear}
 use Rattle.hearing.specs.declared.decoding.Told.{Told}
 use Rattle.hearing.specs.declared.decoding.Told.the-variants.{Wrong}
-use Rattle.hearing.specs.Numbers.{grown, climb, noByte, byteOf, afterMark}
+use Rattle.hearing.specs.Numbers.{grown, climb, fiveMarks, noByte, byteOf, afterMark}
 use Rattle.hearing.specs.Decoding.{ear, begun, afterGap, toldBy, lastOf, heardFrom, hear, heard}
 use Rattle.hearing.specs.Reading.{Keys}
 use Rattle.hearing.proofs.Spacing.{spacedAfter, walk-spaced}
 
 -- the number of a sign that may have one more mark
 abbrev mayGrow : ℕ → Bool
-mayGrow n = within 1 31 n
+mayGrow n = within 1 (fiveMarks - 1) n
 
 -- all numbers on the way to a sign's last mark are such
 abbrev rising : ℕ → List Mark → Bool
 rising n [] = true
 rising n (m ∷ ms) = mayGrow n && rising (grown n m) ms
 
--- a sign's number is that of its byte alone, and the way to it is short: a test over the table of signs
+-- a sign's number is that of its byte alone, and the way to it is short: a test over the alphabet
 abbrev numbered : ℕ → List Mark → Bool
 numbered c ms = (eqb (byteOf (climb 1 ms)) c && not (eqb c noByte)) && rising 1 ms
 
@@ -42,8 +42,8 @@ ownNumber : ℕ → List Mark → Bool
 ownNumber c ms = not (signed ms) || numbered c ms
 
 sign-numbered : (c : ℕ) → T (signed (signOf c)) → T (numbered c (signOf c))
-unfolding signs signOf byteOf ownNumber
-sign-numbered c s = by-sign (signOf c) s (everywhere [] ownNumber signs tt (λ k. tt) c)
+unfolding alphabet signOf byteOf ownNumber
+sign-numbered c s = by-sign (signOf c) s (everywhere ownNumber alphabet tt (λ k. tt) c)
   where
     by-sign : (ms : List Mark) → T (signed ms) → T (ownNumber c ms) → T (numbered c ms)
     by-sign [] s t = absurd s
@@ -70,7 +70,7 @@ heard-if false told rest = refl
 module _ (n : ℕ) (m : Mark) (short : T (mayGrow n)) where
   after-mark : afterMark n (span m) ≡ grown n m
   unfolding afterMark
-  after-mark = rw (lt-leb 32 n (omega (arith, within-high 1 31 n short))) (by-mark m)
+  after-mark = rw (lt-leb fiveMarks n (omega (arith, within-high 1 (fiveMarks - 1) n short))) (by-mark m)
     where
       by-mark : (m : Mark)
           → (if eqb (span m) 1 then grown n dot else if eqb (span m) 3 then grown n dash else 0) ≡ grown n m
@@ -88,7 +88,7 @@ module _ (n : ℕ) (m : Mark) (short : T (mayGrow n)) where
   hear-inside us = rw (after-mark, ne-eqb (grown n m) 0 (positive m))
     where
       positive : (m : Mark) → grown n m ≡ 0 → ⊥
-      positive dot e = omega (arith, within-low 1 31 n short)
+      positive dot e = omega (arith, within-low 1 (fiveMarks - 1) n short)
       positive dash e = omega arith
 
   -- by the next sign
@@ -144,7 +144,7 @@ hear-byte : (c : ℕ) (t : List ℕ) (word b : Bool) (n : ℕ) (m : Mark) → T 
     → T ((b || signed (signOf c)) && allKnown t) → T (not (word && b) && spacedAfter b t) → HearsRest t
     → hear (ear n (span m) 0) (signUnits (gapOf word) (signOf c) ++ unitsAfter (gapOf b) t)
     ≡ spoken (grown n m) (withSpace word (c ∷ t))
-unfolding signs signOf
+unfolding alphabet signOf
 hear-byte c t true true n m h e k s rest = absurd s
 hear-byte c t false true n m h e k s rest =
     let q : c ≡ space = eqb-true c space e in

@@ -22,7 +22,7 @@ use Rattle.hearing.specs.Reading.{Keys, readText, Read}
 use Rattle.hearing.proofs.ReadingLaws.{one-text}
 
 -- where keying answers a count, the text passed 11 to 13, and so many of the room's units are its keying
-key-done : (t room later : List ℕ) (n : ℕ) → keyOf t room ≡ outcome (Done n) later → Keys t (take n later)
+pub key-done : (t room later : List ℕ) (n : ℕ) → keyOf t room ≡ outcome (Done n) later → Keys t (take n later)
 unfolding keyOf keyUnits
 key-done t room later n e = by-fault (faultOf t) refl e
   where

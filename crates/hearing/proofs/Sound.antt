@@ -12,7 +12,7 @@ use borrow.Author.Tests.{eqb-true, not-true}
 use Rattle.basics.specs.Choice.{if_then_else_}
 use Rattle.basics.specs.Bytes.{space}
 use Rattle.basics.proofs.ChoiceLaws.{is-true, and-left, and-right, and-both, decided}
-use Rattle.morse.specs.Signs.{Mark, signs, signOf, signed}
+use Rattle.morse.specs.Signs.{Mark, alphabet, signOf, signed}
 use Rattle.morse.specs.Texts.{longest, isSpace, allKnown, seenIn, faultOf}
 use Rattle.morse.specs.Units.{up, down, betweenSigns, betweenWords, signUnits, gapAfter, unitsAfter, unitsOf}
 use Rattle.morse.proofs.TextsLaws.{fault-spacing}
@@ -79,7 +79,7 @@ module _ (e : Ear) (unit byte : ℕ) (us t : List ℕ) (r : Rightly (1 ∷ us) t
       }
 
   word-over : Over e unit byte betweenWords → Rightly (soFar e ++ (unit ∷ us)) (byte ∷ space ∷ t)
-  unfolding signs signOf
+  unfolding alphabet signOf
   word-over o =
       let rest = and-both (signed (signOf byte)) (allKnown t) (o .known) (r .known) in
       record { same = joined betweenWords o; known = rw (o .inner) rest; spaced = rw (o .inner) (r .spaced) }

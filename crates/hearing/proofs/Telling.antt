@@ -9,7 +9,7 @@ use lib.Dec.{T, eqb}
 use lib.ListN.{replicate-append-replicate}
 use borrow.Author.Tests.{eqb-true, eqb-false, not-false}
 use Rattle.basics.proofs.ChoiceLaws.{decided}
-use Rattle.morse.specs.Signs.{Mark, signs, signOf, signed}
+use Rattle.morse.specs.Signs.{Mark, alphabet, signOf, signed}
 use Rattle.morse.specs.Texts.{isSpace}
 use Rattle.morse.specs.Units.{up, down, span, insideSign, betweenSigns, betweenWords, signUnits}
 use Rattle.hearing.specs.declared.decoding.Ear.{Ear}
@@ -71,7 +71,7 @@ module _ (n d : ℕ) (p : 0 < n) where
   -- a byte that is heard has the marks so far
   pub sign-spoken : eqb (byteOf (afterMark n d)) noByte ≡ false
       → signUnits 0 (signOf (byteOf (afterMark n d))) ≡ lead (path n) ++ down d
-  unfolding byteOf signs
+  unfolding byteOf alphabet
   sign-spoken k =
       rw (spoken (afterMark n d) k .sign) (sign-marked (marked n d (λ z. true≢false (rw z at k))))
 

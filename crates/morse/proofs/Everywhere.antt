@@ -1,19 +1,24 @@
--- A table's rule at every number, those past its end too.
+-- A rule of the alphabet at every byte, those without a sign too.
 -- Assumes nothing.
-use mathlib.Core.Path.{_≡_, refl}
-use mathlib.Core.Bool.{Bool, true, false}
-use mathlib.Core.List.{List}
+use mathlib.Core.Path.{_≡_}
+use mathlib.Core.Bool.{Bool, true, _&&_}
+use mathlib.Core.List.{List, [], _∷_}
 use Prim.Native.Nat.{ℕ}
-use lib.Dec.{T, ltb}
-use lib.ListN.{length, getD, List·getD-eq-default}
-use borrow.Author.Tests.{ltb-true, ltb-false}
-use Rattle.basics.proofs.TablesLaws.{every, at}
+use lib.Dec.{T, eqb}
+use borrow.Author.Tests.{eqb-true}
+use Rattle.basics.proofs.ChoiceLaws.{and-left, and-right, decided}
+use Rattle.morse.specs.Signs.{Mark, Row, signAmong}
 
-module _ {A : Type 0} (d : A) (f : ℕ → A → Bool) (xs : List A) where
-  -- the test passes at each entry, and of d at each number: it passes at each number
-  pub everywhere : T (every d f 0 xs) → ((k : ℕ) → T (f k d)) → (k : ℕ) → T (f k (getD xs k d))
-  everywhere t p k = by-place (ltb k (length xs)) refl
-    where
-      by-place : (b : Bool) → ltb k (length xs) ≡ b → T (f k (getD xs k d))
-      by-place true e = at d f xs t k (ltb-true k (length xs) e)
-      by-place false e = rw (List·getD-eq-default xs d {n = k} (ltb-false k (length xs) e)) (p k)
+module _ (f : ℕ → List Mark → Bool) where
+  -- the test f passes at each row's byte and sign
+  abbrev pub everyRow : List Row → Bool
+  everyRow [] = true
+  everyRow (r ∷ rs) = f (r .byte) (r .sign) && everyRow rs
+
+  -- the test passes at each row, and of no marks at each byte: it passes at each byte
+  pub everywhere : (rows : List Row) → T (everyRow rows) → ((c : ℕ) → T (f c [])) → (c : ℕ) → T (f c (signAmong c rows))
+  everywhere [] t p c = p c
+  everywhere (r ∷ rs) t p c =
+      decided (λ (ms : List Mark). T (f c ms)) (eqb c (r .byte))
+      (λ e. rw (eqb-true c (r .byte) e) (and-left (f (r .byte) (r .sign)) (everyRow rs) t))
+      (λ e. everywhere rs (and-right (f (r .byte) (r .sign)) (everyRow rs) t) p c)

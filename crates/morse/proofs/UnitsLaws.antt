@@ -11,7 +11,7 @@ use lib.Seq.{sets, drop-cons}
 use lib.Dec.{T, leb, leb→le}
 use Rattle.basics.proofs.ChoiceLaws.{either}
 use Rattle.basics.proofs.Stores.{sets-append}
-use Rattle.morse.specs.Signs.{Mark, signs, signOf}
+use Rattle.morse.specs.Signs.{Mark, alphabet, signOf}
 use Rattle.morse.specs.SignTable.{markOf, unpack}
 use Rattle.morse.specs.Texts.{longest, isSpace}
 use Rattle.morse.specs.Units.{span, betweenSigns, signUnits, gapAfter, unitsAfter, unitsOf}
@@ -74,7 +74,7 @@ module _ (t : List ℕ) (i gap : ℕ) (h : i < length t) where
       ≡ sets (sets room k (byteUnits t i gap)) (k + length (byteUnits t i gap)) (restUnits t i)
   sets-text room k = ap (sets room k) byte-step ∙ simp sets-append
 
--- the most units of a byte: the 19 of the longest sign, that of 0, and the gap of 3 after it
+-- the most units of a byte: the 19 of the longest signs, those of 0 and the comma, and the gap of 3 after them
 abbrev pub mostOfByte : ℕ
 mostOfByte = 22
 
@@ -82,11 +82,11 @@ mostOfByte = 22
 abbrev pub mostUnits : ℕ
 mostUnits = mostOfByte * longest - betweenSigns
 
--- a byte's units with the gap after them: a test over the table of signs
+-- a byte's units with the gap after them: a test over the alphabet
 byte-most : (c : ℕ) → length (signUnits 0 (signOf c)) + gapAfter c ≤ mostOfByte
-unfolding signs signOf
+unfolding alphabet signOf
 byte-most c =
-    leb→le _ _ (everywhere [] (λ k ms. leb (length (signUnits 0 ms) + gapAfter k) mostOfByte) signs tt past c)
+    leb→le _ _ (everywhere (λ k ms. leb (length (signUnits 0 ms) + gapAfter k) mostOfByte) alphabet tt past c)
   where
     past : (k : ℕ) → T (leb (0 + gapAfter k) mostOfByte)
     past k = either (λ (g : ℕ). T (leb (0 + g) mostOfByte)) (isSpace k) tt tt

@@ -10,7 +10,7 @@ done = 0
 abbrev pub textTooLong : ℕ
 textTooLong = 11
 
--- a byte that is not A to Z, 0 to 9 or a space
+-- a byte that is neither a space nor of A to Z, 0 to 9 and . , ? /
 abbrev pub notKeyable : ℕ
 notKeyable = 12
 

@@ -1,15 +1,18 @@
--- The code's form of a sign, dashes as bits; the rule that its table of letters meets: which signs they are, and how
--- long; and the rule by which it works out the figures.
+-- The code's form of a sign, dashes as bits; the rule that its tables of letters and of punctuation meet: which signs they
+-- are, and how long; and the rule by which it works out the figures.
 -- Assumes nothing.
 use Prim.Native.Nat.{ℕ, zero, suc, _+_, _-_, _*_, _/_, _%_}
 use mathlib.Core.Bool.{Bool, true, false, _&&_}
-use mathlib.Core.List.{List, [], _∷_, _++_}
+use mathlib.Core.Path.{_≡_}
+use mathlib.Core.List.{List, [], _∷_, _++_, map}
 use lib.Count.{onesIn}
-use lib.Dec.{eqb}
+use lib.Dec.{T, eqb}
 use lib.ListN.{length, getD, replicate}
 use Rattle.basics.specs.Choice.{if_then_else_, within}
+use Rattle.basics.specs.Tables.{allBelow}
+use Rattle.morse.specs.declared.signs.Entry.{Entry}
 use Rattle.morse.specs.declared.signs.Sign.{Sign}
-use Rattle.morse.specs.Signs.{Mark, dot, dash, firstFigure, firstLetter, signOf}
+use Rattle.morse.specs.Signs.{Mark, dot, dash, firstFigure, firstLetter, Row, row, punctuation, signOf}
 use Rattle.morse.specs.Units.{span, insideSign, signUnits}
 
 -- a mark from its bit: 0 for a dot, 1 for a dash
@@ -52,11 +55,26 @@ sameMarks (dash ∷ s) (dot ∷ t) = false
 abbrev pub noSign : Sign
 noSign = record { marks = 0; len = 0 }
 
--- the rule of the code's table at entry k: it is the sign of that letter, whose units are as many as its timing says
+-- the rule of timing: a sign has as many units as its timing says
+abbrev pub isTimed : Sign → Bool
+isTimed s = eqb (length (signUnits 0 (marksOf s))) (lasts s)
+
+-- the rule of the letters' table at entry k: it is the sign of that letter, as long as its timing says
 abbrev pub isSign : List Sign → ℕ → Bool
-isSign table k =
-    sameMarks (marksOf (getD table k noSign)) (signOf (firstLetter + k))
-    && eqb (length (signUnits 0 (signOf (firstLetter + k)))) (lasts (getD table k noSign))
+isSign table k = sameMarks (marksOf (getD table k noSign)) (signOf (firstLetter + k)) && isTimed (getD table k noSign)
+
+-- an entry of the punctuation's table as a row of the alphabet
+abbrev pub rowOf : Entry → Row
+rowOf e = row (e .0) (marksOf (e .1))
+
+-- no entry
+abbrev pub noEntry : Entry
+noEntry = record { 0 = 0; 1 = noSign }
+
+-- the rule of that table: its entries are the rows of the punctuation, each as long as its timing says
+abbrev pub IsPunctuation : List Entry → Type 0
+IsPunctuation table =
+    (map rowOf table ≡ punctuation) × T (allBelow (λ k. isTimed (getD table k noEntry .1)) (length punctuation))
 
 -- how many figures there are
 abbrev pub figureCount : ℕ

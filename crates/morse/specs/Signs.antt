@@ -1,10 +1,12 @@
--- The signs of ITU-R M.1677-1 for the letters and the figures, by the byte that stands for each.
+-- The alphabet: the signs of ITU-R M.1677-1 for the letters, the figures and four punctuation marks, each with the byte
+-- that stands for it. A further sign is a further row.
 -- Assumes nothing.
-use Prim.Native.Nat.{ℕ}
+use Prim.Native.Nat.{ℕ, suc}
 use mathlib.Core.Bool.{Bool, true, false}
 use mathlib.Core.List.{List, [], _∷_, _++_}
-use lib.ListN.{getD, replicate}
+use lib.Dec.{eqb}
 use Rattle.basics.specs.Choice.{within}
+use Rattle.basics.specs.Tables.{firstOf}
 
 -- a mark: the key down for a short or a long time
 pub data Mark : Type 0 where
@@ -70,13 +72,38 @@ isFigure c = within firstFigure 57 c
 abbrev pub isLetter : ℕ → Bool
 isLetter c = within firstLetter 90 c
 
--- the sign of each byte in turn: the figures from 48 on, the letters from 65 on, and none for any other byte
-unfoldable pub signs : List (List Mark)
-signs = replicate firstFigure [] ++ (figures ++ (replicate 7 [] ++ letters))
+-- a row of the alphabet: a byte, and the sign that it stands for
+pub record Row : Type 0 where
+  pub byte : ℕ
+  pub sign : List Mark
+
+abbrev pub row : ℕ → List Mark → Row
+row byte sign = record { byte = byte; sign = sign }
+
+-- the rows of signs whose bytes follow each other, from the first one's on
+abbrev pub rowsFrom : (first : ℕ) → List (List Mark) → List Row
+rowsFrom first [] = []
+rowsFrom first (s ∷ ss) = row first s ∷ rowsFrom (suc first) ss
+
+-- the full stop, the comma, the question mark and the slash, which M.1677-1 calls fraction bar
+abbrev pub punctuation : List Row
+punctuation =
+    row 46 (dot ∷ dash ∷ dot ∷ dash ∷ dot ∷ dash ∷ []) ∷  -- .
+    row 44 (dash ∷ dash ∷ dot ∷ dot ∷ dash ∷ dash ∷ []) ∷  -- ,
+    row 63 (dot ∷ dot ∷ dash ∷ dash ∷ dot ∷ dot ∷ []) ∷  -- ?
+    row 47 (dash ∷ dot ∷ dot ∷ dash ∷ dot ∷ []) ∷ []  -- /
+
+-- all signs, each with its byte
+unfoldable pub alphabet : List Row
+alphabet = rowsFrom firstLetter letters ++ (rowsFrom firstFigure figures ++ punctuation)
+
+-- the sign of a byte among rows; no marks where none has the byte
+abbrev pub signAmong : ℕ → List Row → List Mark
+signAmong c = firstOf (λ r. eqb c (r .byte)) (λ r. r .sign) []
 
 -- the sign of a byte; no marks where the byte has none
 unfoldable pub signOf : ℕ → List Mark
-signOf c = getD signs c []
+signOf c = signAmong c alphabet
 
 -- whether there is a sign at all
 abbrev pub signed : List Mark → Bool

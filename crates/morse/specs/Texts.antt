@@ -1,4 +1,4 @@
--- Which texts may be keyed: up to 64 bytes of A to Z, 0 to 9 and single inner spaces.
+-- Which texts may be keyed: up to 64 bytes of the alphabet and single inner spaces.
 -- Assumes nothing.
 use Prim.Native.Nat.{ℕ, _-_}
 use mathlib.Core.Bool.{Bool, true, false, not, _&&_, _||_}

@@ -7,7 +7,7 @@ pub const DONE: u8 = 0;
 // A text over 64 bytes.
 pub const TEXT_TOO_LONG: u8 = 11;
 
-// A byte that is not A to Z, 0 to 9 or a space.
+// A byte that is neither a space nor of A to Z, 0 to 9 and . , ? /
 pub const NOT_KEYABLE: u8 = 12;
 
 // A space first, last or doubled.

@@ -1,11 +1,11 @@
 // The signs of ITU-R M.1677-1, in the form that keying walks through.
-// What they are is `specs/Signs.antt`: the letters' table meets it by one computed test, and a figure is worked out.
+// What they are is `specs/Signs.antt`: each of the two tables meets it by one computed test, and a figure is worked out.
 ghost use mathlib.Core.Path.{_≡_};
 ghost use Prim.Native.Nat.{_<_};
 ghost use lib.Dec.{T};
 ghost use Rattle.basics.specs.Tables.{allBelow};
-ghost use Rattle.morse.specs.Signs.{signOf};
-ghost use Rattle.morse.specs.SignTable.{marksOf, letterCount, isSign, figureCount, figureMarks};
+ghost use Rattle.morse.specs.Signs.{punctuation, signAmong, signOf};
+ghost use Rattle.morse.specs.SignTable.{marksOf, letterCount, isSign, IsPunctuation, figureCount, figureMarks};
 
 // A sign: its dashes as bits, the first mark lowest, and how many marks it has.
 pub(crate) struct Sign {
@@ -13,8 +13,17 @@ pub(crate) struct Sign {
     pub(crate) len: u8,
 }
 
+// A byte that is no letter and no figure, and its sign.
+pub(crate) struct Entry(pub(crate) u8, pub(crate) Sign);
+
+// A sign of no marks.
+const NO_SIGN: Sign = Sign { marks: 0, len: 0 };
+
 // How many letters there are.
 const LETTERS: usize = 26;
+
+// How many other bytes have a sign, the figures left out.
+const OTHERS: usize = 4;
 
 // How many figures there are.
 const FIGURES: u8 = 10;
@@ -55,11 +64,26 @@ const SIGNS: [Sign; LETTERS] = [
     Sign { marks: 3, len: 4 }, // Z
 ];
 
+// Punctuation.
+const PUNCTUATION: [Entry; OTHERS] = [
+    Entry(b'.', Sign { marks: 42, len: 6 }),
+    Entry(b',', Sign { marks: 51, len: 6 }),
+    Entry(b'?', Sign { marks: 12, len: 6 }),
+    Entry(b'/', Sign { marks: 9, len: 5 }),
+];
+
 // The table: each entry is the sign of its letter, and as long as its timing says.
 fn table() -> [Sign; LETTERS]
     ensures { λ r. ⌜ T (allBelow (isSign r) letterCount) ⌝ }
 {
     SIGNS
+}
+
+// Punctuation: each entry is its row of the alphabet, and its sign as long as its timing says.
+fn entries() -> [Entry; OTHERS]
+    ensures { λ r. ⌜ IsPunctuation r ⌝ }
+{
+    PUNCTUATION
 }
 
 // The sign of a figure, worked out. 0 to 4 are that many dots, then dashes to five; 5 to 9 are none to four dashes, then
@@ -76,6 +100,22 @@ fn figure(digit: u8) -> Sign
     Sign { marks, len: FIVE }
 }
 
+// The sign of a byte that is no letter and no figure; one of no marks where it has none.
+fn other(c: u8) -> Sign
+    ensures { λ r. ⌜ marksOf r ≡ signAmong c punctuation ⌝ }
+{
+    let table = entries();
+    let mut i = 0;
+    while i < OTHERS {
+        let entry = table[i];
+        if c == entry.0 {
+            return entry.1;
+        }
+        i += 1;
+    }
+    NO_SIGN
+}
+
 // The sign of a byte; one of no marks where the byte has none.
 pub(crate) fn sign_of(c: u8) -> Sign
     ensures { λ r. ⌜ marksOf r ≡ signOf c ⌝ }
@@ -87,5 +127,5 @@ pub(crate) fn sign_of(c: u8) -> Sign
     if (b'0' <= c) & (c <= b'9') {
         return figure(c - b'0');
     }
-    Sign { marks: 0, len: 0 }
+    other(c)
 }

@@ -21,7 +21,7 @@ pub const BETWEEN_SIGNS: usize = 3;
 // The gap between two words.
 pub const BETWEEN_WORDS: usize = 7;
 
-// The most units of a byte: the 19 of the longest sign, that of 0, and the gap of 3 after it.
+// The most units of a byte: the 19 of the longest signs, those of 0 and the comma, and the gap of 3 after them.
 const BYTE_UNITS: usize = 22;
 
 // The most units of a text, 1405: nothing follows the last sign. It is the header's EMS_UNITS_BYTES.

@@ -1,4 +1,5 @@
-// Each letter and figure with its sign, as the library keys it, and the byte that reading that keying gives.
+// Each byte of the alphabet with its sign, as the library keys it, and the byte that reading that keying gives. What is no
+// mark, no sign or not read is a `!`, which is not of the alphabet.
 use hearing::Heard;
 use libc::STDOUT_FILENO;
 use morse::Keyed;
@@ -18,7 +19,7 @@ fn say_mark(down: usize) {
         0 => (),
         1 => say(b"."),
         3 => say(b"-"),
-        _ => say(b"?"),
+        _ => say(b"!"),
     }
 }
 
@@ -47,7 +48,7 @@ fn say_heard(units: &[u8]) {
                 say(&text[0..n]);
             }
         }
-        _ => say(b"?"),
+        _ => say(b"!"),
     }
 }
 
@@ -71,7 +72,7 @@ fn say_sign(byte: u8) {
                 say_keyed(&units[0..n]);
             }
         }
-        _ => say(b"?\n"),
+        _ => say(b"!\n"),
     }
 }
 
@@ -85,8 +86,12 @@ fn say_signs(first: u8, last: u8) {
     say_sign(last);
 }
 
-// The letters, then the figures.
+// The letters, the figures, then the full stop, the comma, the question mark and the slash.
 fn main() {
     say_signs(b'A', b'Z');
     say_signs(b'0', b'9');
+    say_sign(b'.');
+    say_sign(b',');
+    say_sign(b'?');
+    say_sign(b'/');
 }

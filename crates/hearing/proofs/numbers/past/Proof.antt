@@ -4,7 +4,7 @@ use mathlib.Core.Path.{_≡_, sym, _∙_}
 use Prim.Native.Nat.{_+_, _-_, _<_, _≤_}
 use native.Mathlib.Omega.{arith}
 use borrow.Author.Needs.{needs}
-use Rattle.hearing.specs.Numbers.{shorter, pastBy}
+use Rattle.hearing.specs.Numbers.{fourMarks, pastBy}
 use Rattle.hearing.proofs.NumbersLaws.{past-on, past-here, past-never}
 use Rattle.hearing.proofs.numbers.past.Statement.{statement}
 use Rattle.hearing.proofs.numbers.past.Tie as tie
@@ -13,16 +13,16 @@ abbrev Inv-loop : tie.InvT-loop
 Inv-loop first part byte₀ rest₀ byte rest =
     (first ≤ byte)
     × (byte < first + rest)
-    × (rest < shorter + shorter)
-    × (pastBy (shorter + first - byte) byte rest ≡ pastBy shorter first part)
+    × (rest < fourMarks + fourMarks)
+    × (pastBy (fourMarks + first - byte) byte rest ≡ pastBy fourMarks first part)
 
 abbrev μ-loop : tie.MeasureT-loop
-μ-loop first part byte₀ rest₀ byte rest = shorter + shorter - rest
+μ-loop first part byte₀ rest₀ byte rest = fourMarks + fourMarks - rest
 
 loop-holds : tie.Need-loop-holds Inv-loop μ-loop
 loop-holds c =
     let a = c .args in
-    let e : shorter + a .first - a .first ≡ shorter = omega arith in
+    let e : fourMarks + a .first - a .first ≡ fourMarks = omega arith in
     (search needs, search needs, search needs, rw e)
 
 add-byte : tie.Need-add-byte Inv-loop μ-loop
@@ -38,8 +38,8 @@ loop-again : tie.Need-loop-again Inv-loop μ-loop
 loop-again c =
     let a = c .before .before .args in
     let l = c .before .loop in
-    let turns = shorter + a .first - l .byte in
-    let e : turns - 1 ≡ shorter + a .first - (l .byte + 1) = omega arith in
+    let turns = fourMarks + a .first - l .byte in
+    let e : turns - 1 ≡ fourMarks + a .first - (l .byte + 1) = omega arith in
     let on = past-on turns (l .byte) (l .rest) (omega arith) (c .loop-test .taken) in
     (search needs, search needs, search needs, rw e at (sym on ∙ l .inv .3))
 
@@ -47,14 +47,14 @@ returns : tie.Need-returns Inv-loop μ-loop
 returns c =
     let a = c .before .before .before .args in
     let l = c .before .before .loop in
-    let turns = shorter + a .first - l .byte in
+    let turns = fourMarks + a .first - l .byte in
     sym (past-here turns (l .byte) (omega arith)) ∙ rw (c .if1 .taken) at (l .inv .3)
 
 returns-2 : tie.Need-returns-2 Inv-loop μ-loop
 returns-2 c =
     let a = c .before .before .before .args in
     let l = c .before .before .loop in
-    let turns = shorter + a .first - l .byte in
+    let turns = fourMarks + a .first - l .byte in
     sym (past-never turns (l .byte) (l .rest) (omega arith)) ∙ l .inv .3
 
 pub past-spec : {M : Type 1} → statement M

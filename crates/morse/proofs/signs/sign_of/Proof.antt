@@ -1,12 +1,11 @@
 -- `morse::signs::sign_of` meets its contract: an entry of the table is right by the table's rule, a figure by its own,
--- and any other byte has no sign.
+-- and any other byte has its sign among the punctuation, or none.
 use mathlib.Core.Path.{_≡_, ap, sym, _∙_}
 use Prim.Native.Nat.{_+_, _-_}
 use native.Mathlib.Omega.{arith}
 use borrow.Author.Needs.{needs}
 use Rattle.morse.specs.Signs.{firstFigure, firstLetter, signOf}
-use Rattle.morse.specs.SignTable.{marksOf}
-use Rattle.morse.proofs.SignsLaws.{letter-ends, figure-ends, letter-right, figure-right, no-sign}
+use Rattle.morse.proofs.SignsLaws.{letter-ends, figure-ends, letter-right, figure-right, other-sign}
 use Rattle.morse.proofs.signs.sign_of.Statement.{statement}
 use Rattle.morse.proofs.signs.sign_of.Tie as tie
 
@@ -46,9 +45,11 @@ returns-2 c =
     let e : firstFigure + (b - firstFigure) ≡ b = omega arith in
     c .figure .ensures ∙ figure-right (b - firstFigure) (omega arith) ∙ ap signOf e
 
+other-requires : tie.Need-other-requires
+other-requires c κs = search needs
+
 returns-3 : tie.Need-returns-3
-unfolding marksOf
-returns-3 c = sym (no-sign _ (c .before .if1 .left) (c .if2 .left))
+returns-3 c = c .other .ensures ∙ sym (other-sign _ (c .before .before .if1 .left) (c .before .if2 .left))
 
 pub sign-of-spec : {M : Type 1} → statement M
 sign-of-spec =
@@ -63,4 +64,5 @@ sign-of-spec =
     sub-figure
     figure-requires
     returns-2
+    other-requires
     returns-3)

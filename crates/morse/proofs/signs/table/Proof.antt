@@ -1,12 +1,12 @@
 -- `morse::signs::table` meets its contract: antt computes the rule's test at each entry.
 use lib.Count.{onesIn}
-use Rattle.morse.specs.Signs.{signs, signOf}
+use Rattle.morse.specs.Signs.{alphabet, signOf}
 use Rattle.morse.specs.SignTable.{marksOf}
 use Rattle.morse.proofs.signs.table.Statement.{statement}
 use Rattle.morse.proofs.signs.table.Tie as tie
 
 returns : tie.Need-returns
-unfolding onesIn signs signOf marksOf
+unfolding onesIn alphabet signOf marksOf
 returns c = tt
 
 pub table-spec : {M : Type 1} → statement M

@@ -1,0 +1,77 @@
+-- `morse::signs::other` meets its contract: what is left of the table has the byte's sign, as the punctuation has it.
+use mathlib.Core.Path.{_≡_, sym, _∙_}
+use mathlib.Core.List.{[]}
+use Prim.Native.Nat.{_-_, _≤_}
+use native.Mathlib.Omega.{arith}
+use lib.ListN.{length, drop, drop-of-length-le}
+use borrow.Author.Tests.{eq-eqb, ne-eqb}
+use borrow.Author.Needs.{needs}
+use Rattle.morse.specs.Signs.{punctuation, signAmong}
+use Rattle.morse.specs.SignTable.{marksOf}
+use Rattle.morse.proofs.SignsLaws.{signIn, sign-in, sign-on, sign-here}
+use Rattle.morse.proofs.signs.other.Statement.{statement}
+use Rattle.morse.proofs.signs.other.Tie as tie
+
+abbrev Inv-loop : tie.InvT-loop
+Inv-loop c table i₀ i =
+    (length table ≡ length punctuation) × (i ≤ length table) × (signIn c (drop i table) ≡ signAmong c punctuation)
+
+abbrev μ-loop : tie.MeasureT-loop
+μ-loop c table i₀ i = length table - i
+
+entries-requires : tie.Need-entries-requires Inv-loop μ-loop
+entries-requires c κs = search needs
+
+loop-holds : tie.Need-loop-holds Inv-loop μ-loop
+loop-holds c = (search needs, search needs, sign-in (c .before .args .c) (c .entries .result) (c .entries .ensures .0))
+
+mul-entry : tie.Need-mul-entry Inv-loop μ-loop
+mul-entry c = search needs
+
+array-copy-out-entry : tie.Need-array-copy-out-entry Inv-loop μ-loop
+array-copy-out-entry c = search needs
+
+returns : tie.Need-returns Inv-loop μ-loop
+returns c =
+    let l = c .before .before .before .before .before .loop in
+    let a = c .before .before .before .before .before .before .before .args in
+    let t = c .before .before .before .before .before .before .entries .result in
+    sym (sign-here (a .c) t (l .i) (omega arith) (eq-eqb _ _ (c .before .if1 .taken))) ∙ l .inv .2
+
+add-i : tie.Need-add-i Inv-loop μ-loop
+add-i c = search needs
+
+loop-less : tie.Need-loop-less Inv-loop μ-loop
+loop-less c = search needs
+
+loop-again : tie.Need-loop-again Inv-loop μ-loop
+loop-again c =
+    let l = c .before .before .before .before .loop in
+    let a = c .before .before .before .before .before .before .args in
+    let t = c .before .before .before .before .before .entries .result in
+    let on = sign-on (a .c) t (l .i) (omega arith) (ne-eqb _ _ (c .if1 .left)) in
+    (search needs, search needs, sym on ∙ l .inv .2)
+
+returns-2 : tie.Need-returns-2 Inv-loop μ-loop
+unfolding marksOf
+returns-2 c =
+    let l = c .before .loop in
+    let t = c .before .before .entries .result in
+    let e : drop (l .i) t ≡ [] = drop-of-length-le t {i = l .i} (omega arith) in
+    rw e at (l .inv .2)
+
+pub other-spec : {M : Type 1} → statement M
+other-spec =
+    tie.close
+    (tie.spec
+    Inv-loop
+    μ-loop
+    entries-requires
+    loop-holds
+    mul-entry
+    array-copy-out-entry
+    returns
+    add-i
+    loop-less
+    loop-again
+    returns-2)
