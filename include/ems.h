@@ -82,7 +82,8 @@ extern "C" {
 #define EMS_BEACON_COMPLETE_BYTES 16
 
 /* The longest text that is keyed, and room enough for the units of any text
- * that is: 22 units for each `0`, less the gap after the last. */
+ * that is: no character takes more than 22, the 19 of a `0` or a `,` and the gap
+ * of 3 after it, which is not there after the last. */
 #define EMS_TEXT_BYTES 64
 #define EMS_UNITS_BYTES 1405
 
@@ -104,7 +105,8 @@ enum ems_answer {
                                outside SAFE; the serial is used up; there is a
                                report */
     EMS_TEXT_TOO_LONG = 11, /* text over EMS_TEXT_BYTES */
-    EMS_NOT_KEYABLE = 12,   /* a byte that is not A to Z, 0 to 9 or a space */
+    EMS_NOT_KEYABLE = 12,   /* a byte that is neither a space nor of A to Z, 0 to
+                               9 and . , ? / */
     EMS_BAD_SPACE = 13,     /* a space first, last or doubled */
     EMS_NO_ROOM = 14,       /* the room is shorter than the result */
     EMS_NOT_A_KEYING = 15   /* the units are not exactly the keying of a text */

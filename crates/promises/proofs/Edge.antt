@@ -13,4 +13,5 @@ pub mod Dawn
 pub mod Refusals
 pub mod NeverSilent
 pub mod OnTheGround
+pub mod Spelling
 pub mod ImageFlies

@@ -28,6 +28,7 @@ pub mod Dawn
 pub mod BeaconLaws
 pub mod NeverSilent
 pub mod OnTheGround
+pub mod Spelling
 pub mod Numbers
 pub mod Edge
 pub mod ImageFlies

@@ -1,7 +1,7 @@
 -- Numbers on either side, computed.
 -- Assumes nothing.
 use mathlib.Core.Path.{refl}
-use Rattle.morse.specs.Signs.{signs, signOf}
+use Rattle.morse.specs.Signs.{alphabet, signOf}
 use Rattle.morse.specs.Texts.{faultOf}
 use Rattle.morse.specs.Units.{unitsOf}
 use Rattle.morse.specs.Keying.{keyUnits, keyOf}
@@ -9,7 +9,7 @@ use Rattle.supervisor.proofs.Rules.{rules}
 use Rattle.promises.specs.Numbers.{Numbers}
 
 pub numbers : Numbers
-unfolding rules signs signOf faultOf unitsOf keyUnits keyOf
+unfolding rules alphabet signOf faultOf unitsOf keyUnits keyOf
 numbers = (
   refl,
   (

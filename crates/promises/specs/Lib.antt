@@ -13,5 +13,6 @@ pub mod Dawn
 pub mod Refusals
 pub mod NeverSilent
 pub mod OnTheGround
+pub mod Spelling
 pub mod ImageFlies
 pub mod Tied

@@ -12,11 +12,15 @@ static uint8_t figure(uint8_t digit)
     return (uint8_t)(digit < 5 ? 0x20 + (0x1F >> digit) : 0x3F - (0x1F >> (digit - 5)));
 }
 
+/* Punctuation: what its marks stand for, and they. */
+static const struct { uint8_t byte, marks; } punctuation[4] = {{'.', 0x55}, {',', 0x73}, {'?', 0x4C}, {'/', 0x32}};
+
 /* A sign's marks, by what they stand for; 0 for a byte that has none. */
 static uint8_t sign(uint8_t c)
 {
     if (c >= 'A' && c <= 'Z') return letters[c - 'A'];
     if (c >= '0' && c <= '9') return figure((uint8_t)(c - '0'));
+    for (int i = 0; i < 4; i++) if (punctuation[i].byte == c) return punctuation[i].marks;
     return 0;
 }
 
@@ -28,14 +32,22 @@ static const uint8_t heard_letters[32] = {
     [0x11] = 'V', [0x0B] = 'W', [0x19] = 'X', [0x1B] = 'Y', [0x1C] = 'Z',
 };
 
-/* What up to five marks stand for; 0 for nothing. A figure has d marks of one kind, then 5 - d of the other: with dashes
-   last it is 2^(5 - d) past 31, with dots last as much before 64. */
-static uint8_t heard(uint8_t marks)
+/* What five marks stand for, if that is a figure; else 0. A figure has d marks of one kind, then 5 - d of the other: with
+   dashes last it is 2^(5 - d) past 31, with dots last as much before 64. */
+static uint8_t heard_figure(uint8_t marks)
 {
-    if (marks < 0x20) return heard_letters[marks];
     uint8_t byte = marks & 1 ? '0' : '5', rest = (uint8_t)(marks & 1 ? marks - 31 : 64 - marks);
     for (; rest < 32; rest *= 2) byte++;
     return rest == 32 ? byte : 0;
+}
+
+/* What up to six marks stand for; 0 for nothing. */
+static uint8_t heard(uint8_t marks)
+{
+    if (marks < 0x20) return heard_letters[marks];
+    uint8_t byte = marks < 0x40 ? heard_figure(marks) : 0;
+    for (int i = 0; i < 4 && !byte; i++) if (punctuation[i].marks == marks) byte = punctuation[i].byte;
+    return byte;
 }
 
 static size_t put(uint8_t *units, size_t at, uint8_t unit, int times)
@@ -86,7 +98,7 @@ uint8_t peer_read(const uint8_t *units, size_t n, uint8_t *text, size_t room, si
             size_t down = i;
             while (i < n && units[i] == 1) i++;
             down = i - down;
-            if ((down != 1 && down != 3) || marks > 0x1F) return 15;
+            if ((down != 1 && down != 3) || marks > 0x3F) return 15;
             marks = (uint8_t)(marks << 1 | (down == 3));
             gap = i;
             while (i < n && units[i] == 0) i++;

@@ -41,6 +41,9 @@ const TEXT: &[u8] = b"EMS S 8123 FF 00 THE QUICK BROWN FOX JUMPS OVER 1234567890
 /// 64 digits, each of the ten as often as any other, or once more.
 const DIGITS: &[u8] = b"0123456789012345678901234567890123456789012345678901234567890123";
 
+/// 64 punctuation marks, each of the four as often as any other.
+const PUNCTUATION: &[u8] = b".,?/.,?/.,?/.,?/.,?/.,?/.,?/.,?/.,?/.,?/.,?/.,?/.,?/.,?/.,?/.,?/";
+
 /// A board in a mode, charged so that it stays there, every module that may be
 /// on is, and has all its tries.
 fn board(mode: Mode) -> State {
@@ -183,6 +186,8 @@ pub fn streams() -> Vec<Stream> {
         text("reading 64 characters", b'r', units(TEXT)),
         text("keying 64 digits", b'k', DIGITS.to_vec()),
         text("reading 64 digits", b'r', units(DIGITS)),
+        text("keying 64 punctuation marks", b'k', PUNCTUATION.to_vec()),
+        text("reading 64 punctuation marks", b'r', units(PUNCTUATION)),
     ]
 }
 

@@ -2,7 +2,15 @@
 
 use crate::rng::Rng;
 
-const SIGNS: &[u8] = b"ABCDEFGHIJKLMNOPQRSTUVWXYZ0123456789";
+const SIGNS: &[u8] = b"ABCDEFGHIJKLMNOPQRSTUVWXYZ0123456789.,?/";
+
+/// Bytes that are not of the alphabet, but beside one that is.
+const BESIDE: &[u8] = b"+-:>@[az;";
+
+/// A text of one word, of so many bytes.
+pub fn word(rng: &mut Rng, length: usize) -> Vec<u8> {
+    (0..length).map(|_| rng.pick(SIGNS)).collect()
+}
 
 /// A text that can be keyed, of up to 64 bytes.
 pub fn good(rng: &mut Rng) -> Vec<u8> {
@@ -32,7 +40,8 @@ pub fn any(rng: &mut Rng) -> Vec<u8> {
         2 | 3 if !text.is_empty() => {
             let place = rng.below(text.len());
             let any_byte = rng.byte();
-            text[place] = rng.pick(&[b' ', b'a', b'z', b'@', b'[', b'/', b':', any_byte]);
+            let beside = rng.pick(BESIDE);
+            text[place] = rng.pick(&[b' ', beside, beside, any_byte]);
         }
         _ => {}
     }

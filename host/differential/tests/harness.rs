@@ -411,3 +411,29 @@ fn a_sign_that_no_byte_has_is_found() {
     let units = told.lines().next().map(|line| line.matches(" 0").count());
     assert_eq!(units, Some(11), "{told}");
 }
+
+#[test]
+fn a_keyer_with_a_wrong_sign_is_found() {
+    for group in [
+        "every text of up to 2 bytes",
+        "every byte in every place of a text",
+        "texts of up to 70 bytes",
+    ] {
+        for (name, key) in wrong::signs::KEYERS {
+            let told = told(group, Calls { key, ..MODEL });
+            // One byte shows it.
+            assert!(told.starts_with("input:   "), "{group}: {name}\n{told}");
+            assert_eq!(told.find(" (room "), Some(11), "{group}: {name}\n{told}");
+        }
+    }
+}
+
+#[test]
+fn a_reader_with_a_wrong_sign_is_found() {
+    for (name, read) in wrong::signs::READERS {
+        let told = told("every sign of up to 7 marks", Calls { read, ..MODEL });
+        // One sign shows it.
+        let input = told.lines().next().unwrap_or_default();
+        assert!(!input.contains("00 00"), "{name}\n{told}");
+    }
+}

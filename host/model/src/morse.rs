@@ -1,7 +1,7 @@
 //! Keying and reading back, with the signs of ITU-R M.1677-1.
 
 /// The signs by the byte they stand for: dots and dashes as they are printed.
-pub const SIGNS: [(u8, &str); 36] = [
+pub const SIGNS: [(u8, &str); 40] = [
     (b'A', ".-"),
     (b'B', "-..."),
     (b'C', "-.-."),
@@ -38,6 +38,10 @@ pub const SIGNS: [(u8, &str); 36] = [
     (b'8', "---.."),
     (b'9', "----."),
     (b'0', "-----"),
+    (b'.', ".-.-.-"),
+    (b',', "--..--"),
+    (b'?', "..--.."),
+    (b'/', "-..-."),
 ];
 
 /// The longest text that is keyed.

@@ -74,6 +74,12 @@ fn lengths_in_units() {
         ("R", 7),
         ("PARIS", 43),
         ("EMS R 7000", 119),
+        // The longest signs: a comma's units are as many as a zero's.
+        ("0", 19),
+        (",", 19),
+        (".", 17),
+        ("?", 15),
+        ("/", 13),
     ] {
         let keyed = morse::key(text.as_bytes()).expect("it can be keyed");
         assert_eq!(keyed.len(), units, "{text}");

@@ -10,7 +10,7 @@ const SPEEDS: [u32; 3] = [12, 18, 25];
 const TONE_HZ: u32 = 700;
 
 /// Every sign once.
-const SIGNS: &[u8] = b"0123456789 ABCDEFGHIJKLM NOPQRSTUVWXYZ";
+const SIGNS: &[u8] = b"0123456789 ABCDEFGHIJKLM NOPQRSTUVWXYZ .,?/";
 
 /// Writes down a WAV file that is keyed at a speed.
 type Listener = fn(&Path, u32) -> io::Result<Vec<u8>>;

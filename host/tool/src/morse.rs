@@ -53,10 +53,12 @@ fn is_keyable(byte: u8) -> bool {
     ems::key(&[byte], &mut [0; UNITS_BYTES]).0 != answer::NOT_KEYABLE
 }
 
-/// The characters that are keyed, those in a row as `A to Z`.
+/// The characters that are keyed: figures and letters, in a row as `A to Z`, then
+/// the others one by one.
 fn alphabet() -> String {
-    let all: Vec<u8> = (0..=u8::MAX).filter(|&byte| is_keyable(byte)).collect();
-    let rows = all.chunk_by(|a, b| a + 1 == *b);
+    let mut all: Vec<u8> = (0..=u8::MAX).filter(|&byte| is_keyable(byte)).collect();
+    all.sort_by_key(|byte| !byte.is_ascii_alphanumeric());
+    let rows = all.chunk_by(|a, b| a + 1 == *b && b.is_ascii_alphanumeric());
     let named: Vec<String> = rows.map(named).collect();
     list(&named)
 }
@@ -65,7 +67,7 @@ fn alphabet() -> String {
 fn named(row: &[u8]) -> String {
     match row {
         [b' '] => "the space".to_string(),
-        [one] => char::from(*one).to_string(),
+        [one] => format!("`{}`", char::from(*one)),
         [first, .., last] => format!("{} to {}", char::from(*first), char::from(*last)),
         [] => String::new(),
     }
@@ -135,7 +137,8 @@ mod tests {
 
     #[test]
     fn the_alphabet_is_the_library_s() {
-        assert_eq!(alphabet(), "the space, 0 to 9 and A to Z");
+        let all = "0 to 9, A to Z, the space, `,`, `.`, `/` and `?`";
+        assert_eq!(alphabet(), all);
     }
 
     #[test]

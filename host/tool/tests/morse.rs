@@ -54,6 +54,25 @@ fn units_are_read_back() {
     assert_eq!(fed(&["read", "-"], b"").status(0).text(), "\n");
 }
 
+/// What a listener may ask, with all four of the signs that are no letters and no
+/// figures: each by itself, and in words.
+#[test]
+fn punctuation_is_read_back() {
+    for (text, units) in [
+        (".", "10111010111010111"),
+        (",", "1110111010101110111"),
+        ("?", "101011101110101"),
+        ("/", "1110101011101"),
+    ] {
+        let keyed = run(&["key", "--units", text]).status(0);
+        assert_eq!(keyed.text(), format!("{units}\n"), "{text}");
+    }
+    let asked = "CQ DE EMS/S, HW CPY? 73.";
+    let units = run(&["key", "--units", asked]).status(0);
+    let read = fed(&["read", "-"], &units.out).status(0);
+    assert_eq!(read.text(), format!("{asked}\n"));
+}
+
 #[test]
 fn a_sound_is_as_long_as_its_units() {
     let file = place("beacon.wav");
@@ -79,7 +98,10 @@ fn a_sound_is_as_long_as_its_units() {
 fn what_cannot_be_keyed_or_read_is_refused() {
     run(&["key", "--units", "EMS r"])
         .status(2)
-        .says("refused: 12, a character is outside the alphabet: `r`, character 5; it has the space, 0 to 9 and A to Z\n");
+        .says("refused: 12, a character is outside the alphabet: `r`, character 5; it has 0 to 9, A to Z, the space, `,`, `.`, `/` and `?`\n");
+    run(&["key", "--units", "EMS; OK"])
+        .status(2)
+        .says(": `;`, character 4; it has");
     run(&["key", "--units", "É"])
         .status(2)
         .says(": `É`, character 1; it has");

@@ -14,7 +14,7 @@ use Rattle.supervisor.specs.History.{after}
 use Rattle.supervisor.specs.declared.state.Mode.the-variants.{Recovery}
 use Rattle.supervisor.specs.declared.state.State.{State}
 use Rattle.supervisor.proofs.Rules.{rules}
-use Rattle.morse.specs.Signs.{signs, signOf}
+use Rattle.morse.specs.Signs.{alphabet, signOf}
 use Rattle.morse.specs.Units.{unitsOf}
 use Rattle.beacon.specs.Text.{basicText, completeText}
 use Rattle.beacon.specs.Writing.{beaconOf, writtenReply}
@@ -25,7 +25,7 @@ use Rattle.promises.proofs.Edge.Flights.{quiet, comm2Off, send}
 
 -- the fresh board's complete text into a page of 15 bytes is refused with 14
 pub not-with-15 : HeardWith 15 → ⊥
-unfolding rules signs signOf unitsOf basicText completeText beaconOf
+unfolding rules alphabet signOf unitsOf basicText completeText beaconOf
 not-with-15 says =
     let done : _≡_ {A = ℕ} 14 0 =
     ap (λ (o : Outcome Written). writtenReply (o .result) .number)
@@ -37,7 +37,7 @@ abbrev pub recovering : State
 recovering = withMode Recovery freshState
 
 pub not-on-by-basic : Tells Basic (λ s. masksOf (s .modules) .on) → ⊥
-unfolding rules signs signOf unitsOf basicText
+unfolding rules alphabet signOf unitsOf basicText
 not-on-by-basic says =
     let same : _≡_ {A = ℕ} 0 0x27 =
     says recovering (after recovering (send quiet ∷ [])) (record { valid = tt; eight = refl }) (record { valid = tt; eight = refl }) refl in
@@ -45,7 +45,7 @@ not-on-by-basic says =
 
 -- the fresh board, and the same after an "off" for COMM2: both say `EMS D 0000 00 00`
 pub not-requests-by-complete : Tells Complete (λ s. masksOf (s .modules) .requested) → ⊥
-unfolding rules signs signOf unitsOf basicText completeText
+unfolding rules alphabet signOf unitsOf basicText completeText
 not-requests-by-complete says =
     let same : _≡_ {A = ℕ} 0x27 0x23 =
     says freshState (after freshState (send (comm2Off 1) ∷ [])) (record { valid = tt; eight = refl }) (record { valid = tt; eight = refl }) refl in

@@ -12,7 +12,7 @@ use Rattle.supervisor.specs.State.{isDeployWait}
 use Rattle.supervisor.specs.History.{Call, after}
 use Rattle.supervisor.specs.declared.state.State.{State}
 use Rattle.supervisor.proofs.Rules.{rules}
-use Rattle.morse.specs.Signs.{signs, signOf}
+use Rattle.morse.specs.Signs.{alphabet, signOf}
 use Rattle.morse.specs.Texts.{faultOf}
 use Rattle.morse.specs.Units.{unitsOf}
 use Rattle.morse.specs.Keying.{keyUnits, keyOf}
@@ -51,7 +51,7 @@ not-in-deploy-wait-alone says = false≢true (says (after freshState (sent toRec
 
 -- `E` keyed into a room of 3 bytes is done, answer 0, and its unit is counted
 pub not-keying-from-0 : KeyingFrom 0 → ⊥
-unfolding signs signOf faultOf unitsOf keyUnits keyOf
+unfolding alphabet signOf faultOf unitsOf keyUnits keyOf
 not-keying-from-0 says =
     let none : _≡_ {A = ℕ} 1 0 = says (69 ∷ []) (replicate 3 255) (lit≤ tt) .count in
     omega arith
@@ -68,7 +68,7 @@ letter : List ℕ
 letter = 69 ∷ []
 
 letter-keys : Keys letter (1 ∷ [])
-unfolding letter signs signOf faultOf unitsOf
+unfolding letter alphabet signOf faultOf unitsOf
 letter-keys = record { passes = refl; same = refl }
 
 letter-read : (room : List ℕ) → Read (1 ∷ []) room (readText letter room)

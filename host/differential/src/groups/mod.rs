@@ -34,7 +34,7 @@ pub type Verdict = Result<u64, String>;
 pub type Group = (&'static str, fn(&[Calls; 2], &mut Rng) -> Verdict);
 
 /// All groups.
-pub const GROUPS: [Group; 25] = [
+pub const GROUPS: [Group; 26] = [
     ("fresh start, every length", images::fresh_starts),
     ("flights by the table", |sides, rng| {
         flights::of(sides, rng, Maker::Structured, 4_000_000)
@@ -65,6 +65,7 @@ pub const GROUPS: [Group; 25] = [
     ("every number of a mode, an end and a module", images::codes),
     ("damaged images", images::damaged_images),
     ("every text of up to 2 bytes", texts::short_texts),
+    ("every byte in every place of a text", texts::every_place),
     ("every sign of up to 7 marks", texts::every_sign),
     ("texts of up to 70 bytes", texts::any_texts),
     ("units damaged in one place", texts::damaged_units),

@@ -31,6 +31,24 @@ pub fn short_texts(sides: &[Calls; 2], _: &mut Rng) -> Verdict {
     Ok(made)
 }
 
+/// Every byte in every place of texts of some lengths: what isn't of the alphabet is
+/// refused wherever it stands, and what is comes back.
+pub fn every_place(sides: &[Calls; 2], rng: &mut Rng) -> Verdict {
+    let mut made = 0;
+    for length in [1, 2, 3, 16, 33, 63, 64] {
+        let mut text = texts::word(rng, length);
+        for place in 0..length {
+            let own = text[place];
+            for byte in 0..=u8::MAX {
+                text[place] = byte;
+                made += there_and_back(sides, &text, compare::WIDEST, length)?;
+            }
+            text[place] = own;
+        }
+    }
+    Ok(made)
+}
+
 /// All signs of one to seven marks, those that no byte has among them: each by
 /// itself, and any two, in one word and in two.
 pub fn every_sign(sides: &[Calls; 2], _: &mut Rng) -> Verdict {

@@ -1,6 +1,8 @@
-//! Passes that go wrong in ways that look right; [`seconds`] has seconds that do.
+//! Passes that go wrong in ways that look right; [`seconds`] has seconds that do, and
+//! [`signs`] keyers and readers.
 
 pub mod seconds;
+pub mod signs;
 
 use differential::sides::Pass;
 use model::{calls, frame, image, report};

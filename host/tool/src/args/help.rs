@@ -72,9 +72,11 @@ Examples:
   ems key \"$(ems beacon examples/dawn.pass)\" -o beacon.wav";
 
 pub const KEY: &str = "\
+A text has up to 64 characters: A to Z, 0 to 9, . , ? / and single spaces between words.
+
 Examples:
   ems key \"EMS R 7000\" -o beacon.wav --wpm 18 --tone 700
-  ems key --units \"EMS R 7000\"";
+  ems key --units \"CQ DE EMS/S, HW CPY? 73.\"";
 
 pub const READ: &str = "\
 Blanks and line ends between units are skipped.
