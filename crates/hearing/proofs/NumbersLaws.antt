@@ -43,7 +43,7 @@ past-never (suc turns) first part h =
     simp (ne-eqb part fourMarks (omega arith)) (past-never turns (first + 1) (2 * part) (omega arith))
 
 -- no entry of the code's table of punctuation
-abbrev noEntry : Entry
+abbrev pub noEntry : Entry
 noEntry = record { 0 = 0; 1 = 0 }
 
 -- the byte of a number in that table

@@ -3,12 +3,12 @@ use mathlib.Core.Path.{_≡_, sym, _∙_}
 use mathlib.Core.List.{[]}
 use Prim.Native.Nat.{_-_, _≤_}
 use native.Mathlib.Omega.{arith}
-use lib.ListN.{length, drop, drop-of-length-le}
+use lib.ListN.{length, getD, drop, drop-of-length-le}
 use borrow.Author.Tests.{eq-eqb, ne-eqb}
 use borrow.Author.Needs.{needs}
 use Rattle.morse.specs.Signs.{punctuation}
 use Rattle.hearing.specs.Numbers.{byteAmong}
-use Rattle.hearing.proofs.NumbersLaws.{byteIn, byte-in, byte-on, byte-here}
+use Rattle.hearing.proofs.NumbersLaws.{noEntry, byteIn, byte-in, byte-on, byte-here}
 use Rattle.hearing.proofs.numbers.other.Statement.{statement}
 use Rattle.hearing.proofs.numbers.other.Tie as tie
 
@@ -36,7 +36,8 @@ returns c =
     let l = c .before .before .before .before .loop in
     let a = c .before .before .before .before .before .before .args in
     let t = c .before .before .before .before .before .entries .result in
-    sym (byte-here (a .number) t (l .i) (omega arith) (eq-eqb _ _ (c .if1 .taken))) ∙ l .inv .2
+    let same : getD t (l .i) noEntry .0 ≡ a .number = omega (arith, c .if1 .taken) in
+    sym (byte-here (a .number) t (l .i) (omega arith) (eq-eqb _ _ same)) ∙ l .inv .2
 
 add-i : tie.Need-add-i Inv-loop μ-loop
 add-i c = search needs
