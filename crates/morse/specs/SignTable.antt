@@ -1,18 +1,16 @@
--- The code's form of a sign, dashes as bits; the rule that its tables of letters and of punctuation meet: which signs they
--- are, and how long; and the rule by which it works out the figures.
+-- The code's form of a sign, dashes as bits; the rule that its tables meet, each for a run of bytes: which signs they are,
+-- and how long; and the rule by which it works out the figures.
 -- Assumes nothing.
 use Prim.Native.Nat.{ℕ, zero, suc, _+_, _-_, _*_, _/_, _%_}
 use mathlib.Core.Bool.{Bool, true, false, _&&_}
-use mathlib.Core.Path.{_≡_}
-use mathlib.Core.List.{List, [], _∷_, _++_, map}
+use mathlib.Core.List.{List, [], _∷_, _++_}
 use lib.Count.{onesIn}
 use lib.Dec.{T, eqb}
 use lib.ListN.{length, getD, replicate}
 use Rattle.basics.specs.Choice.{if_then_else_, within}
 use Rattle.basics.specs.Tables.{allBelow}
-use Rattle.morse.specs.declared.signs.Entry.{Entry}
 use Rattle.morse.specs.declared.signs.Sign.{Sign}
-use Rattle.morse.specs.Signs.{Mark, dot, dash, firstFigure, firstLetter, Row, row, punctuation, signOf}
+use Rattle.morse.specs.Signs.{Mark, dot, dash, firstFigure, signOf}
 use Rattle.morse.specs.Units.{span, insideSign, signUnits}
 
 -- a mark from its bit: 0 for a dot, 1 for a dash
@@ -37,10 +35,6 @@ dashes s = onesIn (s .len) (s .marks)
 abbrev pub lasts : Sign → ℕ
 lasts s = (s .len - dashes s) * span dot + dashes s * span dash + (s .len - 1) * insideSign
 
--- how many letters there are
-abbrev pub letterCount : ℕ
-letterCount = 26
-
 -- whether two signs have the same marks
 abbrev pub sameMarks : List Mark → List Mark → Bool
 sameMarks [] [] = true
@@ -55,26 +49,30 @@ sameMarks (dash ∷ s) (dot ∷ t) = false
 abbrev pub noSign : Sign
 noSign = record { marks = 0; len = 0 }
 
--- the rule of timing: a sign has as many units as its timing says
-abbrev pub isTimed : Sign → Bool
-isTimed s = eqb (length (signUnits 0 (marksOf s))) (lasts s)
+-- the rule of a table at entry k: it is the sign of the byte k past the table's first, whose units are as many as its timing
+-- says; a byte that has no sign has an entry of no marks
+abbrev pub isSign : (first : ℕ) → List Sign → ℕ → Bool
+isSign first table k =
+    sameMarks (marksOf (getD table k noSign)) (signOf (first + k))
+    && eqb (length (signUnits 0 (signOf (first + k)))) (lasts (getD table k noSign))
 
--- the rule of the letters' table at entry k: it is the sign of that letter, as long as its timing says
-abbrev pub isSign : List Sign → ℕ → Bool
-isSign table k = sameMarks (marksOf (getD table k noSign)) (signOf (firstLetter + k)) && isTimed (getD table k noSign)
+-- a table has the signs of the bytes from a first to a last one
+abbrev pub HasSigns : (first last : ℕ) → List Sign → Type 0
+HasSigns first last table = T (allBelow (isSign first table) (last + 1 - first))
 
--- an entry of the punctuation's table as a row of the alphabet
-abbrev pub rowOf : Entry → Row
-rowOf e = row (e .0) (marksOf (e .1))
+-- the first table goes from `?` to `Z`
+abbrev pub firstSign : ℕ
+firstSign = 63
 
--- no entry
-abbrev pub noEntry : Entry
-noEntry = record { 0 = 0; 1 = noSign }
+abbrev pub lastSign : ℕ
+lastSign = 90
 
--- the rule of that table: its entries are the rows of the punctuation, each as long as its timing says
-abbrev pub IsPunctuation : List Entry → Type 0
-IsPunctuation table =
-    (map rowOf table ≡ punctuation) × T (allBelow (λ k. isTimed (getD table k noEntry .1)) (length punctuation))
+-- the second from `,` to `/`
+abbrev pub firstStop : ℕ
+firstStop = 44
+
+abbrev pub lastStop : ℕ
+lastStop = 47
 
 -- how many figures there are
 abbrev pub figureCount : ℕ

@@ -68,10 +68,6 @@ firstLetter = 65
 abbrev pub isFigure : ℕ → Bool
 isFigure c = within firstFigure 57 c
 
--- a letter, A to Z
-abbrev pub isLetter : ℕ → Bool
-isLetter c = within firstLetter 90 c
-
 -- a row of the alphabet: a byte, and the sign that it stands for
 pub record Row : Type 0 where
   pub byte : ℕ

@@ -1,11 +1,11 @@
 // The signs of ITU-R M.1677-1, in the form that keying walks through.
-// What they are is `specs/Signs.antt`: each of the two tables meets it by one computed test, and a figure is worked out.
+// What they are is `specs/Signs.antt`: two tables, each for a run of bytes, meet it by one rule, a computed test, and a figure
+// is worked out.
 ghost use mathlib.Core.Path.{_≡_};
 ghost use Prim.Native.Nat.{_<_};
-ghost use lib.Dec.{T};
-ghost use Rattle.basics.specs.Tables.{allBelow};
-ghost use Rattle.morse.specs.Signs.{punctuation, signAmong, signOf};
-ghost use Rattle.morse.specs.SignTable.{marksOf, letterCount, isSign, IsPunctuation, figureCount, figureMarks};
+ghost use Rattle.morse.specs.Signs.{signOf};
+ghost use Rattle.morse.specs.SignTable.{marksOf, HasSigns, firstSign, lastSign, firstStop, lastStop};
+ghost use Rattle.morse.specs.SignTable.{figureCount, figureMarks};
 
 // A sign: its dashes as bits, the first mark lowest, and how many marks it has.
 pub(crate) struct Sign {
@@ -13,17 +13,14 @@ pub(crate) struct Sign {
     pub(crate) len: u8,
 }
 
-// A byte that is no letter and no figure, and its sign.
-pub(crate) struct Entry(pub(crate) u8, pub(crate) Sign);
-
 // A sign of no marks.
 const NO_SIGN: Sign = Sign { marks: 0, len: 0 };
 
-// How many letters there are.
-const LETTERS: usize = 26;
+// How many bytes there are from `?` to `Z`.
+const LETTER_RUN: usize = 28;
 
-// How many other bytes have a sign, the figures left out.
-const OTHERS: usize = 4;
+// How many there are from `,` to `/`.
+const STOP_RUN: usize = 4;
 
 // How many figures there are.
 const FIGURES: u8 = 10;
@@ -34,8 +31,10 @@ const FIVE: u8 = 5;
 // All five of them dashes.
 const DASHES: u8 = 31;
 
-// A to Z.
-const SIGNS: [Sign; LETTERS] = [
+// From `?` to `Z`: the letters, and the question mark before them.
+const SIGNS: [Sign; LETTER_RUN] = [
+    Sign { marks: 12, len: 6 }, // ?
+    NO_SIGN, // @
     Sign { marks: 2, len: 2 }, // A
     Sign { marks: 1, len: 4 }, // B
     Sign { marks: 5, len: 4 }, // C
@@ -64,24 +63,24 @@ const SIGNS: [Sign; LETTERS] = [
     Sign { marks: 3, len: 4 }, // Z
 ];
 
-// Punctuation.
-const PUNCTUATION: [Entry; OTHERS] = [
-    Entry(b'.', Sign { marks: 42, len: 6 }),
-    Entry(b',', Sign { marks: 51, len: 6 }),
-    Entry(b'?', Sign { marks: 12, len: 6 }),
-    Entry(b'/', Sign { marks: 9, len: 5 }),
+// From `,` to `/`: the other punctuation.
+const PUNCTUATION: [Sign; STOP_RUN] = [
+    Sign { marks: 51, len: 6 }, // ,
+    NO_SIGN, // -
+    Sign { marks: 42, len: 6 }, // .
+    Sign { marks: 9, len: 5 }, // /
 ];
 
-// The table: each entry is the sign of its letter, and as long as its timing says.
-fn table() -> [Sign; LETTERS]
-    ensures { λ r. ⌜ T (allBelow (isSign r) letterCount) ⌝ }
+// The first table: each entry is the sign of its byte, and as long as its timing says.
+fn letters() -> [Sign; LETTER_RUN]
+    ensures { λ r. ⌜ HasSigns firstSign lastSign r ⌝ }
 {
     SIGNS
 }
 
-// Punctuation: each entry is its row of the alphabet, and its sign as long as its timing says.
-fn entries() -> [Entry; OTHERS]
-    ensures { λ r. ⌜ IsPunctuation r ⌝ }
+// The second: likewise.
+fn stops() -> [Sign; STOP_RUN]
+    ensures { λ r. ⌜ HasSigns firstStop lastStop r ⌝ }
 {
     PUNCTUATION
 }
@@ -100,32 +99,20 @@ fn figure(digit: u8) -> Sign
     Sign { marks, len: FIVE }
 }
 
-// The sign of a byte that is no letter and no figure; one of no marks where it has none.
-fn other(c: u8) -> Sign
-    ensures { λ r. ⌜ marksOf r ≡ signAmong c punctuation ⌝ }
-{
-    let table = entries();
-    let mut i = 0;
-    while i < OTHERS {
-        let entry = table[i];
-        if c == entry.0 {
-            return entry.1;
-        }
-        i += 1;
-    }
-    NO_SIGN
-}
-
 // The sign of a byte; one of no marks where the byte has none.
 pub(crate) fn sign_of(c: u8) -> Sign
     ensures { λ r. ⌜ marksOf r ≡ signOf c ⌝ }
 {
-    if (b'A' <= c) & (c <= b'Z') {
-        let letters = table();
-        return letters[(c - b'A') as usize];
+    if (b'?' <= c) & (c <= b'Z') {
+        let signs = letters();
+        return signs[(c - b'?') as usize];
     }
     if (b'0' <= c) & (c <= b'9') {
         return figure(c - b'0');
     }
-    other(c)
+    if (b',' <= c) & (c <= b'/') {
+        let signs = stops();
+        return signs[(c - b',') as usize];
+    }
+    NO_SIGN
 }
