@@ -1,10 +1,14 @@
 #include "morse.h"
 
-/* A sign's marks from the highest bit below the leading 1: 0 dot, 1 dash. The letters'. */
-static const uint8_t letters[26] = {
+/* A sign's marks from the highest bit below the leading 1: 0 dot, 1 dash; 0 for a byte that has none. From '?' to 'Z'. */
+static const uint8_t letters[28] = {
+    0x4C, 0,
     0x05, 0x18, 0x1A, 0x0C, 0x02, 0x12, 0x0E, 0x10, 0x04, 0x17, 0x0D, 0x14, 0x07,
     0x06, 0x0F, 0x16, 0x1D, 0x0A, 0x08, 0x03, 0x09, 0x11, 0x0B, 0x19, 0x1B, 0x1C,
 };
+
+/* From ',' to '/'. */
+static const uint8_t stops[4] = {0x73, 0, 0x55, 0x32};
 
 /* Those of a figure: up to 4 so many dots, then dashes; from 5 on none to four dashes, then dots. */
 static uint8_t figure(uint8_t digit)
@@ -12,15 +16,12 @@ static uint8_t figure(uint8_t digit)
     return (uint8_t)(digit < 5 ? 0x20 + (0x1F >> digit) : 0x3F - (0x1F >> (digit - 5)));
 }
 
-/* Punctuation: what its marks stand for, and they. */
-static const struct { uint8_t byte, marks; } punctuation[4] = {{'.', 0x55}, {',', 0x73}, {'?', 0x4C}, {'/', 0x32}};
-
 /* A sign's marks, by what they stand for; 0 for a byte that has none. */
 static uint8_t sign(uint8_t c)
 {
-    if (c >= 'A' && c <= 'Z') return letters[c - 'A'];
+    if (c >= '?' && c <= 'Z') return letters[c - '?'];
     if (c >= '0' && c <= '9') return figure((uint8_t)(c - '0'));
-    for (int i = 0; i < 4; i++) if (punctuation[i].byte == c) return punctuation[i].marks;
+    if (c >= ',' && c <= '/') return stops[c - ','];
     return 0;
 }
 
@@ -46,8 +47,14 @@ static uint8_t heard(uint8_t marks)
 {
     if (marks < 0x20) return heard_letters[marks];
     uint8_t byte = marks < 0x40 ? heard_figure(marks) : 0;
-    for (int i = 0; i < 4 && !byte; i++) if (punctuation[i].marks == marks) byte = punctuation[i].byte;
-    return byte;
+    if (byte) return byte;
+    switch (marks) {
+    case 0x55: return '.';
+    case 0x73: return ',';
+    case 0x4C: return '?';
+    case 0x32: return '/';
+    default: return 0;
+    }
 }
 
 static size_t put(uint8_t *units, size_t at, uint8_t unit, int times)
