@@ -20,7 +20,7 @@ use Rattle.morse.specs.Texts.{isSpace}
 use Rattle.morse.specs.Units.{span}
 use Rattle.morse.proofs.SignsLaws.{same-marks-eq}
 use Rattle.hearing.specs.declared.numbers.Entry.{Entry}
-use Rattle.hearing.specs.Numbers.{grown, climb, fourMarks, fiveMarks, sixMarks, noByte, byteAmong, byteOf}
+use Rattle.hearing.specs.Numbers.{grown, fourMarks, fiveMarks, sixMarks, noByte, byteAmong, byteOf}
 use Rattle.hearing.specs.Numbers.{pastBy, figureBy, entryOf, afterMark}
 
 -- a part that is not 32 yet is doubled once more

@@ -20,7 +20,7 @@ use Rattle.morse.proofs.Everywhere.{everyRow}
 use Rattle.morse.proofs.TextsLaws.{fair, fault-spacing}
 use Rattle.hearing.specs.Reading.{readText}
 use Rattle.hearing.proofs.ReadBack.{key-done, same-keying}
-use Rattle.promises.specs.Spelling.{Has, Spelt, Over, KeyedOver, TwelveOver, ReadOver, Spelling}
+use Rattle.promises.specs.Spelling.{Has, Spelt, TextOver, KeyedOver, TwelveOver, ReadOver, Spelling}
 
 -- a byte of a row has a sign among the rows, if each row has one
 pub has-signed : (rows : List Row) → T (everyRow (λ c ms. signed ms) rows) → (c : ℕ) → Has rows c → T (signed (signAmong c rows))
@@ -68,11 +68,11 @@ all-known [] s = tt
 all-known (c ∷ t) s = and-both (known c) (allKnown t) (spelt-known c (s .0)) (all-known t (s .1))
 
 -- a text over the alphabet has no fault, and one without a fault is over it
-passes : (t : List ℕ) → Over alphabet t → faultOf t ≡ Nothing
+pub passes : (t : List ℕ) → TextOver alphabet t → faultOf t ≡ Nothing
 passes t o =
     sym (fault-spacing t (seenIn t) refl (o .short) (is-true (allKnown t) (all-known t (o .spelt))) false (o .spaced))
 
-over : (t : List ℕ) → faultOf t ≡ Nothing → Over alphabet t
+over : (t : List ℕ) → faultOf t ≡ Nothing → TextOver alphabet t
 over t e =
     let f = fair t e in
     record { short = f .short; spelt = all-spelt t (holds (allKnown t) (f .known)); spaced = f .spaced }

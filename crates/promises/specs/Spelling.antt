@@ -29,7 +29,7 @@ Spelt rows [] = Unit
 Spelt rows (c ∷ t) = ((c ≡ space) ⊎ Has rows c) × Spelt rows t
 
 -- a text over some rows: up to 64 such bytes, with single inner spaces
-pub record Over (rows : List Row) (text : List ℕ) : Type 0 where
+pub record TextOver (rows : List Row) (text : List ℕ) : Type 0 where
   pub short : length text ≤ longest
   pub spelt : Spelt rows text
   pub spaced : badlySpaced text ≡ false
@@ -37,12 +37,12 @@ pub record Over (rows : List Row) (text : List ℕ) : Type 0 where
 -- a text over some rows is keyed, with room for its units
 abbrev pub KeyedOver : List Row → Type 0
 KeyedOver rows =
-    (text room : List ℕ) → Over rows text → length (unitsOf text) ≤ length room →
+    (text room : List ℕ) → TextOver rows text → length (unitsOf text) ≤ length room →
     keyOf text room ≡ outcome (keyed.Done (length (unitsOf text))) (written (unitsOf text) room)
 
 -- what is keyed is a text over them
 abbrev pub OnlyOver : List Row → Type 0
-OnlyOver rows = (text room later : List ℕ) (n : ℕ) → keyOf text room ≡ outcome (keyed.Done n) later → Over rows text
+OnlyOver rows = (text room later : List ℕ) (n : ℕ) → keyOf text room ≡ outcome (keyed.Done n) later → TextOver rows text
 
 -- 12 for a text that is not too long, and has a byte that is no space and in no row
 abbrev pub TwelveOver : List Row → Type 0
@@ -52,18 +52,18 @@ TwelveOver rows =
 -- the units of a text over them are read back, with room for the text
 abbrev pub ReadOver : List Row → Type 0
 ReadOver rows =
-    (text room : List ℕ) (after : Outcome Heard) → Over rows text → Read (unitsOf text) room after →
+    (text room : List ℕ) (after : Outcome Heard) → TextOver rows text → Read (unitsOf text) room after →
     length text ≤ length room → after ≡ outcome (heard.Done (length text)) (written text room)
 
 -- two texts over them with the same keying are the same
 abbrev pub OneTextOver : List Row → Type 0
-OneTextOver rows = (s t : List ℕ) → Over rows s → Over rows t → unitsOf s ≡ unitsOf t → s ≡ t
+OneTextOver rows = (s t : List ℕ) → TextOver rows s → TextOver rows t → unitsOf s ≡ unitsOf t → s ≡ t
 
 -- 15 for units that are the keying of no text over them
 abbrev pub FifteenOver : List Row → Type 0
 FifteenOver rows =
     (units room : List ℕ) (after : Outcome Heard) → Read units room after →
-    ((text : List ℕ) → Over rows text → unitsOf text ≡ units → ⊥) → after ≡ outcome heard.NotAKeying room
+    ((text : List ℕ) → TextOver rows text → unitsOf text ≡ units → ⊥) → after ≡ outcome heard.NotAKeying room
 
 -- all of it, over the alphabet
 pub record Spelling : Type 0 where
