@@ -1,6 +1,7 @@
 //! The differential tests' own test: faults planted in one side are found, and
 //! come out short.
 
+mod signs;
 mod wrong;
 
 use differential::frames::{Maker, Stream};
@@ -419,7 +420,7 @@ fn a_keyer_with_a_wrong_sign_is_found() {
         "every byte in every place of a text",
         "texts of up to 70 bytes",
     ] {
-        for (name, key) in wrong::signs::KEYERS {
+        for (name, key) in signs::KEYERS {
             let told = told(group, Calls { key, ..MODEL });
             // One byte shows it.
             assert!(told.starts_with("input:   "), "{group}: {name}\n{told}");
@@ -430,11 +431,24 @@ fn a_keyer_with_a_wrong_sign_is_found() {
 
 #[test]
 fn a_reader_with_a_wrong_sign_is_found() {
-    for (name, read) in wrong::signs::READERS {
+    for group in [
+        "every sign of up to 7 marks",
+        "every byte in every place of a text",
+        "units damaged in one place",
+    ] {
+        for (name, read) in signs::READERS {
+            let told = told(group, Calls { read, ..MODEL });
+            assert!(told.starts_with("input:   01 "), "{group}: {name}\n{told}");
+        }
+    }
+}
+
+#[test]
+fn a_reader_of_a_sign_that_no_byte_has_is_found() {
+    for (name, read) in signs::GUESSERS {
         let told = told("every sign of up to 7 marks", Calls { read, ..MODEL });
-        // Two signs at most show it.
+        // The sign alone shows it.
         let input = told.lines().next().unwrap_or_default();
-        assert!(input.starts_with("input:   01 "), "{name}\n{told}");
-        assert!(input.matches(" 00 00 00 ").count() <= 1, "{name}\n{told}");
+        assert!(!input.contains(" 00 00 "), "{name}\n{told}");
     }
 }

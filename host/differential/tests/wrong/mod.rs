@@ -1,8 +1,6 @@
-//! Passes that go wrong in ways that look right; [`seconds`] has seconds that do, and
-//! [`signs`] keyers and readers.
+//! Passes that go wrong in ways that look right; [`seconds`] has seconds that do.
 
 pub mod seconds;
-pub mod signs;
 
 use differential::sides::Pass;
 use model::{calls, frame, image, report};

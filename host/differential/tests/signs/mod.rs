@@ -5,9 +5,10 @@ use model::calls;
 
 /// What each does, and the call.
 pub const KEYERS: [(&str, Counted); 6] = [
-    ("keys a full stop as a comma, and a comma as a full stop", |text, units| {
-        calls::key(&turned(text, b'.', b','), units)
-    }),
+    (
+        "keys a full stop as a comma, and a comma as a full stop",
+        |text, units| calls::key(&turned(text, b'.', b','), units),
+    ),
     ("keys no punctuation", |text, units| {
         calls::key(&with(text, b".,?/", b'~'), units)
     }),
@@ -25,18 +26,33 @@ pub const KEYERS: [(&str, Counted); 6] = [
     }),
 ];
 
-/// What each does, and the call.
-pub const READERS: [(&str, Counted); 6] = [
-    ("reads a full stop as a comma, and a comma as a full stop", |units, text| {
-        let (answer, count) = calls::read(units, text);
-        let read = turned(&text[..count], b'.', b',');
-        text[..count].copy_from_slice(&read);
-        (answer, count)
+/// What each does with signs of the alphabet, and the call.
+pub const READERS: [(&str, Counted); 3] = [
+    (
+        "reads a full stop as a comma, and a comma as a full stop",
+        |units, text| {
+            let (answer, count) = calls::read(units, text);
+            let read = turned(&text[..count], b'.', b',');
+            text[..count].copy_from_slice(&read);
+            (answer, count)
+        },
+    ),
+    ("reads no six marks", |units, text| {
+        reads_none_of(units, text, b".,?")
     }),
-    ("reads no six marks", |units, text| reads_none_of(units, text, b".,?")),
-    ("reads no slash", |units, text| reads_none_of(units, text, b"/")),
-    ("reads `;` too", |units, text| reads_too(units, text, "-.-.-.", b';')),
-    ("reads six dots as five", |units, text| reads_too(units, text, "......", b'5')),
+    ("reads no slash", |units, text| {
+        reads_none_of(units, text, b"/")
+    }),
+];
+
+/// What each does with a sign that no byte has, and the call.
+pub const GUESSERS: [(&str, Counted); 3] = [
+    ("reads `;` too", |units, text| {
+        reads_too(units, text, "-.-.-.", b';')
+    }),
+    ("reads six dots as five", |units, text| {
+        reads_too(units, text, "......", b'5')
+    }),
     ("reads seven marks by the last six", |units, text| {
         reads_too(units, text, "-.-.-.-", b'.')
     }),
