@@ -81,7 +81,7 @@ abbrev pub rowsFrom : (first : ℕ) → List (List Mark) → List Row
 rowsFrom first [] = []
 rowsFrom first (s ∷ ss) = row first s ∷ rowsFrom (suc first) ss
 
--- the full stop, the comma, the question mark and the slash, which M.1677-1 calls fraction bar
+-- the full stop, the comma, the question mark and the slash
 abbrev pub punctuation : List Row
 punctuation =
     row 46 (dot ∷ dash ∷ dot ∷ dash ∷ dot ∷ dash ∷ []) ∷  -- .

@@ -1,5 +1,5 @@
--- Which texts may be keyed, over the alphabet as a list of rows: those are keyed, each keying reads back to its text and to
--- no other, and all else is answered 12 or 15.
+-- Which texts may be keyed, over the alphabet as a list of rows: those are keyed and no others, each keying reads back to
+-- its text and to no other; and what is sure to be answered 12 and 15.
 -- Assumes nothing.
 use Prim.Native.Nat.{ℕ, _≤_}
 use mathlib.Core.Path.{_≡_}

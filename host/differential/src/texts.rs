@@ -4,7 +4,8 @@ use crate::rng::Rng;
 
 const SIGNS: &[u8] = b"ABCDEFGHIJKLMNOPQRSTUVWXYZ0123456789.,?/";
 
-/// Bytes that are not of the alphabet, but beside one that is.
+/// Bytes that are not of the alphabet: those beside one that is, two in lower case,
+/// and `;`.
 const BESIDE: &[u8] = b"+-:>@[az;";
 
 /// A text of one word, of so many bytes.
