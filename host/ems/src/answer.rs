@@ -12,8 +12,8 @@ pub const NO_INPUT: u8 = 3;
 pub const UNKNOWN_KIND: u8 = 4;
 /// The input's length is not the kind's total.
 pub const BAD_LENGTH: u8 = 5;
-/// A field outside its range, descend above ascend, or a timed order for one of the
-/// core four.
+/// A field outside its range, descend above ascend, a timed order for one of the core
+/// four, or a greeting whose text can't be keyed.
 pub const BAD_FIELD: u8 = 6;
 /// The payload asks for what only the ground may.
 pub const NOT_PERMITTED: u8 = 7;
@@ -34,6 +34,8 @@ pub const BAD_SPACE: u8 = 13;
 pub const NO_ROOM: u8 = 14;
 /// The units are not exactly the keying of a text.
 pub const NOT_A_KEYING: u8 = 15;
+/// No message is kept for the extended beacon.
+pub const NO_MESSAGE: u8 = 21;
 
 /// Whether a step that gave this answer has left a report in the room.
 pub fn has_report(answer: u8) -> bool {

@@ -44,6 +44,13 @@ mod c {
             text_len: usize,
             count: *mut usize,
         ) -> u8;
+        pub fn ems_beacon_extended(
+            image: *const u8,
+            image_len: usize,
+            text: *mut u8,
+            text_len: usize,
+            count: *mut usize,
+        ) -> u8;
         pub fn ems_key(
             text: *const u8,
             text_len: usize,
@@ -61,7 +68,7 @@ mod c {
     }
 }
 
-/// Four of the calls turn bytes into bytes, and say how many.
+/// Five of the calls turn bytes into bytes, and say how many.
 type Call = unsafe extern "C" fn(*const u8, usize, *mut u8, usize, *mut usize) -> u8;
 
 /// Makes such a call; gives its answer and its count.
@@ -135,6 +142,12 @@ pub fn beacon_basic(image: &[u8], text: &mut [u8]) -> (u8, usize) {
 /// Writes the complete beacon's text of the state; answer and length.
 pub fn beacon_complete(image: &[u8], text: &mut [u8]) -> (u8, usize) {
     counted(c::ems_beacon_complete, image, text)
+}
+
+/// Writes the extended beacon's text of the state, if a message is kept; answer and
+/// length.
+pub fn beacon_extended(image: &[u8], text: &mut [u8]) -> (u8, usize) {
+    counted(c::ems_beacon_extended, image, text)
 }
 
 /// Keys a text, one byte a unit; answer and number of units.

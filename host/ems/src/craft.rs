@@ -76,4 +76,9 @@ impl Craft {
     pub fn beacon_complete(&self, text: &mut [u8]) -> (u8, usize) {
         calls::beacon_complete(&self.image, text)
     }
+
+    /// Writes the extended beacon's text, if a message is kept; answer and length.
+    pub fn beacon_extended(&self, text: &mut [u8]) -> (u8, usize) {
+        calls::beacon_extended(&self.image, text)
+    }
 }

@@ -42,13 +42,17 @@ pub use passed::Passed;
 pub use report::{Beacon, Report, REPORT_KIND};
 
 /// The bytes of an image; `EMS_IMAGE_BYTES` of the header.
-pub const IMAGE_BYTES: usize = 50;
+pub const IMAGE_BYTES: usize = 68;
 /// The bytes of a report; `EMS_REPORT_BYTES` of the header.
 pub const REPORT_BYTES: usize = 11;
 /// The bytes of a basic beacon's text.
 pub const BEACON_BASIC_BYTES: usize = 10;
 /// The bytes of a complete beacon's text.
 pub const BEACON_COMPLETE_BYTES: usize = 16;
+/// The most bytes of an extended beacon's text.
+pub const BEACON_EXTENDED_BYTES: usize = 33;
+/// The bytes of a message's text, its filler included.
+pub const MESSAGE_BYTES: usize = 16;
 /// The longest text that is keyed.
 pub const TEXT_BYTES: usize = 64;
 /// Room enough for the units of any text that is keyed.

@@ -77,11 +77,13 @@ pub enum Beacon {
     Basic = 1,
     /// 2: its text is [`Craft::beacon_complete`](crate::Craft::beacon_complete)'s.
     Complete = 2,
+    /// 3: its text is [`Craft::beacon_extended`](crate::Craft::beacon_extended)'s.
+    Extended = 3,
 }
 
 impl Beacon {
-    /// Both beacons.
-    pub const ALL: [Beacon; 2] = [Beacon::Basic, Beacon::Complete];
+    /// All beacons, by number.
+    pub const ALL: [Beacon; 3] = [Beacon::Basic, Beacon::Complete, Beacon::Extended];
 
     /// The beacon with a number, if there is one.
     pub fn of(number: u8) -> Option<Beacon> {
@@ -99,6 +101,7 @@ impl Beacon {
         match self {
             Beacon::Basic => "basic",
             Beacon::Complete => "complete",
+            Beacon::Extended => "extended",
         }
     }
 }
