@@ -56,10 +56,14 @@ extern "C" {
  *   12     2    descend, 5,000 to ascend
  *   14     2    the ground's last serial
  *   16     2    the payload's last serial
- *   18     4    ADCS's end: the seconds until its request goes off, 0 to 86,400;
+ *   18     1    the message's repeats: with how many more beacons it is sent, 0 to
+ *               255
+ *   19     1    the message's length, 0 to EMS_MESSAGE_BYTES; 0 where none is kept
+ *   20    16    the message: so many bytes of a text that ems_key takes, then zeros
+ *   36     4    ADCS's end: the seconds until its request goes off, 0 to 86,400;
  *               0 where none runs; then 4 bytes for each of the other ends:
- *               PAYLOAD's at 22, SBAND1's at 26, SBAND2's at 30
- *   34     2    module 0, then 2 bytes for each of the modules 1 to 7; when it
+ *               PAYLOAD's at 40, SBAND1's at 44, SBAND2's at 48
+ *   52     2    module 0, then 2 bytes for each of the modules 1 to 7; when it
  *               is requested, 32,768 more (the top bit of its second byte):
  *                 0 to 239          on, 1 to 4 tries left and 0 to 59 seconds of
  *                                   the 60 that bring all tries back: the seconds,
@@ -70,16 +74,21 @@ extern "C" {
  *
  * Each state in range has one image. Bytes that are none are refused with
  * EMS_BAD_STATE. */
-#define EMS_IMAGE_BYTES 50
-#define EMS_IMAGE_VERSION 4
+#define EMS_IMAGE_BYTES 68
+#define EMS_IMAGE_VERSION 5
 
 /* The bytes of a report: 81, kind answered, origin, serial (2), answer, mode,
  * requested mask, on mask, failed mask, beacon. */
 #define EMS_REPORT_BYTES 11
 
-/* The bytes of the two beacon texts. */
+/* The bytes of a message's text, the zeros past its length included. */
+#define EMS_MESSAGE_BYTES 16
+
+/* The bytes of the basic and the complete beacon's text, and the most that an
+ * extended one has: the complete text, a space, a message. */
 #define EMS_BEACON_BASIC_BYTES 10
 #define EMS_BEACON_COMPLETE_BYTES 16
+#define EMS_BEACON_EXTENDED_BYTES 33
 
 /* The longest text that is keyed, and room enough for the units of any text
  * that is: no character takes more than 22, the 19 of a `0` or a `,` and the gap
@@ -87,17 +96,20 @@ extern "C" {
 #define EMS_TEXT_BYTES 64
 #define EMS_UNITS_BYTES 1405
 
-/* What a call answers. The checks run in the order of the numbers 1 to 15 that
- * the call gives; the first that applies is given. */
+/* What a call answers. The checks run in the order that the call's comment gives,
+ * which is that of their numbers but for 15 and 21, both before 14; the first that
+ * applies is given. */
 enum ems_answer {
     EMS_DONE = 0,           /* done by the rules; there is a report */
     EMS_BAD_STATE = 1,      /* the image is not that of a state in range */
     EMS_SHORT_ROOM = 2,     /* fewer than EMS_REPORT_BYTES of reply room */
     EMS_NO_INPUT = 3,       /* no input bytes */
-    EMS_UNKNOWN_KIND = 4,   /* kind not 01 to 06 */
+    EMS_UNKNOWN_KIND = 4,   /* kind not 01 to 07 */
     EMS_BAD_LENGTH = 5,     /* input length not the kind's total */
-    EMS_BAD_FIELD = 6,      /* a field outside its range, descend above ascend, or
-                               a timed order for one of the core four */
+    EMS_BAD_FIELD = 6,      /* a field outside its range, descend above ascend, a
+                               timed order for one of the core four, or a
+                               greeting whose text ems_key refuses or whose bytes
+                               past its length are not all 0 */
     EMS_NOT_PERMITTED = 7,  /* the payload asks for what only the ground may */
     EMS_REPEAT = 8,         /* serial a repeat; there is a report */
     EMS_STALE = 9,          /* serial stale; there is a report */
@@ -109,13 +121,17 @@ enum ems_answer {
                                9 and . , ? / */
     EMS_BAD_SPACE = 13,     /* a space first, last or doubled */
     EMS_NO_ROOM = 14,       /* the room is shorter than the result */
-    EMS_NOT_A_KEYING = 15   /* the units are not exactly the keying of a text */
+    EMS_NOT_A_KEYING = 15,  /* the units are not exactly the keying of a text */
+    EMS_NO_MESSAGE = 21     /* no message is kept for the extended beacon */
 };
 
 /* The kinds of frames, the modes, and the beacon that a tick makes due, as they
  * stand in frames and reports. A timed order is 7 bytes: kind, origin, serial (2),
  * module of the mission four, minutes (2), 1 to 1,440; it is an "on" order that
- * takes itself back when its minutes are over. */
+ * takes itself back when its minutes are over. A greeting is 22 bytes: kind, origin,
+ * serial (2), repeats 0 to 255, length 0 to EMS_MESSAGE_BYTES, the text with zeros
+ * past its length; it is taken in every mode, and its message goes out with the next
+ * so many beacons in SAFE. With repeats 0 or length 0 it clears the message. */
 enum ems_kind {
     EMS_KIND_TICK = 0x01,
     EMS_KIND_BATTERY = 0x02,
@@ -123,10 +139,16 @@ enum ems_kind {
     EMS_KIND_ORDER = 0x04,
     EMS_KIND_THRESHOLDS = 0x05,
     EMS_KIND_TIMED = 0x06,
+    EMS_KIND_GREETING = 0x07,
     EMS_KIND_REPORT = 0x81
 };
 enum ems_mode { EMS_DEPLOY_WAIT = 0, EMS_RECOVERY = 1, EMS_SAFE = 2 };
-enum ems_due { EMS_DUE_NONE = 0, EMS_DUE_BASIC = 1, EMS_DUE_COMPLETE = 2 };
+enum ems_due {
+    EMS_DUE_NONE = 0,
+    EMS_DUE_BASIC = 1,
+    EMS_DUE_COMPLETE = 2,
+    EMS_DUE_EXTENDED = 3
+};
 
 /* Writes the image of the fresh start. EMS_DONE; or EMS_BAD_STATE with nothing
  * written, unless `image_len` is EMS_IMAGE_BYTES. */
@@ -163,6 +185,13 @@ uint8_t ems_pass(uint8_t *image, size_t image_len,
 uint8_t ems_beacon_basic(const uint8_t *image, size_t image_len,
                          uint8_t *text, size_t text_len, size_t *count);
 uint8_t ems_beacon_complete(const uint8_t *image, size_t image_len,
+                            uint8_t *text, size_t text_len, size_t *count);
+
+/* The same for the extended beacon, which is had as long as a message is kept, in
+ * every mode and also when its repeats are used up. Answers: EMS_BAD_STATE, then
+ * EMS_NO_MESSAGE, then EMS_NO_ROOM, all with `*count` 0 and the text untouched; else
+ * EMS_DONE. Bytes past the text stay. */
+uint8_t ems_beacon_extended(const uint8_t *image, size_t image_len,
                             uint8_t *text, size_t text_len, size_t *count);
 
 /* Keys a text: one byte a unit, 1 key down, 0 key up, their number to `*count`.
