@@ -5,7 +5,7 @@ use mathlib.Core.Path.{_≡_}
 use mathlib.Core.List.{List, _++_, append-nil}
 use native.Mathlib.Nat.{le-refl}
 use lib.ListN.{length, take, drop, length-drop, drop-of-length-le}
-use lib.Seq.{take-all}
+use lib.Seq.{take-all, take-length}
 
 -- what is lent
 abbrev pub partFrom : (room : List ℕ) (from : ℕ) → List ℕ
@@ -24,3 +24,7 @@ module _ (room : List ℕ) (from : ℕ) where
 
   pub lent-back : (later : List ℕ) → lentBack room from later ≡ take from room ++ later
   lent-back later = rw (drop-of-length-le (drop from room) {i = length room - from} left, append-nil)
+
+-- what is copied over a whole room is all that stands there
+pub copied-over : (src room : List ℕ) → length room ≤ length src → take (length src) src ++ drop (length src) room ≡ src
+copied-over src room h = rw (take-length src, drop-of-length-le room {i = length src} h, append-nil)

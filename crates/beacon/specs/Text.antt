@@ -1,14 +1,17 @@
 -- The beacon's text, of a state.
 -- Assumes nothing.
 use Prim.Native.Nat.{ℕ, _+_, _/_, _%_}
+use mathlib.Core.Bool.{Bool, true}
 use mathlib.Core.List.{List, [], _∷_, _++_}
+use lib.Dec.{ltb}
+use lib.ListN.{take}
 use Rattle.basics.specs.Bytes.{twoHex, space}
 use Rattle.modules.specs.Masks.{masksOf}
 use Rattle.supervisor.specs.declared.state.Mode.{Mode}
 use Rattle.supervisor.specs.declared.state.Mode.the-variants.{DeployWait, Recovery, Safe}
 use Rattle.supervisor.specs.declared.state.State.{State}
 use Rattle.beacon.specs.declared.text.Form.{Form}
-use Rattle.beacon.specs.declared.text.Form.the-variants.{Basic, Complete}
+use Rattle.beacon.specs.declared.text.Form.the-variants.{Basic, Complete, Extended}
 
 -- `EMS `
 abbrev pub callSign : List ℕ
@@ -40,10 +43,21 @@ maskText mask = space ∷ twoHex mask
 unfoldable pub completeText : State → List ℕ
 completeText s = basicText s ++ (maskText (masksOf (s .modules) .on) ++ maskText (masksOf (s .modules) .failed))
 
--- the text of either form
+-- extended: the complete text, a space and the message
+unfoldable pub extendedText : State → List ℕ
+extendedText s = completeText s ++ (space ∷ take (s .message .length) (s .message .text))
+
+-- the text of each form
 abbrev pub textOf : Form → State → List ℕ
 textOf Basic s = basicText s
 textOf Complete s = completeText s
+textOf Extended s = extendedText s
+
+-- whether there is one, by the message's length: an extended one where a message is kept
+abbrev pub hasText : Form → (length : ℕ) → Bool
+hasText Basic length = true
+hasText Complete length = true
+hasText Extended length = ltb 0 length
 
 -- the bytes of the basic text
 abbrev pub basicBytes : ℕ
@@ -53,7 +67,16 @@ basicBytes = 10
 abbrev pub completeBytes : ℕ
 completeBytes = 16
 
--- either text: 10 or 16 bytes
-abbrev pub formBytes : Form → ℕ
-formBytes Basic = basicBytes
-formBytes Complete = completeBytes
+-- the most bytes of the extended text
+abbrev pub mostBytes : ℕ
+mostBytes = 33
+
+-- each text's bytes, by the message's length: 10, 16, or 17 and the message
+abbrev pub formBytes : Form → (length : ℕ) → ℕ
+formBytes Basic length = basicBytes
+formBytes Complete length = completeBytes
+formBytes Extended length = completeBytes + 1 + length
+
+-- what the code makes: the complete text, a space and all bytes of the message, of which each text is the front
+abbrev pub fullText : State → List ℕ
+fullText s = completeText s ++ (space ∷ s .message .text)

@@ -1,8 +1,8 @@
-// The bytes of the beacon's text: the basic one is the front of the complete one.
+// The bytes of the beacon's text: the basic one is the front of the complete one, and that of the extended one.
 ghost use mathlib.Core.Path.{_≡_};
 ghost use Prim.Native.Nat.{_<_};
 ghost use Rattle.basics.specs.Bytes.{hexDigit};
-ghost use Rattle.beacon.specs.Text.{modeLetter, figure, formBytes, completeText};
+ghost use Rattle.beacon.specs.Text.{modeLetter, figure, hasText, formBytes, fullText};
 use modules::masks::masks_of;
 use supervisor::state::Mode;
 use supervisor::state::State;
@@ -13,6 +13,8 @@ pub enum Form {
     Basic,
     // these, and the masks of the modules on and failed
     Complete,
+    // these, and the message
+    Extended,
 }
 
 // The bytes of the basic text.
@@ -21,17 +23,35 @@ const BASIC_BYTES: usize = 10;
 // The bytes of the complete text.
 const COMPLETE_BYTES: usize = 16;
 
+// The bytes of the complete text, and the space before the message.
+const GREETED_BYTES: usize = 17;
+
+// The most bytes of the extended text.
+const MOST_BYTES: usize = 33;
+
 // The base of a mask's digits.
 const HEX: u8 = 16;
 
 impl Form {
-    // The bytes of its text.
-    pub(crate) fn bytes(self) -> usize
-        ensures { λ r. ⌜ r ≡ formBytes self ⌝ }
+    // Whether a state with a message of this length has such a text: an extended one where the message is kept.
+    pub(crate) fn is_had(self, length: u8) -> bool
+        ensures { λ r. ⌜ r ≡ hasText self length ⌝ }
+    {
+        match self {
+            Form::Basic => true,
+            Form::Complete => true,
+            Form::Extended => 0 < length,
+        }
+    }
+
+    // The bytes of its text, with a message of this length.
+    pub(crate) fn bytes(self, length: u8) -> usize
+        ensures { λ r. ⌜ r ≡ formBytes self length ⌝ }
     {
         match self {
             Form::Basic => BASIC_BYTES,
             Form::Complete => COMPLETE_BYTES,
+            Form::Extended => GREETED_BYTES + (length as usize),
         }
     }
 }
@@ -63,10 +83,12 @@ fn digit(n: u8) -> u8
     if n < 10 { b'0' + n } else { b'A' + (n - 10) }
 }
 
-// The complete text of any state.
-pub(crate) fn complete_text(state: State) -> [u8; COMPLETE_BYTES]
-    ensures { λ r. ⌜ r ≡ completeText state ⌝ }
+// The complete text of any state, a space, and all sixteen bytes of the message.
+pub(crate) fn full_text(state: State) -> [u8; MOST_BYTES]
+    ensures { λ r. ⌜ r ≡ fullText state ⌝ }
 {
+    let message = state.message;
+    let text = message.text;
     let watch = state.watch;
     let mode = watch.mode;
     let tension = state.battery.tension;
@@ -89,5 +111,22 @@ pub(crate) fn complete_text(state: State) -> [u8; COMPLETE_BYTES]
         b' ',
         digit(masks.failed / HEX),
         digit(masks.failed % HEX),
+        b' ',
+        text[0],
+        text[1],
+        text[2],
+        text[3],
+        text[4],
+        text[5],
+        text[6],
+        text[7],
+        text[8],
+        text[9],
+        text[10],
+        text[11],
+        text[12],
+        text[13],
+        text[14],
+        text[15],
     ]
 }

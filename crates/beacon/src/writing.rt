@@ -1,21 +1,25 @@
 // The beacon's text into a room.
-// Refusals 1, then 14, with the room untouched; else the text and its length.
+// Refusals 1, then 21, then 14, with the room untouched; else the text and its length.
 ghost use mathlib.Core.Path.{_≡_};
 ghost use Rattle.basics.specs.Outcome.{outcome};
 ghost use Rattle.beacon.specs.declared.text.Form.the-variants as form;
 ghost use Rattle.beacon.specs.Writing.{writtenReply, beaconOf};
 use crate::text::Form;
-use crate::text::complete_text;
+use crate::text::full_text;
 use frames::answer::Answer;
 use morse::answers::DONE;
 use morse::answers::NO_ROOM;
 use supervisor::state::State;
+
+// No message is kept: the page's number 21.
+const NO_MESSAGE: u8 = 21;
 
 // What writing a beacon's text answers: a case for each of the page's numbers.
 pub enum Written {
     // A text of so many bytes is in the room.
     Done(usize),
     BadState,
+    NoMessage,
     NoRoom,
 }
 
@@ -27,6 +31,7 @@ impl Written {
         match self {
             Written::Done(_) => DONE,
             Written::BadState => Answer::BadState.number(),
+            Written::NoMessage => NO_MESSAGE,
             Written::NoRoom => NO_ROOM,
         }
     }
@@ -38,6 +43,7 @@ impl Written {
         match self {
             Written::Done(n) => n,
             Written::BadState => 0,
+            Written::NoMessage => 0,
             Written::NoRoom => 0,
         }
     }
@@ -50,11 +56,15 @@ pub fn write(state: State, form: Form, text: &mut [u8]) -> Written
     if !state.in_range() {
         return Written::BadState;
     }
-    let n = form.bytes();
+    let length = state.message.length;
+    if !form.is_had(length) {
+        return Written::NoMessage;
+    }
+    let n = form.bytes(length);
     if text.len() < n {
         return Written::NoRoom;
     }
-    let all = complete_text(state);
+    let all = full_text(state);
     Written::Done(bytes::copy(&all[0..n], text))
 }
 
@@ -70,4 +80,11 @@ pub fn complete(state: State, text: &mut [u8]) -> Written
     ensures { λ r. ⌜ outcome r (now (text .exit)) ≡ beaconOf form.Complete state (now (text .entry)) ⌝ }
 {
     write(state, Form::Complete, text)
+}
+
+// The extended text: the complete one, then the message.
+pub fn extended(state: State, text: &mut [u8]) -> Written
+    ensures { λ r. ⌜ outcome r (now (text .exit)) ≡ beaconOf form.Extended state (now (text .entry)) ⌝ }
+{
+    write(state, Form::Extended, text)
 }

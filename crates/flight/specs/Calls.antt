@@ -38,7 +38,7 @@ imaged answer image = record { answer = answer; image = image }
 abbrev pub badState : ℕ
 badState = answerNumber answer.BadState
 
--- the image of the fresh start, into 50 bytes
+-- the image of the fresh start, into 68 bytes
 unfoldable pub freshImage : (image : List ℕ) → Imaged ℕ
 freshImage image =
     if eqb (length image) imageBytes then imaged (answerNumber answer.Done) (saved freshState)

@@ -5,24 +5,35 @@ use mathlib.Core.Bool.{Bool, _&&_, false}
 use mathlib.Core.List.{List}
 use mathlib.Core.Option.{Option, none, some}
 use lib.Dec.{eqb, leb}
-use lib.ListN.{length, replicate}
+use lib.ListN.{length, take, drop, replicate}
 use Rattle.basics.specs.Choice.{if_then_else_}
 use Rattle.basics.specs.Each.{each}
 use Rattle.modules.specs.Groups.{moduleCount}
 use Rattle.modules.specs.declared.ends.Ends.{Ends}
 use Rattle.modules.specs.declared.power.Power.the-variants.{On}
 use Rattle.modules.specs.declared.power.Module.{Module}
+use Rattle.frames.specs.Greeting.{longestGreeting}
 use Rattle.frames.specs.Reading.{byteAt}
 use Rattle.supervisor.specs.Range.{inRange}
+use Rattle.supervisor.specs.declared.state.Message.{Message}
 use Rattle.supervisor.specs.declared.state.State.{State}
 use Rattle.flight.specs.Fields.{pairAt, tripleAt, quadAt}
 use Rattle.flight.specs.Codes.{modeFrom, moduleFrom}
-use Rattle.flight.specs.Saving.{imageBytes, layoutVersion, endsPlace, modulesPlace}
+use Rattle.flight.specs.Saving.{imageBytes, layoutVersion, messagePlace, textPlace, endsPlace, modulesPlace}
 
 -- the length, the version, and antennas that are 0 or 1
 unfoldable pub hasLayout : List ℕ → Bool
 hasLayout bytes =
     eqb (length bytes) imageBytes && eqb (byteAt 0 bytes) layoutVersion && leb (byteAt 7 bytes) 1
+
+-- the message
+unfoldable pub messageIn : List ℕ → Message
+messageIn bytes =
+    record {
+      repeats = byteAt messagePlace bytes;
+      length = byteAt (messagePlace + 1) bytes;
+      text = take longestGreeting (drop textPlace bytes);
+    }
 
 -- the ends of the mission four
 unfoldable pub endsIn : List ℕ → Ends
@@ -38,7 +49,7 @@ endsIn bytes =
 abbrev pub blank : Module
 blank = record { power = On 0 0; requested = false }
 
--- module i stands at 34 + 2 i
+-- module i stands at 52 + 2 i
 unfoldable pub modulesIn : List ℕ → List Module
 modulesIn bytes = each (λ i m. moduleFrom (pairAt (modulesPlace + 2 * i) bytes)) (replicate moduleCount blank)
 
@@ -51,6 +62,7 @@ decoded bytes =
       antennas = eqb (byteAt 7 bytes) 1;
       battery = record { tension = pairAt 8 bytes; ascend = pairAt 10 bytes; descend = pairAt 12 bytes };
       serials = record { ground = pairAt 14 bytes; payload = pairAt 16 bytes };
+      message = messageIn bytes;
       ends = endsIn bytes;
       modules = modulesIn bytes;
     }

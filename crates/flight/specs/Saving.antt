@@ -1,28 +1,37 @@
--- The state as an image of 50 bytes.
+-- The state as an image of 68 bytes.
 -- Assumes nothing.
 use Prim.Native.Nat.{ℕ}
 use mathlib.Core.List.{List, [], _∷_, _++_}
 use Rattle.modules.specs.declared.ends.Ends.{Ends}
 use Rattle.modules.specs.declared.power.Module.{Module}
+use Rattle.supervisor.specs.declared.state.Message.{Message}
 use Rattle.supervisor.specs.declared.state.State.{State}
 use Rattle.flight.specs.Fields.{flag, pairBytes, tripleBytes, quadBytes}
 use Rattle.flight.specs.Codes.{modeCode, moduleCode}
 
 -- byte 0: the version of the layout
 abbrev pub layoutVersion : ℕ
-layoutVersion = 4
+layoutVersion = 5
 
 -- the bytes of an image
 abbrev pub imageBytes : ℕ
-imageBytes = 50
+imageBytes = 68
+
+-- the message stands from here on: repeats, length, and its sixteen text bytes
+abbrev pub messagePlace : ℕ
+messagePlace = 18
+
+-- its text
+abbrev pub textPlace : ℕ
+textPlace = 20
 
 -- the ends stand from here on, four bytes each
 abbrev pub endsPlace : ℕ
-endsPlace = 18
+endsPlace = 36
 
 -- the modules stand from here on, two bytes each
 abbrev pub modulesPlace : ℕ
-modulesPlace = 34
+modulesPlace = 52
 
 -- the modules, one after another
 unfoldable pub modulesBytes : List Module → List ℕ
@@ -33,6 +42,10 @@ modulesBytes (m ∷ ms) = pairBytes (moduleCode m) ++ modulesBytes ms
 unfoldable pub endsBytes : Ends → List ℕ
 endsBytes ends =
     quadBytes (ends .adcs) ++ quadBytes (ends .payload) ++ quadBytes (ends .sband1) ++ quadBytes (ends .sband2)
+
+-- the message: repeats, length, text
+unfoldable pub messageBytes : Message → List ℕ
+messageBytes message = message .repeats ∷ message .length ∷ message .text
 
 -- version, mode with its phase (3), control count, beacon count (2), antennas, tension (2), ascend (2), descend (2),
 -- the ground's last serial (2), the payload's (2)
@@ -46,4 +59,4 @@ headBytes s =
 
 -- the image of a state
 unfoldable pub saved : State → List ℕ
-saved s = headBytes s ++ endsBytes (s .ends) ++ modulesBytes (s .modules)
+saved s = headBytes s ++ messageBytes (s .message) ++ endsBytes (s .ends) ++ modulesBytes (s .modules)

@@ -1,4 +1,4 @@
-// What C and Rust call. An image is the caller's: 50 bytes, the whole state.
+// What C and Rust call. An image is the caller's: 68 bytes, the whole state.
 // A slice passes as a pointer and a length, a count through a pointer; each call answers the page's number.
 ghost use mathlib.Core.Path.{_≡_};
 ghost use Rattle.basics.specs.Outcome.{outcome, reply};
@@ -101,6 +101,17 @@ pub extern "C" fn ems_beacon_complete(image: &[u8], text: &mut [u8], count: &mut
         ≡ replied writtenReply (beaconImage form.Complete (now (image .entry)) (now (text .entry))) ⌝ }
 {
     let written = write_beacon(image, Form::Complete, text);
+    *count = written.count();
+    written.number()
+}
+
+// Writes the extended text of an image's state, and its length.
+#[no_mangle]
+pub extern "C" fn ems_beacon_extended(image: &[u8], text: &mut [u8], count: &mut usize) -> u8
+    ensures { λ r. ⌜ outcome (reply r (now (count .exit))) (now (text .exit))
+        ≡ replied writtenReply (beaconImage form.Extended (now (image .entry)) (now (text .entry))) ⌝ }
+{
+    let written = write_beacon(image, Form::Extended, text);
     *count = written.count();
     written.number()
 }

@@ -3,21 +3,25 @@
 ghost use mathlib.Core.Path.{_≡_};
 ghost use lib.ListN.{length};
 ghost use Rattle.flight.specs.Saving.{imageBytes};
-ghost use Rattle.flight.specs.Loading.{hasLayout, endsIn, modulesIn, decoded};
+ghost use Rattle.flight.specs.Loading.{hasLayout, messageIn, endsIn, modulesIn, decoded};
 use crate::codes::mode_from;
 use crate::codes::module_from;
 use crate::fields::pair_at;
 use crate::fields::quad_at;
 use crate::saving::ENDS_PLACE;
 use crate::saving::IMAGE_BYTES;
+use crate::saving::MESSAGE_PLACE;
 use crate::saving::MODULE_COUNT;
 use crate::saving::MODULES_PLACE;
+use crate::saving::TEXT_PLACE;
 use crate::saving::VERSION;
+use frames::greeting::LONGEST;
 use frames::serial::Serials;
 use modules::ends::Ends;
 use modules::power::Module;
 use modules::power::Power;
 use supervisor::state::Battery;
+use supervisor::state::Message;
 use supervisor::state::State;
 use supervisor::state::Watch;
 
@@ -29,6 +33,20 @@ pub(crate) fn has_layout(image: &[u8]) -> bool
         return false;
     }
     (image[0] == VERSION) & (image[7] <= 1)
+}
+
+// The message of an image.
+fn message_in(image: &[u8]) -> Message
+    requires { ⌜ length (now image) ≡ imageBytes ⌝ }
+    ensures { λ r. ⌜ r ≡ messageIn (now (image .entry)) ⌝ }
+{
+    let mut text = [0u8; LONGEST];
+    bytes::copy(&image[TEXT_PLACE..ENDS_PLACE], &mut text);
+    Message {
+        repeats: image[MESSAGE_PLACE],
+        length: image[MESSAGE_PLACE + 1],
+        text,
+    }
 }
 
 // The ends of an image.
@@ -72,6 +90,7 @@ pub(crate) fn decode(image: &[u8]) -> State
     requires { ⌜ length (now image) ≡ imageBytes ⌝ }
     ensures { λ r. ⌜ r ≡ decoded (now (image .entry)) ⌝ }
 {
+    let message = message_in(image);
     let ends = ends_in(image);
     let modules = modules_in(image);
     State {
@@ -90,6 +109,7 @@ pub(crate) fn decode(image: &[u8]) -> State
             ground: pair_at(image, 14),
             payload: pair_at(image, 16),
         },
+        message,
         ends,
         modules,
     }

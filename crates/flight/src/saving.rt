@@ -1,4 +1,4 @@
-// The state as an image of 50 bytes: saved.
+// The state as an image of 68 bytes: saved.
 ghost use mathlib.Core.Path.{_≡_};
 ghost use mathlib.Core.Bool.{true};
 ghost use Prim.Native.Nat.{_+_, _≤_};
@@ -7,32 +7,39 @@ ghost use lib.Seq.{sets};
 ghost use Rattle.modules.specs.Stage.{modulesInRange};
 ghost use Rattle.supervisor.specs.Range.{inRange};
 ghost use Rattle.flight.specs.Fields.{pairBytes, quadBytes};
-ghost use Rattle.flight.specs.Saving.{imageBytes, endsPlace, modulesPlace};
-ghost use Rattle.flight.specs.Saving.{headBytes, endsBytes, modulesBytes, saved};
+ghost use Rattle.flight.specs.Saving.{imageBytes, messagePlace, endsPlace, modulesPlace};
+ghost use Rattle.flight.specs.Saving.{headBytes, messageBytes, endsBytes, modulesBytes, saved};
 use crate::codes::mode_code;
 use crate::codes::module_code;
 use crate::fields::flag;
 use modules::ends::Ends;
 use modules::power::Module;
+use supervisor::state::Message;
 use supervisor::state::State;
 
 // The version of the layout: an image of other software has another.
-pub(crate) const VERSION: u8 = 4;
+pub(crate) const VERSION: u8 = 5;
 
 // The bytes of an image.
-pub(crate) const IMAGE_BYTES: usize = 50;
+pub(crate) const IMAGE_BYTES: usize = 68;
+
+// The message stands from here on: repeats, length, text.
+pub(crate) const MESSAGE_PLACE: usize = 18;
+
+// Its text, sixteen bytes.
+pub(crate) const TEXT_PLACE: usize = 20;
 
 // The ends stand from here on, four bytes each.
-pub(crate) const ENDS_PLACE: usize = 18;
+pub(crate) const ENDS_PLACE: usize = 36;
 
 // The modules stand from here on, two bytes each.
-pub(crate) const MODULES_PLACE: usize = 34;
+pub(crate) const MODULES_PLACE: usize = 52;
 
 // How many modules there are.
 pub(crate) const MODULE_COUNT: usize = 8;
 
-// All but the ends and the modules.
-fn head(state: State) -> [u8; ENDS_PLACE]
+// All but the message, the ends and the modules.
+fn head(state: State) -> [u8; MESSAGE_PLACE]
     requires { ⌜ inRange state ≡ true ⌝ }
     ensures { λ r. ⌜ r ≡ headBytes state ⌝ }
 {
@@ -83,6 +90,17 @@ fn put_quad(bytes: &mut [u8], at: usize, n: u32)
     bytes[at + 3] = (n / 16777216) as u8;
 }
 
+// Stores the message.
+fn put_message(message: Message, image: &mut [u8])
+    requires { ⌜ length (now image) ≡ imageBytes ⌝ }
+    ensures { λ _. ⌜ now (image .exit) ≡ sets (now (image .entry)) messagePlace (messageBytes message) ⌝ }
+{
+    image[MESSAGE_PLACE] = message.repeats;
+    image[MESSAGE_PLACE + 1] = message.length;
+    let text = message.text;
+    bytes::copy(&text, &mut image[TEXT_PLACE..]);
+}
+
 // Stores the four ends.
 fn put_ends(ends: Ends, image: &mut [u8])
     requires { ⌜ length (now image) ≡ imageBytes ⌝ }
@@ -118,6 +136,7 @@ pub(crate) fn save(state: State, image: &mut [u8])
     let modules = state.modules;
     let front = head(state);
     bytes::copy(&front, image);
+    put_message(state.message, image);
     put_ends(state.ends, image);
     put_modules(modules, image);
 }

@@ -1,4 +1,5 @@
 pub mod AnswerLaws
+pub mod GreetingLaws
 pub mod ReadingLaws
 pub mod CutLaws
 pub mod SerialLaws

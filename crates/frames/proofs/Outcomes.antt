@@ -22,6 +22,10 @@ use Rattle.frames.proofs.cut.cut as cut
 use Rattle.frames.proofs.cut.cut.Reads as cut-reads
 use Rattle.frames.proofs.kind.total as total
 use Rattle.frames.proofs.kind.total.Reads as total-reads
+use Rattle.frames.proofs.greeting.is_greeting as is-greeting
+use Rattle.frames.proofs.greeting.is_greeting.Reads as is-greeting-reads
+use Rattle.frames.proofs.greeting.text_of as text-of
+use Rattle.frames.proofs.greeting.text_of.Reads as text-of-reads
 use Rattle.frames.proofs.reading.is_reading as is-reading
 use Rattle.frames.proofs.reading.is_reading.Reads as is-reading-reads
 use Rattle.frames.proofs.reading.are_thresholds as are-thresholds
@@ -58,6 +62,12 @@ front-bytes-one = record { taken = λ κs a. tt; one = λ κs a x y p q i. ((p �
 
 pub total-one : OneOutcome total.ended total-reads.Asked total-reads.Learnt
 total-one = record { taken = λ κs a. tt; one = λ κs a x y p q i. ((p ∙ sym q) i, (tt, tt)) }
+
+pub is-greeting-one : OneOutcome is-greeting.ended is-greeting-reads.Asked is-greeting-reads.Learnt
+is-greeting-one = record { taken = λ κs a. tt; one = λ κs a x y p q i. ((p ∙ sym q) i, (tt, (tt, tt))) }
+
+pub text-of-one : OneOutcome text-of.ended text-of-reads.Asked text-of-reads.Learnt
+text-of-one = record { taken = λ κs a. tt; one = λ κs a x y p q i. ((p ∙ sym q) i, (tt, tt)) }
 
 pub is-reading-one : OneOutcome is-reading.ended is-reading-reads.Asked is-reading-reads.Learnt
 is-reading-one = record { taken = λ κs a. tt; one = λ κs a x y p q i. ((p ∙ sym q) i, (tt, tt)) }

@@ -2,39 +2,41 @@
 -- Assumes nothing.
 use Prim.Native.Nat.{ℕ, _<_}
 use native.Mathlib.Omega.{arith}
-use mathlib.Core.Path.{_≡_, refl}
+use mathlib.Core.Path.{_≡_, refl, _∙_}
 use mathlib.Core.Bool.{Bool, not, _&&_, true, false}
 use mathlib.Core.List.{List, [], _∷_}
 use lib.Dec.{T, eqb, leb}
 use lib.ListN.{length}
 use borrow.Author.Tests.{eq-eqb, ne-eqb, eqb-true, eqb-false}
-use Rattle.basics.specs.Choice.{within, word}
+use Rattle.basics.specs.Choice.{if_then_else_, within, word}
 use Rattle.basics.proofs.ChoiceLaws.{is-true, holds, either, decided, and-left, and-right, within-low, within-high, within-of}
 use Rattle.modules.specs.Groups.{isMission}
 use Rattle.frames.specs.Answer.{answerNumber}
-use Rattle.frames.specs.Kind.{totalOf, tickKind, batteryKind, antennasKind, orderKind, thresholdsKind, timedKind}
+use Rattle.frames.specs.Kind.{greetingBytes}
+use Rattle.frames.specs.Kind.{totalOf, tickKind, batteryKind, antennasKind, orderKind, thresholdsKind, timedKind, greetingKind}
 use Rattle.frames.specs.Sender.{groundOrigin, payloadOrigin, isOrigin, originFrom}
 use Rattle.frames.specs.Reading.{byteAt, wordAt, lastModule, isReading, areThresholds, areMinutes, isForeign}
 use Rattle.frames.specs.Reading.{fieldsOf, readFrame}
-use Rattle.frames.specs.Reading.{batteryFields, antennasFields, orderFields, timedFields, thresholdsFields}
+use Rattle.frames.specs.Reading.{batteryFields, antennasFields, orderFields, timedFields, thresholdsFields, greetingFields}
+use Rattle.frames.specs.Greeting.{isGreeting, greetingText}
 use Rattle.frames.specs.declared.sender.Sender.{Sender}
 use Rattle.frames.specs.declared.sender.Origin.the-variants.{Ground}
 use Rattle.frames.specs.declared.command.Command.{Command}
-use Rattle.frames.specs.declared.command.Command.the-variants.{Order, Timed, Thresholds}
+use Rattle.frames.specs.declared.command.Command.the-variants.{Order, Timed, Thresholds, Greeting}
 use Rattle.frames.specs.declared.frame.Frame.{Frame}
 use Rattle.frames.specs.declared.frame.Frame.the-variants as frame
 use Rattle.frames.specs.declared.reading.Reading.{Reading}
 use Rattle.frames.specs.declared.reading.Reading.the-variants.{Refused, Accepted}
 
--- a kind that has a total and is none of the first five is the sixth
+-- a kind that has a total and is none of the first six is the seventh
 pub last-total :
     (kind : ℕ) → (kind ≡ tickKind → ⊥) → (kind ≡ batteryKind → ⊥) → (kind ≡ antennasKind → ⊥) → (kind ≡ orderKind → ⊥) →
-    (kind ≡ thresholdsKind → ⊥) → (totalOf kind ≡ 0 → ⊥) → totalOf kind ≡ totalOf timedKind
+    (kind ≡ thresholdsKind → ⊥) → (kind ≡ timedKind → ⊥) → (totalOf kind ≡ 0 → ⊥) → totalOf kind ≡ totalOf greetingKind
 unfolding totalOf
-last-total kind a b c d e known =
-    simp (ne-eqb kind tickKind a, ne-eqb kind batteryKind b, ne-eqb kind antennasKind c, ne-eqb kind orderKind d, ne-eqb kind thresholdsKind e)
-    (decided (λ (n : ℕ). n ≡ 7) (eqb kind timedKind) (λ t. refl)
-    (λ t. absurd (known (simp (ne-eqb kind tickKind a, ne-eqb kind batteryKind b, ne-eqb kind antennasKind c, ne-eqb kind orderKind d, ne-eqb kind thresholdsKind e, t)))))
+last-total kind a b c d e f known =
+    let none : totalOf kind ≡ (if eqb kind greetingKind then greetingBytes else 0) =
+    simp (ne-eqb kind tickKind a, ne-eqb kind batteryKind b, ne-eqb kind antennasKind c, ne-eqb kind orderKind d, ne-eqb kind thresholdsKind e, ne-eqb kind timedKind f) in
+    none ∙ decided (λ (n : ℕ). n ≡ greetingBytes) (eqb kind greetingKind) (λ t. refl) (λ t. absurd (known (none ∙ rw t)))
 
 -- bytes that pass checks 3 to 5 are read by their kind's fields
 pub read-fields :
@@ -44,19 +46,20 @@ unfolding readFrame
 read-fields bytes some known whole =
     simp (ne-eqb (length bytes) 0 some, ne-eqb (totalOf (byteAt 0 bytes)) 0 known, eq-eqb (length bytes) (totalOf (byteAt 0 bytes)) whole)
 
--- the fields of a command are in their ranges; a timed order is for one of the mission four, and thresholds are ground's:
--- those of the payload are never read
-abbrev pub FitsCommand : Sender → Command → Type 0
-FitsCommand sender (Order which on) = Unit {0}
-FitsCommand sender (Timed which minutes) = record { mission : T (isMission which); minutes : T (areMinutes minutes) }
-FitsCommand sender (Thresholds ascend descend) = record { fair : T (areThresholds ascend descend); ground : sender .origin ≡ Ground }
+-- the fields of a command, and the text beside it, are in their ranges; a timed order is for one of the mission four, and
+-- thresholds and greetings are ground's: those of the payload are never read
+abbrev pub FitsCommand : Sender → Command → (text : List ℕ) → Type 0
+FitsCommand sender (Order which on) text = Unit {0}
+FitsCommand sender (Timed which minutes) text = record { mission : T (isMission which); minutes : T (areMinutes minutes) }
+FitsCommand sender (Thresholds ascend descend) text = record { fair : T (areThresholds ascend descend); ground : sender .origin ≡ Ground }
+FitsCommand sender (Greeting repeats length) text = record { fair : T (isGreeting length text); ground : sender .origin ≡ Ground }
 
 -- the fields of a frame
-abbrev pub Fits : Frame → Type 0
-Fits (frame.Tick shorts) = Unit {0}
-Fits (frame.Battery tension) = T (isReading tension)
-Fits (frame.Antennas deployed) = Unit {0}
-Fits (frame.Command sender command) = FitsCommand sender command
+abbrev pub Fits : Frame → (text : List ℕ) → Type 0
+Fits (frame.Tick shorts) text = Unit {0}
+Fits (frame.Battery tension) text = T (isReading tension)
+Fits (frame.Antennas deployed) text = Unit {0}
+Fits (frame.Command sender command) text = FitsCommand sender command text
 
 -- a frame that passes checks 3 to 7
 abbrev pub isAccepted : Reading → Bool
@@ -64,50 +67,55 @@ isAccepted (Refused answer) = false
 isAccepted (Accepted f) = true
 
 -- what is refused has an answer from one to 7, what is accepted has its fields in range
-abbrev SoundFrom : (lowest : ℕ) → Reading → Type 0
-SoundFrom lowest (Refused answer) = T (within lowest 7 (answerNumber answer))
-SoundFrom lowest (Accepted f) = Fits f
+abbrev SoundFrom : (lowest : ℕ) (text : List ℕ) → Reading → Type 0
+SoundFrom lowest text (Refused answer) = T (within lowest 7 (answerNumber answer))
+SoundFrom lowest text (Accepted f) = Fits f text
 
 -- from 3
-abbrev pub Sound : Reading → Type 0
-Sound r = SoundFrom 3 r
+abbrev pub Sound : (text : List ℕ) → Reading → Type 0
+Sound text r = SoundFrom 3 text r
 
 -- from 4
-abbrev pub SoundPast : Reading → Type 0
-SoundPast r = SoundFrom 4 r
+abbrev pub SoundPast : (text : List ℕ) → Reading → Type 0
+SoundPast text r = SoundFrom 4 text r
 
-past-sound : (r : Reading) → SoundPast r → Sound r
-past-sound (Refused answer) h =
+past-sound : (text : List ℕ) (r : Reading) → SoundPast text r → Sound text r
+past-sound text (Refused answer) h =
     within-of 3 7 (answerNumber answer) (omega (arith, within-low 4 7 (answerNumber answer) h)) (within-high 4 7 (answerNumber answer) h)
-past-sound (Accepted f) h = h
+past-sound text (Accepted f) h = h
 
-battery-sound : (bytes : List ℕ) → SoundPast (batteryFields bytes)
-unfolding batteryFields
-battery-sound bytes = decided SoundPast (isReading (wordAt 1 bytes)) (holds (isReading (wordAt 1 bytes))) (λ e. tt)
+-- the fields of each kind
+module _ (text bytes : List ℕ) where
+  abbrev SoundFields : Reading → Type 0
+  SoundFields = SoundPast text
 
-antennas-sound : (bytes : List ℕ) → SoundPast (antennasFields bytes)
-unfolding antennasFields
-antennas-sound bytes = either SoundPast (leb (byteAt 1 bytes) 1) tt tt
+  battery-sound : SoundFields (batteryFields bytes)
+  unfolding batteryFields
+  battery-sound = decided SoundFields (isReading (wordAt 1 bytes)) (holds (isReading (wordAt 1 bytes))) (λ e. tt)
 
-order-sound : (bytes : List ℕ) → SoundPast (orderFields bytes)
-unfolding orderFields
-order-sound bytes =
-    either SoundPast (isOrigin (byteAt 1 bytes) && leb (byteAt 4 bytes) lastModule && leb (byteAt 5 bytes) 1)
-    (either SoundPast (isForeign (byteAt 1 bytes) (byteAt 4 bytes)) tt tt) tt
+  antennas-sound : SoundFields (antennasFields bytes)
+  unfolding antennasFields
+  antennas-sound = either SoundFields (leb (byteAt 1 bytes) 1) tt tt
 
-timed-sound : (bytes : List ℕ) → SoundPast (timedFields bytes)
-unfolding timedFields
-timed-sound bytes =
-    let origin : Bool = isOrigin (byteAt 1 bytes) in
-    let mission : Bool = isMission (byteAt 4 bytes) in
-    let fair : Bool = areMinutes (wordAt 5 bytes) in
-    decided SoundPast (origin && mission && fair)
-    (λ e. either SoundPast (isForeign (byteAt 1 bytes) (byteAt 4 bytes)) tt
-    (record {
-      mission = and-right origin mission (and-left (origin && mission) fair (holds (origin && mission && fair) e));
-      minutes = and-right (origin && mission) fair (holds (origin && mission && fair) e);
-    }))
-    (λ e. tt)
+  order-sound : SoundFields (orderFields bytes)
+  unfolding orderFields
+  order-sound =
+      either SoundFields (isOrigin (byteAt 1 bytes) && leb (byteAt 4 bytes) lastModule && leb (byteAt 5 bytes) 1)
+      (either SoundFields (isForeign (byteAt 1 bytes) (byteAt 4 bytes)) tt tt) tt
+
+  timed-sound : SoundFields (timedFields bytes)
+  unfolding timedFields
+  timed-sound =
+      let origin : Bool = isOrigin (byteAt 1 bytes) in
+      let mission : Bool = isMission (byteAt 4 bytes) in
+      let fair : Bool = areMinutes (wordAt 5 bytes) in
+      decided SoundFields (origin && mission && fair)
+      (λ e. either SoundFields (isForeign (byteAt 1 bytes) (byteAt 4 bytes)) tt
+      (record {
+        mission = and-right origin mission (and-left (origin && mission) fair (holds (origin && mission && fair) e));
+        minutes = and-right (origin && mission) fair (holds (origin && mission && fair) e);
+      }))
+      (λ e. tt)
 
 -- an origin that is not the payload's is ground's
 origin-ground : (byte : ℕ) → T (isOrigin byte) → eqb byte payloadOrigin ≡ false → originFrom byte ≡ Ground
@@ -116,41 +124,65 @@ origin-ground byte h e =
     omega (arith, within-low groundOrigin payloadOrigin byte h, within-high groundOrigin payloadOrigin byte h, eqb-false byte payloadOrigin e) in
     simp (eq-eqb byte groundOrigin low)
 
-thresholds-sound : (bytes : List ℕ) → SoundPast (thresholdsFields bytes)
+-- what is ground's, and fair
+record Grounded (test : Bool) (bytes : List ℕ) : Type 0 where
+  fair : T test
+  ground : originFrom (byteAt 1 bytes) ≡ Ground
+
+grounded : (fair : Bool) (bytes : List ℕ) → isOrigin (byteAt 1 bytes) && fair ≡ true → eqb (byteAt 1 bytes) payloadOrigin ≡ false → Grounded fair bytes
+grounded fair bytes e p =
+    let origin : Bool = isOrigin (byteAt 1 bytes) in
+    record {
+      fair = and-right origin fair (holds (origin && fair) e);
+      ground = origin-ground (byteAt 1 bytes) (and-left origin fair (holds (origin && fair) e)) p;
+    }
+
+thresholds-sound : (text bytes : List ℕ) → SoundPast text (thresholdsFields bytes)
 unfolding thresholdsFields
-thresholds-sound bytes =
-    let origin : ℕ = byteAt 1 bytes in
+thresholds-sound text bytes =
     let fair : Bool = areThresholds (wordAt 4 bytes) (wordAt 6 bytes) in
-    decided SoundPast (isOrigin origin && fair)
-    (λ e. decided SoundPast (eqb origin payloadOrigin) (λ p. tt)
-    (λ p. record {
-      fair = and-right (isOrigin origin) fair (holds (isOrigin origin && fair) e);
-      ground = origin-ground origin (and-left (isOrigin origin) fair (holds (isOrigin origin && fair) e)) p;
-    }))
+    decided (SoundPast text) (isOrigin (byteAt 1 bytes) && fair)
+    (λ e. decided (SoundPast text) (eqb (byteAt 1 bytes) payloadOrigin) (λ p. tt)
+    (λ p. let g = grounded fair bytes e p in record { fair = g .fair; ground = g .ground }))
     (λ e. tt)
 
-fields-sound : (kind : ℕ) (bytes : List ℕ) → SoundPast (fieldsOf kind bytes)
-fields-sound kind bytes =
-    either SoundPast (eqb kind tickKind) tt
-    (either SoundPast (eqb kind batteryKind) (battery-sound bytes)
-    (either SoundPast (eqb kind antennasKind) (antennas-sound bytes)
-    (either SoundPast (eqb kind orderKind) (order-sound bytes)
-    (either SoundPast (eqb kind thresholdsKind) (thresholds-sound bytes) (timed-sound bytes)))))
+greeting-sound : (bytes : List ℕ) → SoundPast (greetingText bytes) (greetingFields bytes)
+unfolding greetingFields
+greeting-sound bytes =
+    let fair : Bool = isGreeting (byteAt 5 bytes) (greetingText bytes) in
+    decided (SoundPast (greetingText bytes)) (isOrigin (byteAt 1 bytes) && fair)
+    (λ e. decided (SoundPast (greetingText bytes)) (eqb (byteAt 1 bytes) payloadOrigin) (λ p. tt)
+    (λ p. let g = grounded fair bytes e p in record { fair = g .fair; ground = g .ground }))
+    (λ e. tt)
 
--- bytes that are some are refused with 4 to 7
-pub some-sound : (bytes : List ℕ) → 0 < length bytes → SoundPast (readFrame bytes)
-unfolding readFrame
-some-sound bytes some =
-    decided SoundPast (eqb (length bytes) 0) (λ none. absurd (omega (arith, eqb-true (length bytes) 0 none)))
-    (λ e. either SoundPast (eqb (totalOf (byteAt 0 bytes)) 0) tt
-    (either SoundPast (eqb (length bytes) (totalOf (byteAt 0 bytes))) (fields-sound (byteAt 0 bytes) bytes) tt))
+module _ (bytes : List ℕ) where
+  abbrev text : List ℕ
+  text = greetingText bytes
 
-pub read-sound : (bytes : List ℕ) → Sound (readFrame bytes)
-unfolding readFrame
-read-sound bytes =
-    either Sound (eqb (length bytes) 0) tt
-    (either Sound (eqb (totalOf (byteAt 0 bytes)) 0) tt
-    (either Sound (eqb (length bytes) (totalOf (byteAt 0 bytes))) (past-sound (fieldsOf (byteAt 0 bytes) bytes) (fields-sound (byteAt 0 bytes) bytes)) tt))
+  fields-sound : (kind : ℕ) → SoundPast text (fieldsOf kind bytes)
+  fields-sound kind =
+      either (SoundPast text) (eqb kind tickKind) tt
+      (either (SoundPast text) (eqb kind batteryKind) (battery-sound text bytes)
+      (either (SoundPast text) (eqb kind antennasKind) (antennas-sound text bytes)
+      (either (SoundPast text) (eqb kind orderKind) (order-sound text bytes)
+      (either (SoundPast text) (eqb kind thresholdsKind) (thresholds-sound text bytes)
+      (either (SoundPast text) (eqb kind timedKind) (timed-sound text bytes) (greeting-sound bytes))))))
+
+  -- bytes that are some are refused with 4 to 7
+  pub some-sound : 0 < length bytes → SoundPast text (readFrame bytes)
+  unfolding readFrame
+  some-sound some =
+      decided (SoundPast text) (eqb (length bytes) 0) (λ none. absurd (omega (arith, eqb-true (length bytes) 0 none)))
+      (λ e. either (SoundPast text) (eqb (totalOf (byteAt 0 bytes)) 0) tt
+      (either (SoundPast text) (eqb (length bytes) (totalOf (byteAt 0 bytes))) (fields-sound (byteAt 0 bytes)) tt))
+
+  pub read-sound : Sound text (readFrame bytes)
+  unfolding readFrame
+  read-sound =
+      either (Sound text) (eqb (length bytes) 0) tt
+      (either (Sound text) (eqb (totalOf (byteAt 0 bytes)) 0) tt
+      (either (Sound text) (eqb (length bytes) (totalOf (byteAt 0 bytes)))
+      (past-sound text (fieldsOf (byteAt 0 bytes) bytes) (fields-sound (byteAt 0 bytes))) tt))
 
 -- a battery frame in range is read as such
 pub battery-read :

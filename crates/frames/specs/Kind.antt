@@ -28,6 +28,14 @@ thresholdsKind = 5
 abbrev pub timedKind : ℕ
 timedKind = 6
 
+-- 07 greeting: origin, serial, repeats, length, sixteen text bytes
+abbrev pub greetingKind : ℕ
+greetingKind = 7
+
+-- its total
+abbrev pub greetingBytes : ℕ
+greetingBytes = 22
+
 -- 81 report, which is only written
 abbrev pub reportKind : ℕ
 reportKind = 0x81
@@ -44,4 +52,5 @@ totalOf kind =
     if eqb kind antennasKind then 2 else
     if eqb kind orderKind then 6 else
     if eqb kind thresholdsKind then 8 else
-    if eqb kind timedKind then 7 else 0
+    if eqb kind timedKind then 7 else
+    if eqb kind greetingKind then greetingBytes else 0

@@ -4,6 +4,7 @@ pub mod Sender
 pub mod Serial
 pub mod Command
 pub mod Frame
+pub mod Greeting
 pub mod Reading
 pub mod Cut
 pub mod About

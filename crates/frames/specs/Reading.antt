@@ -7,12 +7,14 @@ use lib.ListN.{length, getD}
 use lib.Dec.{eqb, leb}
 use Rattle.basics.specs.Choice.{if_then_else_, within, word}
 use Rattle.modules.specs.Groups.{payloadModule, isMission}
-use Rattle.frames.specs.Kind.{tickKind, batteryKind, antennasKind, orderKind, thresholdsKind, totalOf}
+use Rattle.frames.specs.Kind.{tickKind, batteryKind, antennasKind, orderKind, thresholdsKind, timedKind}
+use Rattle.frames.specs.Kind.{totalOf}
+use Rattle.frames.specs.Greeting.{isGreeting, greetingText}
 use Rattle.frames.specs.Sender.{payloadOrigin, isOrigin, originFrom}
 use Rattle.frames.specs.declared.answer.Answer.the-variants.{NoInput, UnknownKind, BadLength}
 use Rattle.frames.specs.declared.answer.Answer.the-variants.{BadField, NotPermitted}
 use Rattle.frames.specs.declared.sender.Sender.{Sender}
-use Rattle.frames.specs.declared.command.Command.the-variants.{Order, Timed, Thresholds}
+use Rattle.frames.specs.declared.command.Command.the-variants.{Order, Timed, Thresholds, Greeting}
 use Rattle.frames.specs.declared.frame.Frame.the-variants.{Tick, Battery, Antennas, Command}
 use Rattle.frames.specs.declared.reading.Reading.{Reading}
 use Rattle.frames.specs.declared.reading.Reading.the-variants.{Refused, Accepted}
@@ -101,6 +103,14 @@ timedFields bytes =
     Accepted (Command (senderFrom bytes) (Timed (byteAt 4 bytes) (wordAt 5 bytes))))
     else Refused BadField
 
+-- then repeats 0 to 255, length, sixteen text bytes; never from origin 2
+unfoldable pub greetingFields : List ℕ → Reading
+greetingFields bytes =
+    if isOrigin (byteAt 1 bytes) && isGreeting (byteAt 5 bytes) (greetingText bytes) then
+    (if eqb (byteAt 1 bytes) payloadOrigin then Refused NotPermitted else
+    Accepted (Command (senderFrom bytes) (Greeting (byteAt 4 bytes) (byteAt 5 bytes))))
+    else Refused BadField
+
 -- by kind, one of those that have a total
 abbrev pub fieldsOf : ℕ → List ℕ → Reading
 fieldsOf kind bytes =
@@ -109,9 +119,10 @@ fieldsOf kind bytes =
     if eqb kind antennasKind then antennasFields bytes else
     if eqb kind orderKind then orderFields bytes else
     if eqb kind thresholdsKind then thresholdsFields bytes else
-    timedFields bytes
+    if eqb kind timedKind then timedFields bytes else
+    greetingFields bytes
 
--- no input bytes; kind not 01 to 06; input length not the kind's total; then the fields
+-- no input bytes; kind not 01 to 07; input length not the kind's total; then the fields
 unfoldable pub readFrame : List ℕ → Reading
 readFrame bytes =
     if eqb (length bytes) 0 then Refused NoInput else

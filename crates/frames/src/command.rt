@@ -1,6 +1,7 @@
 // What a sender may command.
 ghost use mathlib.Core.Path.{_≡_};
 ghost use Rattle.frames.specs.Command.{commandKind};
+use crate::kind::GREETING;
 use crate::kind::ORDER;
 use crate::kind::THRESHOLDS;
 use crate::kind::TIMED;
@@ -13,6 +14,8 @@ pub enum Command {
     Timed { which: u8, minutes: u16 },
     // both thresholds, in millivolts; read from ground alone
     Thresholds { ascend: u16, descend: u16 },
+    // a message of so many bytes, for so many beacons; its text stands beside the frame; read from ground alone
+    Greeting { repeats: u8, length: u8 },
 }
 
 impl Command {
@@ -30,6 +33,10 @@ impl Command {
                 ascend: _,
                 descend: _,
             } => THRESHOLDS,
+            Command::Greeting {
+                repeats: _,
+                length: _,
+            } => GREETING,
         }
     }
 }

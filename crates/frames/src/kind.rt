@@ -20,6 +20,12 @@ pub const THRESHOLDS: u8 = 5;
 // A module is to be requested on for so many minutes.
 pub const TIMED: u8 = 6;
 
+// A message for the beacon.
+pub const GREETING: u8 = 7;
+
+// The bytes of a greeting.
+pub(crate) const GREETING_BYTES: usize = 22;
+
 // A report, which is only written.
 pub const REPORT: u8 = 0x81;
 
@@ -37,6 +43,7 @@ pub fn total(kind: u8) -> usize
         ORDER => 6,
         THRESHOLDS => 8,
         TIMED => 7,
+        GREETING => GREETING_BYTES,
         _ => 0,
     }
 }

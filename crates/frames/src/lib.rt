@@ -4,6 +4,7 @@ pub mod answer;
 pub mod command;
 pub mod cut;
 pub mod frame;
+pub mod greeting;
 pub mod kind;
 pub mod reading;
 pub mod sender;

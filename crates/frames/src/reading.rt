@@ -5,15 +5,18 @@ ghost use lib.ListN.{length};
 ghost use Rattle.basics.specs.Choice.{word};
 ghost use Rattle.frames.specs.Reading.{isReading, areThresholds, areMinutes, isForeign, senderFrom};
 ghost use Rattle.frames.specs.Reading.{batteryFields, antennasFields, orderFields, timedFields};
-ghost use Rattle.frames.specs.Reading.{thresholdsFields, readFrame};
+ghost use Rattle.frames.specs.Reading.{thresholdsFields, greetingFields, readFrame};
 use crate::answer::Answer;
 use crate::command::Command;
 use crate::frame::Frame;
+use crate::greeting::is_greeting;
+use crate::greeting::text_of;
 use crate::kind::ANTENNAS;
 use crate::kind::BATTERY;
 use crate::kind::ORDER;
 use crate::kind::THRESHOLDS;
 use crate::kind::TICK;
+use crate::kind::TIMED;
 use crate::kind::total;
 use crate::sender::PAYLOAD;
 use crate::sender::Sender;
@@ -180,6 +183,28 @@ fn thresholds(bytes: &[u8]) -> Reading
     }
 }
 
+// A greeting, which the payload may not send.
+fn greeting(bytes: &[u8]) -> Reading
+    requires { ⌜ length (now bytes) ≡ 22 ⌝ }
+    ensures { λ r. ⌜ r ≡ greetingFields (now (bytes .entry)) ⌝ }
+{
+    let origin = bytes[1];
+    let repeats = bytes[4];
+    let length = bytes[5];
+    if is_origin(origin) & is_greeting(length, text_of(bytes)) {
+        if origin == PAYLOAD {
+            Reading::Refused(Answer::NotPermitted)
+        } else {
+            Reading::Accepted(Frame::Command {
+                sender: sender_from(bytes),
+                command: Command::Greeting { repeats, length },
+            })
+        }
+    } else {
+        Reading::Refused(Answer::BadField)
+    }
+}
+
 // Checks 3 to 7, in the page's order.
 pub fn read(bytes: &[u8]) -> Reading
     ensures { λ r. ⌜ r ≡ readFrame (now (bytes .entry)) ⌝ }
@@ -201,6 +226,7 @@ pub fn read(bytes: &[u8]) -> Reading
         ANTENNAS => antennas(bytes),
         ORDER => order(bytes),
         THRESHOLDS => thresholds(bytes),
-        _ => timed(bytes),
+        TIMED => timed(bytes),
+        _ => greeting(bytes),
     }
 }

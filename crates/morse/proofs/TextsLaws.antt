@@ -8,16 +8,18 @@ use native.Mathlib.Numerals.{add-one}
 use native.Mathlib.Omega.{arith}
 use lib.ListN.{length, getD, drop}
 use lib.Seq.{drop-cons}
-use lib.Dec.{ltb}
+use lib.Dec.{T, ltb, eqb→eq}
 use borrow.Author.Tests.{lt-ltb, le-ltb, ltb-false}
 use Rattle.basics.specs.Choice.{if_then_else_}
 use Rattle.morse.specs.declared.signs.Sign.{Sign}
+use Rattle.morse.specs.Answers.{done}
+use Rattle.morse.specs.declared.texts.Fault.{Fault}
 use Rattle.morse.specs.declared.texts.Fault.the-variants.{Nothing, TextTooLong, NotKeyable, BadSpace}
 use Rattle.morse.specs.declared.texts.Seen.{Seen}
 use Rattle.morse.specs.Signs.{signed}
 use Rattle.morse.specs.SignTable.{unpack, marksOf}
 use Rattle.morse.specs.Texts.{longest, isSpace, known, allKnown, doubled, badlySpaced}
-use Rattle.morse.specs.Texts.{faultOf, faultNumber, seenIn}
+use Rattle.morse.specs.Texts.{faultOf, faultNumber, isKeyable, seenIn}
 
 -- a sign has marks where it says so
 pub signed-len : (s : Sign) → ltb 0 (s .len) ≡ signed (marksOf s)
@@ -81,3 +83,13 @@ fair t e = by-tests (ltb longest (length t)) refl (allKnown t) refl (badlySpaced
     by-tests false p false q c r z = absurd (omega (arith, ap faultNumber z))
     by-tests false p true q true r z = absurd (omega (arith, ap faultNumber z))
     by-tests false p true q false r z = record { short = ltb-false longest (length t) p; known = q; spaced = r }
+
+-- a text that keying takes has no fault
+pub keyable-fault : (t : List ℕ) → T (isKeyable t) → faultOf t ≡ Nothing
+keyable-fault t h = by-fault (faultOf t) (eqb→eq (faultNumber (faultOf t)) done h)
+  where
+    by-fault : (f : Fault) → faultNumber f ≡ done → f ≡ Nothing
+    by-fault Nothing e = refl
+    by-fault TextTooLong e = absurd (omega arith)
+    by-fault NotKeyable e = absurd (omega arith)
+    by-fault BadSpace e = absurd (omega arith)

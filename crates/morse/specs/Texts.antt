@@ -54,6 +54,10 @@ faultNumber TextTooLong = textTooLong
 faultNumber NotKeyable = notKeyable
 faultNumber BadSpace = badSpace
 
+-- a text that keying takes
+abbrev pub isKeyable : List ℕ → Bool
+isKeyable t = eqb (faultNumber (faultOf t)) done
+
 -- what the code's walk through a text finds
 abbrev pub seenIn : List ℕ → Seen
 seenIn t = record { known = allKnown t; doubled = doubled t }

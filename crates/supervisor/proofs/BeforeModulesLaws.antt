@@ -41,6 +41,11 @@ module _ (s : State) where
   battery-by (upward j e t w) = rw w
   battery-by (downward j e t w) = rw w
 
+  message-by : Controls s → controlled s .message ≡ s .message
+  message-by (level count low none w) = rw w
+  message-by (upward j e t w) = rw w
+  message-by (downward j e t w) = rw w
+
   control-by : s .watch .control < judgeTicks → Controls s → controlled s .watch .control < judgeTicks
   control-by h (level count low none w) = rw w (low h)
   control-by h (upward j e t w) = rw w (lit< tt)
@@ -90,6 +95,11 @@ module _ (s : State) where
   pub before-battery : beforeModules s .battery ≡ s .battery
   unfolding beforeModules ended
   before-battery = battery-by (ended s) (controls (ended s))
+
+  -- the message
+  pub before-message : beforeModules s .message ≡ s .message
+  unfolding beforeModules ended
+  before-message = message-by (ended s) (controls (ended s))
 
   -- the control count stays low
   pub before-control : s .watch .control < judgeTicks → beforeModules s .watch .control < judgeTicks

@@ -4,7 +4,7 @@ use Prim.Native.Nat.{ℕ, _*_}
 use native.Mathlib.Omega.{arith}
 use mathlib.Core.Path.{_≡_, refl, ap, subst}
 use mathlib.Core.Bool.{Bool, true, false, _||_}
-use mathlib.Core.List.{[], _∷_}
+use mathlib.Core.List.{List, [], _∷_}
 use mathlib.Core.Logic.{_⊎_, inl, inr, ⊎-elim}
 use lib.Dec.{T, eqb, eqb→eq}
 use Rattle.basics.specs.Choice.{if_then_else_, within}
@@ -17,7 +17,7 @@ use Rattle.frames.specs.declared.sender.Sender.{Sender}
 use Rattle.frames.specs.declared.serial.Class.{Class}
 use Rattle.frames.specs.declared.serial.Class.the-variants.{Repeat, Fresh, Stale}
 use Rattle.frames.specs.declared.command.Command.{Command}
-use Rattle.frames.specs.declared.command.Command.the-variants.{Order, Timed, Thresholds}
+use Rattle.frames.specs.declared.command.Command.the-variants.{Order, Timed, Thresholds, Greeting}
 use Rattle.frames.specs.declared.frame.Frame.{Frame}
 use Rattle.frames.specs.declared.reading.Reading.the-variants.{Accepted}
 use Rattle.frames.specs.declared.answer.Answer.the-variants as answer
@@ -32,11 +32,11 @@ use Rattle.supervisor.proofs.TickLaws.{ticked-done, ticked-serials}
 
 -- what holds of a repeat, of a stale serial and of a command that is taken, class by class and on two states at once, holds of
 -- a command judged by its serial, if the serial has the same class on both
-module _ (sender : Sender) (command : Command) (a b : State) (R : Class → Acted → Acted → Type 0) where
+module _ (sender : Sender) (command : Command) (text : List ℕ) (a b : State) (R : Class → Acted → Acted → Type 0) where
   by-class :
       (class : Class) → R Repeat (silent answer.Repeat a) (silent answer.Repeat b) → R Stale (silent answer.Stale a) (silent answer.Stale b) →
-      R Fresh (taken command (serialUsed sender a)) (taken command (serialUsed sender b)) →
-      R class (byClass class sender command a) (byClass class sender command b)
+      R Fresh (taken command text (serialUsed sender a)) (taken command text (serialUsed sender b)) →
+      R class (byClass class sender command text a) (byClass class sender command text b)
   by-class Repeat repeated stale fresh = repeated
   by-class Stale repeated stale fresh = stale
   by-class Fresh repeated stale fresh = fresh
@@ -44,18 +44,18 @@ module _ (sender : Sender) (command : Command) (a b : State) (R : Class → Acte
   pub by-serials :
       classIn a sender ≡ classIn b sender → R Repeat (silent answer.Repeat a) (silent answer.Repeat b) →
       R Stale (silent answer.Stale a) (silent answer.Stale b) →
-      R Fresh (taken command (serialUsed sender a)) (taken command (serialUsed sender b)) →
-      R (classIn a sender) (bySerial sender command a) (bySerial sender command b)
+      R Fresh (taken command text (serialUsed sender a)) (taken command text (serialUsed sender b)) →
+      R (classIn a sender) (bySerial sender command text a) (bySerial sender command text b)
   unfolding bySerial
   by-serials e repeated stale fresh =
-      subst (λ (class : Class). R (classIn a sender) (byClass (classIn a sender) sender command a) (byClass class sender command b)) e
+      subst (λ (class : Class). R (classIn a sender) (byClass (classIn a sender) sender command text a) (byClass class sender command text b)) e
       (by-class (classIn a sender) repeated stale fresh)
 
 -- on one state
 pub by-serial :
-    (sender : Sender) (command : Command) (s : State) (R : Class → Acted → Type 0) → R Repeat (silent answer.Repeat s) →
-    R Stale (silent answer.Stale s) → R Fresh (taken command (serialUsed sender s)) → R (classIn s sender) (bySerial sender command s)
-by-serial sender command s R = by-serials sender command s s (λ class x y. R class x) refl
+    (sender : Sender) (command : Command) (text : List ℕ) (s : State) (R : Class → Acted → Type 0) → R Repeat (silent answer.Repeat s) →
+    R Stale (silent answer.Stale s) → R Fresh (taken command text (serialUsed sender s)) → R (classIn s sender) (bySerial sender command text s)
+by-serial sender command text s R = by-serials sender command text s s (λ class x y. R class x) refl
 
 -- what comes of a command, by the class of its serial; at 10 the serial alone moves
 abbrev pub Judged : Class → Sender → State → Acted → Type 0
@@ -88,19 +88,20 @@ order-judged which on end sender s t e =
     (record { taken = tt; serials = ap (λ r. r .serials) e; ill = λ ten. e })
     (record { taken = tt; serials = ap (λ r. r .serials) e; ill = λ ten. absurd (not-ten ten) })
 
-taken-judged : (command : Command) (sender : Sender) (s t : State) → t ≡ serialUsed sender s → Judged Fresh sender s (taken command t)
-taken-judged (Order which on) sender s t e = order-judged which on 0 sender s t e
-taken-judged (Timed which minutes) sender s t e = order-judged which true (minuteSeconds * minutes) sender s t e
-taken-judged (Thresholds ascend descend) sender s t e = record { taken = tt; serials = ap (λ r. r .serials) e; ill = λ ten. absurd (not-ten ten) }
+taken-judged : (command : Command) (text : List ℕ) (sender : Sender) (s t : State) → t ≡ serialUsed sender s → Judged Fresh sender s (taken command text t)
+taken-judged (Order which on) text sender s t e = order-judged which on 0 sender s t e
+taken-judged (Timed which minutes) text sender s t e = order-judged which true (minuteSeconds * minutes) sender s t e
+taken-judged (Thresholds ascend descend) text sender s t e = record { taken = tt; serials = ap (λ r. r .serials) e; ill = λ ten. absurd (not-ten ten) }
+taken-judged (Greeting repeats length) text sender s t e = record { taken = tt; serials = ap (λ r. r .serials) e; ill = λ ten. absurd (not-ten ten) }
 
-pub act-answers : (f : Frame) (s : State) → Answers f s (actOf f s)
+pub act-answers : (f : Frame) (text : List ℕ) (s : State) → Answers f s (actOf f text s)
 unfolding actOf
-act-answers (frame.Tick shorts) s = news (λ origin. refl) (ticked-done shorts s) (ticked-serials shorts s)
-act-answers (frame.Battery tension) s = news (λ origin. refl) refl refl
-act-answers (frame.Antennas deployed) s = news (λ origin. refl) refl refl
-act-answers (frame.Command sender command) s =
+act-answers (frame.Tick shorts) text s = news (λ origin. refl) (ticked-done shorts s) (ticked-serials shorts s)
+act-answers (frame.Battery tension) text s = news (λ origin. refl) refl refl
+act-answers (frame.Antennas deployed) text s = news (λ origin. refl) refl refl
+act-answers (frame.Command sender command) text s =
     judged sender (λ origin. refl)
-    (by-serial sender command s (λ class. Judged class sender s) (refl, refl) (refl, refl) (taken-judged command sender s (serialUsed sender s) refl))
+    (by-serial sender command text s (λ class. Judged class sender s) (refl, refl) (refl, refl) (taken-judged command text sender s (serialUsed sender s) refl))
 
 -- what is taken is answered 0 or 10
 pub zero-or-ten : (n : ℕ) → T (isTaken n) → (n ≡ 0) ⊎ (n ≡ 10)

@@ -12,6 +12,7 @@ use Rattle.basics.specs.Choice.{within}
 use Rattle.basics.proofs.ChoiceLaws.{is-true, holds, within-low, within-high, within-of}
 use Rattle.frames.specs.Answer.{answerNumber}
 use Rattle.frames.specs.Kind.{reportBytes}
+use Rattle.frames.specs.Greeting.{greetingText}
 use Rattle.frames.specs.Reading.{readFrame}
 use Rattle.frames.specs.About.{about, isTick}
 use Rattle.frames.specs.declared.answer.Answer.{Answer}
@@ -42,7 +43,7 @@ pub record Stops (s : State) (c : Call) (answer : Answer) : Type 0 where
 
 -- a call that works a frame
 pub record Works (s : State) (c : Call) (f : Frame) (acted : Acted) : Type 0 where
-  pub fits : Fits f
+  pub fits : Fits f (greetingText (c .input))
   pub valid : T (inRange s)
   pub read : readFrame (c .input) ≡ Accepted f
   pub leaves : called s c ≡ reported f acted (c .room)
@@ -51,7 +52,7 @@ pub record Works (s : State) (c : Call) (f : Frame) (acted : Acted) : Type 0 whe
 pub data Comes (s : State) (c : Call) : Type 0 where
   stopped : (answer : Answer) → Stops s c answer → Comes s c
   ticking : (shorts : ℕ) → Works s c (frame.Tick shorts) (ticked shorts s) → Comes s c
-  other : (f : Frame) → isTick (about (Accepted f)) ≡ false → Works s c f (actOf f s) → Comes s c
+  other : (f : Frame) → isTick (about (Accepted f)) ≡ false → Works s c f (actOf f (greetingText (c .input)) s) → Comes s c
 
 -- refusals 3 to 7 are among 1 to 7
 pub wider : (n : ℕ) → T (within 3 7 n) → T (within 1 7 n)
@@ -70,11 +71,13 @@ module _ (s : State) (c : Call) where
       (record { number = number; outside = outside; leaves = leaves; tick = rw leaves (not-zero (isTick (aboutOf c)) (answerNumber answer) number) })
 
   works :
-      (f : Frame) → isTick (about (Accepted f)) ≡ false → Fits f → readFrame (c .input) ≡ Accepted f → T (inRange s) →
-      called s c ≡ reported f (actOf f s) (c .room) → Comes s c
+      (f : Frame) → isTick (about (Accepted f)) ≡ false → Fits f (greetingText (c .input)) → readFrame (c .input) ≡ Accepted f → T (inRange s) →
+      called s c ≡ reported f (actOf f (greetingText (c .input)) s) (c .room) → Comes s c
   works f e fits read valid leaves = other f e (record { fits = fits; valid = valid; read = read; leaves = leaves; tick = rw (read, e) })
 
-  by-reading : (r : Reading) → Sound r → readFrame (c .input) ≡ r → T (inRange s) → called s c ≡ stepRead r s (c .room) → Comes s c
+  by-reading :
+      (r : Reading) → Sound (greetingText (c .input)) r → readFrame (c .input) ≡ r → T (inRange s) →
+      called s c ≡ stepRead r (greetingText (c .input)) s (c .room) → Comes s c
   unfolding actOf
   by-reading (Refused answer) sound e h w =
       stops answer (wider (answerNumber answer) sound) (λ one. absurd (omega (arith, within-low 3 7 (answerNumber answer) sound))) w
@@ -98,7 +101,7 @@ module _ (s : State) (c : Call) where
   comes = by-range (inRange s) refl
 
 -- with room, a call on a state in range comes to checks 3 to 7
-pub called-read : (s : State) (c : Call) → T (inRange s) → HasRoom c → called s c ≡ stepRead (readFrame (c .input)) s (c .room)
+pub called-read : (s : State) (c : Call) → T (inRange s) → HasRoom c → called s c ≡ stepRead (readFrame (c .input)) (greetingText (c .input)) s (c .room)
 unfolding stepOf
 called-read s c h r = rw (is-true (inRange s) h, le-leb reportBytes (length (c .room)) r)
 
@@ -121,11 +124,12 @@ take-roomy (suc n) (c ∷ cs) r = (r .0, take-roomy n cs (r .1))
 module _
     (P : State → Type 0)
     (tick-keeps : (shorts : ℕ) (s : State) → T (inRange s) → P s → P (ticked shorts s .state))
-    (frame-keeps : (f : Frame) → Fits f → isTick (about (Accepted f)) ≡ false → (s : State) → T (inRange s) → P s → P (actOf f s .state)) where
+    (frame-keeps :
+      (f : Frame) (text : List ℕ) → Fits f text → isTick (about (Accepted f)) ≡ false → (s : State) → T (inRange s) → P s → P (actOf f text s .state)) where
   keeps-by : (s : State) (c : Call) → P s → Comes s c → P (called s c .result .state)
   keeps-by s c p (stopped answer w) = rw (w .leaves) p
   keeps-by s c p (ticking shorts w) = rw (w .leaves) (tick-keeps shorts s (w .valid) p)
-  keeps-by s c p (other f e w) = rw (w .leaves) (frame-keeps f (w .fits) e s (w .valid) p)
+  keeps-by s c p (other f e w) = rw (w .leaves) (frame-keeps f (greetingText (c .input)) (w .fits) e s (w .valid) p)
 
   pub called-keeps : (s : State) (c : Call) → P s → P (called s c .result .state)
   called-keeps s c p = keeps-by s c p (comes s c)
@@ -139,20 +143,20 @@ abbrev InRange : State → Type 0
 InRange s = T (inRange s)
 
 pub called-in-range : (s : State) (c : Call) → T (inRange s) → T (inRange (called s c .result .state))
-called-in-range = called-keeps InRange (λ shorts s v h. ticked-in-range shorts s h) (λ f fits e s v h. act-in-range f fits e s h)
+called-in-range = called-keeps InRange (λ shorts s v h. ticked-in-range shorts s h) (λ f text fits e s v h. act-in-range f text fits e s h)
 
 pub after-in-range : (cs : List Call) (s : State) → T (inRange s) → T (inRange (after s cs))
-after-in-range = after-keeps InRange (λ shorts s v h. ticked-in-range shorts s h) (λ f fits e s v h. act-in-range f fits e s h)
+after-in-range = after-keeps InRange (λ shorts s v h. ticked-in-range shorts s h) (λ f text fits e s v h. act-in-range f text fits e s h)
 
 -- eight modules
-act-eight : (f : Frame) → Fits f → isTick (about (Accepted f)) ≡ false → (s : State) → Eight s → Eight (actOf f s .state)
-act-eight f fits e s n =
+act-eight : (f : Frame) (text : List ℕ) → Fits f text → isTick (about (Accepted f)) ≡ false → (s : State) → Eight s → Eight (actOf f text s .state)
+act-eight f text fits e s n =
     act-still Eight
-    (record { tension = λ v r t h. h; antennas = λ d t h. h; serial = λ o t h. h; request = λ which on end low t i h. asked-eight t h which on end; thresholds = λ a d r t h. h })
-    f fits e s n
+    (record { tension = λ v r t h. h; antennas = λ d t h. h; serial = λ o t h. h; request = λ which on end low t i h. asked-eight t h which on end; thresholds = λ a d r t h. h; message = λ r n x g t h. h })
+    f text fits e s n
 
 pub called-eight : (s : State) (c : Call) → Eight s → Eight (called s c .result .state)
-called-eight = called-keeps Eight (λ shorts s v n. ticked-eight shorts s n) (λ f fits e s v n. act-eight f fits e s n)
+called-eight = called-keeps Eight (λ shorts s v n. ticked-eight shorts s n) (λ f text fits e s v n. act-eight f text fits e s n)
 
 pub after-eight : (cs : List Call) (s : State) → Eight s → Eight (after s cs)
-after-eight = after-keeps Eight (λ shorts s v n. ticked-eight shorts s n) (λ f fits e s v n. act-eight f fits e s n)
+after-eight = after-keeps Eight (λ shorts s v n. ticked-eight shorts s n) (λ f text fits e s v n. act-eight f text fits e s n)

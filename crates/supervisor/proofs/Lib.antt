@@ -1,3 +1,4 @@
+pub mod MessageLaws
 pub mod RangeLaws
 pub mod ControlLaws
 pub mod ModuleLaws

@@ -4,6 +4,7 @@ use Prim.Native.Nat.{ℕ, _+_, _-_}
 use native.Mathlib.Omega.{arith}
 use mathlib.Core.Path.{_≡_}
 use mathlib.Core.Bool.{Bool, true, false, _||_, true≢false}
+use mathlib.Core.List.{List}
 use lib.Dec.{T, eqb, ltb→lt, lt→ltb}
 use borrow.Author.Tests.{eqb-false}
 use Rattle.basics.proofs.ChoiceLaws.{and-left, and-right, and-both, or-right, within-high, within-of, decided}
@@ -17,8 +18,9 @@ use Rattle.frames.specs.declared.frame.Frame.{Frame}
 use Rattle.frames.specs.declared.reading.Reading.the-variants.{Accepted}
 use Rattle.frames.proofs.ReadingLaws.{Fits}
 use Rattle.supervisor.specs.State.{isDeployWait}
-use Rattle.supervisor.specs.Range.{inRange, watchInRange, phaseInRange, batteryInRange, waitSeconds, settleSeconds}
+use Rattle.supervisor.specs.Range.{inRange, watchInRange, phaseInRange, batteryInRange, messageInRange, waitSeconds, settleSeconds}
 use Rattle.supervisor.specs.Deploy.{phaseTicked}
+use Rattle.supervisor.specs.Message.{isToBeSent}
 use Rattle.supervisor.specs.Due.{beaconStage}
 use Rattle.supervisor.specs.Tick.{allowedIn, beforeModules, moduleStage, ticked}
 use Rattle.supervisor.specs.Command.{requestSet}
@@ -31,8 +33,9 @@ use Rattle.supervisor.specs.declared.state.Battery.{Battery}
 use Rattle.supervisor.specs.declared.state.State.{State}
 use Rattle.supervisor.proofs.RangeLaws.{Valid, parts, whole, phase-in-range, counts-zero, phase-watch, Low, low-tested, counts-watch}
 use Rattle.supervisor.proofs.RangeLaws.{counts-of}
-use Rattle.supervisor.proofs.BeforeModulesLaws.{before-flies, before-control, before-beacon, before-battery, before-ends-in-range}
+use Rattle.supervisor.proofs.BeforeModulesLaws.{before-flies, before-control, before-beacon, before-battery, before-message, before-ends-in-range}
 use Rattle.supervisor.proofs.BeforeModulesLaws.{before-modules-in-range}
+use Rattle.supervisor.proofs.MessageLaws.{kept-in-range}
 use Rattle.supervisor.proofs.DueLaws.{count-low}
 use Rattle.supervisor.proofs.TickLaws.{Ticks, waits, runs, ticks}
 use Rattle.supervisor.proofs.ActLaws.{Still, act-still}
@@ -44,6 +47,7 @@ Running s =
       flies : isDeployWait (s .watch .mode) ≡ false;
       low : Low (s .watch .control) (s .watch .beacon);
       battery : T (batteryInRange (s .battery));
+      message : T (messageInRange (s .message));
       ends : T (endsInRange (s .ends));
       modules : T (modulesInRange (s .modules));
     }
@@ -55,6 +59,7 @@ before-running s v =
       flies = before-flies s (v .flies);
       low = record { control = before-control s (v .low .control); beacon = rw (before-beacon s) (v .low .beacon) };
       battery = rw (before-battery s) (v .battery);
+      message = rw (before-message s) (v .message);
       ends = before-ends-in-range s (v .ends);
       modules = before-modules-in-range s (v .modules);
     }
@@ -67,6 +72,7 @@ stage-running shorts s v =
       flies = v .flies;
       low = v .low;
       battery = v .battery;
+      message = v .message;
       ends = v .ends;
       modules = stage-in-range (allowedIn (s .watch .mode)) shorts (s .modules) (v .modules);
     }
@@ -78,8 +84,9 @@ beacon-valid s v =
     record {
       watch =
           counts-watch (s .watch .mode) (s .watch .control) _ (v .flies)
-          (record { control = v .low .control; beacon = count-low (s .watch .mode) (s .watch .beacon + 1) (v .flies) (omega arith) });
+          (record { control = v .low .control; beacon = count-low (s .watch .mode) (isToBeSent (s .message)) (s .watch .beacon + 1) (v .flies) (omega arith) });
       battery = v .battery;
+      message = v .message;
       ends = v .ends;
       modules = v .modules;
     }
@@ -112,6 +119,7 @@ by-ticks shorts s h (waits phase e w) =
     (record {
       watch = phase-valid (s .antennas) phase c b (phase-in-range phase c b watch) (counts-zero phase c b watch);
       battery = v .battery;
+      message = v .message;
       ends = v .ends;
       modules = v .modules;
     })
@@ -120,7 +128,7 @@ by-ticks shorts s h (runs e w) =
     rw w
     (beacon-valid (moduleStage shorts (beforeModules s))
     (stage-running shorts (beforeModules s)
-    (before-running s (record { flies = e; low = counts-of s h e; battery = v .battery; ends = v .ends; modules = v .modules }))))
+    (before-running s (record { flies = e; low = counts-of s h e; battery = v .battery; message = v .message; ends = v .ends; modules = v .modules }))))
 
 pub ticked-in-range : (shorts : ℕ) (s : State) → T (inRange s) → T (inRange (ticked shorts s .state))
 ticked-in-range shorts s h = whole (ticked shorts s .state) (by-ticks shorts s h (ticks shorts s))
@@ -144,18 +152,28 @@ valid-still : Still Valid
 unfolding requestSet
 valid-still =
     record {
-      tension = λ millivolts r s v. record { watch = v .watch; battery = tension-valid millivolts (s .battery) r (v .battery); ends = v .ends; modules = v .modules };
+      tension = λ millivolts r s v. record { watch = v .watch; battery = tension-valid millivolts (s .battery) r (v .battery); message = v .message; ends = v .ends; modules = v .modules };
       antennas = λ deployed s v. v;
       serial = λ sender s v. v;
       request =
           λ which on end low s e v. record {
             watch = v .watch;
             battery = v .battery;
+            message = v .message;
             ends = set-in-range which end (s .ends) low (v .ends);
             modules = asked-in-range which on (s .modules) (v .modules);
           };
-      thresholds = λ ascend descend r s v. record { watch = v .watch; battery = thresholds-valid ascend descend (s .battery) r (v .battery); ends = v .ends; modules = v .modules };
+      thresholds = λ ascend descend r s v. record { watch = v .watch; battery = thresholds-valid ascend descend (s .battery) r (v .battery); message = v .message; ends = v .ends; modules = v .modules };
+      message =
+          λ repeats length text fair s v. record {
+            watch = v .watch;
+            battery = v .battery;
+            message = kept-in-range repeats length text fair;
+            ends = v .ends;
+            modules = v .modules;
+          };
     }
 
-pub act-in-range : (f : Frame) → Fits f → isTick (about (Accepted f)) ≡ false → (s : State) → T (inRange s) → T (inRange (actOf f s .state))
-act-in-range f fits e s h = whole (actOf f s .state) (act-still Valid valid-still f fits e s (parts s h))
+pub act-in-range :
+    (f : Frame) (text : List ℕ) → Fits f text → isTick (about (Accepted f)) ≡ false → (s : State) → T (inRange s) → T (inRange (actOf f text s .state))
+act-in-range f text fits e s h = whole (actOf f text s .state) (act-still Valid valid-still f text fits e s (parts s h))

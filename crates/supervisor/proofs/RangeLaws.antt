@@ -8,7 +8,7 @@ use Rattle.basics.proofs.ChoiceLaws.{and-left, and-right, and-both}
 use Rattle.modules.specs.Ends.{endsInRange}
 use Rattle.modules.specs.Stage.{modulesInRange}
 use Rattle.supervisor.specs.State.{isDeployWait}
-use Rattle.supervisor.specs.Range.{judgeTicks, basicTicks, watchInRange, batteryInRange, phaseInRange, inRange}
+use Rattle.supervisor.specs.Range.{judgeTicks, basicTicks, watchInRange, batteryInRange, phaseInRange, messageInRange, inRange}
 use Rattle.supervisor.specs.declared.state.Phase.{Phase}
 use Rattle.supervisor.specs.declared.state.Mode.{Mode}
 use Rattle.supervisor.specs.declared.state.Mode.the-variants.{DeployWait, Recovery, Safe}
@@ -20,17 +20,25 @@ Valid s =
     record {
       watch : T (watchInRange (s .watch .mode) (s .watch .control) (s .watch .beacon));
       battery : T (batteryInRange (s .battery));
+      message : T (messageInRange (s .message));
       ends : T (endsInRange (s .ends));
       modules : T (modulesInRange (s .modules));
     }
 
 pub parts : (s : State) → T (inRange s) → Valid s
 unfolding inRange
-parts s h = record { watch = search (and-left, and-right); battery = search (and-left, and-right); ends = search (and-left, and-right); modules = search (and-left, and-right) }
+parts s h =
+    record {
+      watch = search (and-left, and-right);
+      battery = search (and-left, and-right);
+      message = search (and-left, and-right);
+      ends = search (and-left, and-right);
+      modules = search (and-left, and-right);
+    }
 
 pub whole : (s : State) → Valid s → T (inRange s)
 unfolding inRange
-whole s v = search (and-both, v) depth 8
+whole s v = search (and-both, v) depth 10
 
 -- in DEPLOY_WAIT: the phase, and both counts 0
 pub phase-in-range : (phase : Phase) (control beacon : ℕ) → T (watchInRange (DeployWait phase) control beacon) → T (phaseInRange phase)

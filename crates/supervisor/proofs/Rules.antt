@@ -5,9 +5,13 @@ use Rattle.modules.specs.Power.{switched}
 use Rattle.modules.specs.Ends.{endOf, endsFallen, endsOver, withEnd, endsInRange}
 use Rattle.modules.specs.Stage.{stageOf, requestedBy, requestedOne, modulesInRange}
 use Rattle.modules.specs.Masks.{maskOf, masksOf}
+use Rattle.morse.specs.Signs.{alphabet, signOf}
+use Rattle.morse.specs.Texts.{faultOf}
 use Rattle.frames.specs.Kind.{totalOf}
 use Rattle.frames.specs.Serial.{classOf}
-use Rattle.frames.specs.Reading.{batteryFields, antennasFields, orderFields, timedFields, thresholdsFields, readFrame}
+use Rattle.frames.specs.Reading.{batteryFields, antennasFields, orderFields, timedFields, thresholdsFields}
+use Rattle.frames.specs.Reading.{greetingFields, readFrame}
+use Rattle.frames.specs.Greeting.{isGreeting, greetingText}
 use Rattle.supervisor.specs.Range.{inRange}
 use Rattle.supervisor.specs.Fresh.{freshState}
 use Rattle.supervisor.specs.Command.{isIllTimed, requestSet, bySerial}
@@ -26,7 +30,7 @@ modules = tt
 
 -- of the frames
 frames : Unit {0}
-unfolding totalOf classOf batteryFields antennasFields orderFields timedFields thresholdsFields readFrame
+unfolding alphabet signOf faultOf isGreeting greetingText totalOf classOf batteryFields antennasFields orderFields timedFields thresholdsFields greetingFields readFrame
 frames = tt
 
 -- all

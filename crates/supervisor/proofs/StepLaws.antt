@@ -12,6 +12,7 @@ use Rattle.basics.specs.Outcome.{Outcome}
 use Rattle.basics.proofs.ChoiceLaws.{is-true, either, decided, same-test}
 use Rattle.frames.specs.Answer.{answerNumber, isReported}
 use Rattle.frames.specs.Kind.{reportBytes}
+use Rattle.frames.specs.Greeting.{greetingText}
 use Rattle.frames.specs.Reading.{readFrame}
 use Rattle.frames.specs.declared.answer.Answer.the-variants.{BadState, ShortRoom}
 use Rattle.frames.specs.declared.reading.Reading.{Reading}
@@ -35,9 +36,9 @@ unfolding stepOf
 step-outside s frame room e = simp e
 
 -- what is accepted gets a report, and nothing else does
-pub read-reported : (r : Reading) → Sound r → (s : State) (room : List ℕ) → isReported (stepRead r s room .result .answer) ≡ isAccepted r
-read-reported (Refused answer) sound s room = refusal answer (wider (answerNumber answer) sound)
-read-reported (Accepted f) sound s room = reported-number (actOf f s .answer) ∙ ap not (unrefused f s (actOf f s) (act-answers f s))
+pub read-reported : (r : Reading) (text : List ℕ) → Sound text r → (s : State) (room : List ℕ) → isReported (stepRead r text s room .result .answer) ≡ isAccepted r
+read-reported (Refused answer) text sound s room = refusal answer (wider (answerNumber answer) sound)
+read-reported (Accepted f) text sound s room = reported-number (actOf f text s .answer) ∙ ap not (unrefused f s (actOf f text s) (act-answers f text s))
 
 module _ (s : State) (c : Call) where
   valid-by : Comes s c → isReported (called s c .result .answer) ≡ true → T (inRange s)
@@ -52,7 +53,7 @@ module _ (s : State) (c : Call) where
   left-by : Comes s c → isReported (called s c .result .answer) ≡ false → called s c ≡ refused (called s c .result .answer) s (c .room)
   left-by (stopped a w) e = rw (w .leaves)
   left-by (ticking shorts w) e = absurd (false≢true (sym e ∙ rw (w .leaves, ticked-done shorts s)))
-  left-by (other f t w) e = absurd (false≢true (sym e ∙ rw (w .leaves) (read-reported (Accepted f) (w .fits) s (c .room))))
+  left-by (other f t w) e = absurd (false≢true (sym e ∙ rw (w .leaves) (read-reported (Accepted f) (greetingText (c .input)) (w .fits) s (c .room))))
 
   -- with none, state and room are the same
   pub refused-left : isReported (called s c .result .answer) ≡ false → called s c ≡ refused (called s c .result .answer) s (c .room)
@@ -64,14 +65,14 @@ pub record Written (room : List ℕ) (after : Outcome Stepped) : Type 0 where
   pub past : drop reportBytes (after .room) ≡ drop reportBytes room
   pub same-length : length (after .room) ≡ length room
 
-read-written : (r : Reading) (s : State) (room : List ℕ) → reportBytes ≤ length room → Written room (stepRead r s room)
+read-written : (r : Reading) (text : List ℕ) (s : State) (room : List ℕ) → reportBytes ≤ length room → Written room (stepRead r text s room)
 unfolding reportOf
-read-written (Refused answer) s room h = record { fits = λ e. h; past = refl; same-length = refl }
-read-written (Accepted f) s room h =
+read-written (Refused answer) text s room h = record { fits = λ e. h; past = refl; same-length = refl }
+read-written (Accepted f) text s room h =
     record {
       fits = λ e. h;
       past = refl;
-      same-length = length-append (reportOf f (actOf f s)) (drop reportBytes room) ∙ rw (length-drop reportBytes room) (omega arith);
+      same-length = length-append (reportOf f (actOf f text s)) (drop reportBytes room) ∙ rw (length-drop reportBytes room) (omega arith);
     }
 
 pub step-written : (s : State) (frame room : List ℕ) → Written room (stepOf s frame room)
@@ -79,7 +80,7 @@ unfolding stepOf
 step-written s frame room =
     either (Written room) (inRange s)
     (decided (Written room) (leb reportBytes (length room))
-    (λ fits. read-written (readFrame frame) s room (leb-true reportBytes (length room) fits))
+    (λ fits. read-written (readFrame frame) (greetingText frame) s room (leb-true reportBytes (length room) fits))
     (λ t. record { fits = λ e. absurd (false≢true e); past = refl; same-length = refl }))
     (record { fits = λ e. absurd (false≢true e); past = refl; same-length = refl })
 
@@ -89,16 +90,16 @@ pub record Alike (left right : Outcome Stepped) : Type 0 where
   pub report : isReported (left .result .answer) ≡ true → take reportBytes (left .room) ≡ take reportBytes (right .room)
 
 module _ (s : State) (room room′ : List ℕ) where
-  read-alike : (r : Reading) → Sound r → Alike (stepRead r s room) (stepRead r s room′)
+  read-alike : (r : Reading) (text : List ℕ) → Sound text r → Alike (stepRead r text s room) (stepRead r text s room′)
   unfolding reportOf
-  read-alike (Refused answer) w = record { result = refl; report = λ e. absurd (true≢false (sym e ∙ read-reported (Refused answer) w s room)) }
-  read-alike (Accepted f) w = record { result = refl; report = λ e. refl }
+  read-alike (Refused answer) text w = record { result = refl; report = λ e. absurd (true≢false (sym e ∙ read-reported (Refused answer) text w s room)) }
+  read-alike (Accepted f) text w = record { result = refl; report = λ e. refl }
 
   pub step-alike : (frame : List ℕ) → reportBytes ≤ length room → reportBytes ≤ length room′ → Alike (stepOf s frame room) (stepOf s frame room′)
   unfolding stepOf
   step-alike frame h h′ =
       rw (le-leb reportBytes (length room) h, le-leb reportBytes (length room′) h′)
-      (same-test Alike (inRange s) (inRange s) refl (read-alike (readFrame frame) (read-sound frame))
+      (same-test Alike (inRange s) (inRange s) refl (read-alike (readFrame frame) (greetingText frame) (read-sound frame))
       (record { result = refl; report = λ e. absurd (false≢true e) }))
 
 -- with no room for a report, a state in range is refused with 2
@@ -111,7 +112,7 @@ pub reported-accepted : (s : State) (frame room : List ℕ) → isReported (step
 unfolding stepOf
 reported-accepted s frame room =
     either Accepts (inRange s)
-    (either Accepts (leb reportBytes (length room)) (λ e. sym (read-reported (readFrame frame) (read-sound frame) s room) ∙ e) (λ e. absurd (false≢true e)))
+    (either Accepts (leb reportBytes (length room)) (λ e. sym (read-reported (readFrame frame) (greetingText frame) (read-sound frame) s room) ∙ e) (λ e. absurd (false≢true e)))
     (λ e. absurd (false≢true e))
   where
     Accepts : Outcome Stepped → Type 0

@@ -4,15 +4,16 @@ use Prim.Native.Nat.{ℕ}
 use Rattle.frames.specs.declared.answer.Answer.{Answer}
 use Rattle.frames.specs.declared.answer.Answer.the-variants.{Done}
 use Rattle.supervisor.specs.declared.acted.Due.{Due}
-use Rattle.supervisor.specs.declared.acted.Due.the-variants.{Nothing, Basic, Complete}
+use Rattle.supervisor.specs.declared.acted.Due.the-variants.{Nothing, Basic, Complete, Extended}
 use Rattle.supervisor.specs.declared.state.State.{State}
 use Rattle.supervisor.specs.declared.acted.Acted.{Acted}
 
--- beacon: 0 none, 1 basic, 2 complete
+-- beacon: 0 none, 1 basic, 2 complete, 3 extended
 abbrev pub dueNumber : Due → ℕ
 dueNumber Nothing = 0
 dueNumber Basic = 1
 dueNumber Complete = 2
+dueNumber Extended = 3
 
 -- no beacon due, always so but for a tick
 abbrev pub silent : Answer → State → Acted

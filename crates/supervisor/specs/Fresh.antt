@@ -8,7 +8,7 @@ use Rattle.modules.specs.Groups.{moduleCount, coreFour}
 use Rattle.modules.specs.Ends.{noEnds}
 use Rattle.modules.specs.Stage.{requestedBy}
 use Rattle.modules.specs.declared.power.Module.{Module}
-use Rattle.supervisor.specs.State.{offModule}
+use Rattle.supervisor.specs.State.{offModule, noMessage}
 use Rattle.supervisor.specs.declared.state.Phase.the-variants.{Waiting}
 use Rattle.supervisor.specs.declared.state.Mode.the-variants.{DeployWait}
 use Rattle.supervisor.specs.declared.state.State.{State}
@@ -26,7 +26,7 @@ abbrev pub freshDescend : ℕ
 freshDescend = 7000
 
 -- DEPLOY_WAIT, waited 0 seconds, antennas folded, tension 0, ascend 7,400, descend 7,000, both counts 0,
--- both last serials 0, no end
+-- both last serials 0, no message, no end
 unfoldable pub freshState : State
 freshState =
     record {
@@ -34,6 +34,7 @@ freshState =
       antennas = false;
       battery = record { tension = 0; ascend = freshAscend; descend = freshDescend };
       serials = record { ground = 0; payload = 0 };
+      message = noMessage;
       ends = noEnds;
       modules = freshModules;
     }

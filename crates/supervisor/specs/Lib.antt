@@ -1,4 +1,5 @@
 pub mod State
+pub mod Message
 pub mod Fresh
 pub mod Range
 pub mod Acted

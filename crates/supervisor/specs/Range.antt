@@ -5,6 +5,7 @@ use mathlib.Core.Bool.{Bool, _&&_, _||_}
 use lib.Dec.{ltb, eqb}
 use Rattle.basics.specs.Choice.{within}
 use Rattle.frames.specs.Reading.{isReading, areThresholds}
+use Rattle.frames.specs.Greeting.{isGreeting}
 use Rattle.modules.specs.Ends.{endsInRange}
 use Rattle.modules.specs.Stage.{modulesInRange}
 use Rattle.supervisor.specs.declared.state.Phase.{Phase}
@@ -12,6 +13,7 @@ use Rattle.supervisor.specs.declared.state.Phase.the-variants.{Waiting, 
 use Rattle.supervisor.specs.declared.state.Mode.{Mode}
 use Rattle.supervisor.specs.declared.state.Mode.the-variants.{DeployWait, Recovery, Safe}
 use Rattle.supervisor.specs.declared.state.Battery.{Battery}
+use Rattle.supervisor.specs.declared.state.Message.{Message}
 use Rattle.supervisor.specs.declared.state.State.{State}
 
 -- the seconds after which waiting for the antennas ends
@@ -49,8 +51,13 @@ watchInRange (DeployWait phase) control beacon = phaseInRange phase && eqb contr
 watchInRange Recovery control beacon = ltb control judgeTicks && ltb beacon basicTicks
 watchInRange Safe control beacon = ltb control judgeTicks && ltb beacon basicTicks
 
+-- the same limits as in a frame, of the message in the state
+abbrev pub messageInRange : Message → Bool
+messageInRange m = isGreeting (m .length) (m .text)
+
 -- check 1 passes
 unfoldable pub inRange : State → Bool
 inRange s =
     watchInRange (s .watch .mode) (s .watch .control) (s .watch .beacon)
-    && batteryInRange (s .battery) && endsInRange (s .ends) && modulesInRange (s .modules)
+    && batteryInRange (s .battery) && messageInRange (s .message) && endsInRange (s .ends)
+    && modulesInRange (s .modules)

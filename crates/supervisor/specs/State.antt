@@ -3,7 +3,7 @@
 use Prim.Native.Nat.{ℕ}
 use mathlib.Core.Bool.{Bool, true, false}
 use mathlib.Core.List.{List}
-use lib.ListN.{getD}
+use lib.ListN.{getD, replicate}
 use Rattle.modules.specs.Power.{fullTries}
 use Rattle.modules.specs.Ends.{endOf}
 use Rattle.modules.specs.declared.power.Power.the-variants.{Off}
@@ -13,6 +13,8 @@ use Rattle.supervisor.specs.declared.state.Mode.{Mode}
 use Rattle.supervisor.specs.declared.state.Mode.the-variants.{DeployWait, Recovery, Safe}
 use Rattle.supervisor.specs.declared.state.Watch.{Watch}
 use Rattle.supervisor.specs.declared.state.Battery.{Battery}
+use Rattle.supervisor.specs.declared.state.Message.{Message}
+use Rattle.frames.specs.Greeting.{longestGreeting}
 use Rattle.frames.specs.declared.serial.Serials.{Serials}
 use Rattle.supervisor.specs.declared.state.State.{State}
 
@@ -56,6 +58,10 @@ moduleAt i s = getD (s .modules) i offModule
 abbrev pub endAt : ℕ → State → ℕ
 endAt i s = endOf i (s .ends)
 
+-- no message: all zeros
+abbrev pub noMessage : Message
+noMessage = record { repeats = 0; length = 0; text = replicate longestGreeting 0 }
+
 -- the state with another watch
 abbrev pub withWatch : Watch → State → State
 withWatch watch s =
@@ -64,6 +70,7 @@ withWatch watch s =
       antennas = s .antennas;
       battery = s .battery;
       serials = s .serials;
+      message = s .message;
       ends = s .ends;
       modules = s .modules;
     }
@@ -76,6 +83,7 @@ withAntennas deployed s =
       antennas = deployed;
       battery = s .battery;
       serials = s .serials;
+      message = s .message;
       ends = s .ends;
       modules = s .modules;
     }
@@ -88,6 +96,7 @@ withBattery battery s =
       antennas = s .antennas;
       battery = battery;
       serials = s .serials;
+      message = s .message;
       ends = s .ends;
       modules = s .modules;
     }
@@ -100,6 +109,20 @@ withSerials serials s =
       antennas = s .antennas;
       battery = s .battery;
       serials = serials;
+      message = s .message;
+      ends = s .ends;
+      modules = s .modules;
+    }
+
+-- with another message
+abbrev pub withMessage : Message → State → State
+withMessage message s =
+    record {
+      watch = s .watch;
+      antennas = s .antennas;
+      battery = s .battery;
+      serials = s .serials;
+      message = message;
       ends = s .ends;
       modules = s .modules;
     }
@@ -112,6 +135,7 @@ withEnds ends s =
       antennas = s .antennas;
       battery = s .battery;
       serials = s .serials;
+      message = s .message;
       ends = ends;
       modules = s .modules;
     }
@@ -124,6 +148,7 @@ withModules modules s =
       antennas = s .antennas;
       battery = s .battery;
       serials = s .serials;
+      message = s .message;
       ends = s .ends;
       modules = modules;
     }
@@ -147,6 +172,11 @@ withBeacon count s =
 abbrev pub withTension : ℕ → State → State
 withTension tension s =
     withBattery (record { tension = tension; ascend = s .battery .ascend; descend = s .battery .descend }) s
+
+-- with other repeats of the message
+abbrev pub withRepeats : ℕ → State → State
+withRepeats repeats s =
+    withMessage (record { repeats = repeats; length = s .message .length; text = s .message .text }) s
 
 -- with other thresholds
 abbrev pub withThresholds : (ascend descend : ℕ) → State → State

@@ -7,6 +7,7 @@ use lib.ListN.{length, drop}
 use Rattle.basics.specs.Choice.{if_then_else_}
 use Rattle.basics.specs.Outcome.{Outcome, outcome}
 use Rattle.frames.specs.Kind.{reportBytes}
+use Rattle.frames.specs.Greeting.{greetingText}
 use Rattle.frames.specs.Reading.{readFrame}
 use Rattle.frames.specs.declared.answer.Answer.{Answer}
 use Rattle.frames.specs.declared.answer.Answer.the-variants.{BadState, ShortRoom}
@@ -29,14 +30,15 @@ abbrev pub reported : Frame → Acted → (room : List ℕ) → Outcome Stepped
 reported frame acted room =
     outcome (record { answer = acted .answer; state = acted .state }) (reportOf frame acted ++ drop reportBytes room)
 
--- checks 3 to 7, then what the frame does
-abbrev pub stepRead : Reading → State → (room : List ℕ) → Outcome Stepped
-stepRead (Refused answer) s room = refused answer s room
-stepRead (Accepted frame) s room = reported frame (actOf frame s) room
+-- checks 3 to 7, then what the frame does, with the text beside it
+abbrev pub stepRead : Reading → (text : List ℕ) → State → (room : List ℕ) → Outcome Stepped
+stepRead (Refused answer) text s room = refused answer s room
+stepRead (Accepted frame) text s room = reported frame (actOf frame text s) room
 
 -- check 1: the state outside its ranges; check 2: fewer than 11 bytes of reply room
 unfoldable pub stepOf : State → (input room : List ℕ) → Outcome Stepped
 stepOf s input room =
     if inRange s then
-    (if leb reportBytes (length room) then stepRead (readFrame input) s room else refused ShortRoom s room)
+    (if leb reportBytes (length room) then stepRead (readFrame input) (greetingText input) s room
+    else refused ShortRoom s room)
     else refused BadState s room

@@ -9,6 +9,7 @@ pub enum Due {
     Nothing,
     Basic,
     Complete,
+    Extended,
 }
 
 impl Due {
@@ -20,6 +21,7 @@ impl Due {
             Due::Nothing => 0,
             Due::Basic => 1,
             Due::Complete => 2,
+            Due::Extended => 3,
         }
     }
 }

@@ -1,13 +1,16 @@
 // What a command does: its serial is judged, once for every command, and then it is taken.
 // No command switches a module or changes the mode.
 ghost use mathlib.Core.Path.{_≡_};
-ghost use Rattle.supervisor.specs.Command.{isIllTimed, orderTaken, thresholdsTaken, taken, bySerial};
+ghost use Rattle.supervisor.specs.Command.{isIllTimed, orderTaken, thresholdsTaken, greetingTaken};
+ghost use Rattle.supervisor.specs.Command.{taken, bySerial};
 use crate::acted::Acted;
 use crate::acted::silent;
+use crate::message::message_from;
 use crate::state::Mode;
 use crate::state::State;
 use frames::answer::Answer;
 use frames::command::Command;
+use frames::greeting::LONGEST;
 use frames::sender::Sender;
 use frames::serial::Class;
 use modules::groups::is_mission;
@@ -51,20 +54,34 @@ impl State {
         silent(Answer::Done, self)
     }
 
-    // A command whose serial is fresh, by what it is.
-    fn take(self, command: Command) -> Acted
-        ensures { λ r. ⌜ r ≡ taken command self ⌝ }
+    // A greeting: its message is kept.
+    fn greeting(mut self, repeats: u8, length: u8, text: [u8; LONGEST]) -> Acted
+        ensures { λ r. ⌜ r ≡ greetingTaken repeats length text self ⌝ }
+    {
+        self.message = message_from(repeats, length, text);
+        silent(Answer::Done, self)
+    }
+
+    // A command whose serial is fresh, by what it is; a greeting's text stands beside it.
+    fn take(self, command: Command, text: [u8; LONGEST]) -> Acted
+        ensures { λ r. ⌜ r ≡ taken command text self ⌝ }
     {
         match command {
             Command::Order { which, on } => self.order(which, on, 0),
             Command::Timed { which, minutes } => self.order(which, true, MINUTE * (minutes as u32)),
             Command::Thresholds { ascend, descend } => self.thresholds(ascend, descend),
+            Command::Greeting { repeats, length } => self.greeting(repeats, length, text),
         }
     }
 
     // 8 or 9 by the serial; a fresh one is used up, and the command is taken.
-    pub(crate) fn command(mut self, sender: Sender, command: Command) -> Acted
-        ensures { λ r. ⌜ r ≡ bySerial sender command self ⌝ }
+    pub(crate) fn command(
+        mut self,
+        sender: Sender,
+        command: Command,
+        text: [u8; LONGEST],
+    ) -> Acted
+        ensures { λ r. ⌜ r ≡ bySerial sender command text self ⌝ }
     {
         let origin = sender.origin;
         let serial = sender.serial;
@@ -74,7 +91,7 @@ impl State {
             Class::Fresh => {
                 let serials = self.serials.moved(origin, serial);
                 self.serials = serials;
-                self.take(command)
+                self.take(command, text)
             }
         }
     }

@@ -2,7 +2,7 @@
 ghost use mathlib.Core.Path.{_≡_};
 ghost use Prim.Native.Nat.{_<_};
 ghost use Rattle.supervisor.specs.Range.{basicTicks};
-ghost use Rattle.supervisor.specs.Due.{dueAt, countAfter, beaconStage};
+ghost use Rattle.supervisor.specs.Due.{dueAt, countAfter, repeatsAfter, beaconStage};
 use crate::acted::Acted;
 use crate::acted::Due;
 use crate::range::BASIC_TICKS;
@@ -12,9 +12,9 @@ use crate::state::State;
 use frames::answer::Answer;
 
 impl Mode {
-    // The beacon that is due in this mode at this count.
-    fn due(self, count: u16) -> Due
-        ensures { λ r. ⌜ r ≡ dueAt self count ⌝ }
+    // The beacon that is due in this mode at this count, whether or not a message is to be sent.
+    fn due(self, greets: bool, count: u16) -> Due
+        ensures { λ r. ⌜ r ≡ dueAt self greets count ⌝ }
     {
         match self {
             Mode::DeployWait(_) => Due::Nothing,
@@ -24,7 +24,7 @@ impl Mode {
                 Due::Nothing
             },
             Mode::Safe => if count % COMPLETE_TICKS == 0 {
-                Due::Complete
+                if greets { Due::Extended } else { Due::Complete }
             } else {
                 Due::Nothing
             },
@@ -41,6 +41,19 @@ impl Due {
             Due::Nothing => count,
             Due::Basic => 0,
             Due::Complete => 0,
+            Due::Extended => 0,
+        }
+    }
+
+    // The message's repeats, one fewer where it is sent.
+    fn repeats(self, repeats: u8) -> u8
+        ensures { λ r. ⌜ r ≡ repeatsAfter self repeats ⌝ }
+    {
+        match self {
+            Due::Nothing => repeats,
+            Due::Basic => repeats,
+            Due::Complete => repeats,
+            Due::Extended => if repeats == 0 { 0 } else { repeats - 1 },
         }
     }
 }
@@ -54,9 +67,12 @@ impl State {
         let watch = self.watch;
         let mode = watch.mode;
         let count = watch.beacon + 1;
-        let due = mode.due(count);
+        let message = self.message;
+        let due = mode.due(message.is_to_be_sent(), count);
         let after = due.count(count);
+        let left = due.repeats(message.repeats);
         self.watch.beacon = after;
+        self.message.repeats = left;
         Acted {
             state: self,
             answer: Answer::Done,

@@ -1,6 +1,7 @@
 // The fresh start.
 ghost use mathlib.Core.Path.{_≡_};
 ghost use Rattle.supervisor.specs.Fresh.{freshState};
+use crate::message::none;
 use crate::state::Battery;
 use crate::state::Mode;
 use crate::state::Phase;
@@ -44,6 +45,7 @@ pub fn fresh() -> State
             ground: 0,
             payload: 0,
         },
+        message: none(),
         ends: modules::ends::none(),
         modules,
     }

@@ -1,11 +1,14 @@
 // The ranges of check 1.
 ghost use mathlib.Core.Path.{_≡_};
-ghost use Rattle.supervisor.specs.Range.{batteryInRange, phaseInRange, watchInRange, inRange};
+ghost use Rattle.supervisor.specs.Range.{batteryInRange, phaseInRange, watchInRange};
+ghost use Rattle.supervisor.specs.Range.{messageInRange, inRange};
 use crate::state::Battery;
+use crate::state::Message;
 use crate::state::Mode;
 use crate::state::Phase;
 use crate::state::State;
 use crate::state::Watch;
+use frames::greeting::is_greeting;
 use frames::reading::are_thresholds;
 use frames::reading::is_reading;
 
@@ -61,6 +64,15 @@ impl Watch {
     }
 }
 
+impl Message {
+    // Whether it is within a greeting's limits; any repeats are.
+    fn in_range(self) -> bool
+        ensures { λ r. ⌜ r ≡ messageInRange self ⌝ }
+    {
+        is_greeting(self.length, self.text)
+    }
+}
+
 impl State {
     // Check 1.
     pub fn in_range(self) -> bool
@@ -69,6 +81,7 @@ impl State {
         let modules = self.modules;
         self.watch.in_range()
             & self.battery.in_range()
+            & self.message.in_range()
             & self.ends.in_range()
             & modules::stage::in_range(modules)
     }

@@ -1,6 +1,7 @@
 // The supervisor's state.
 ghost use mathlib.Core.Path.{_≡_};
 ghost use Rattle.supervisor.specs.State.{modeNumber, isSafe, withMode, withModules};
+use frames::greeting::LONGEST;
 use frames::serial::Serials;
 use modules::ends::Ends;
 use modules::power::Module;
@@ -34,6 +35,13 @@ pub struct Battery {
     pub descend: u16,
 }
 
+// What a school has the beacon say: the beacons that it is still to be sent with, and its text, none where the length is 0.
+pub struct Message {
+    pub repeats: u8,
+    pub length: u8,
+    pub text: [u8; LONGEST],
+}
+
 // All that the board remembers from one frame to the next.
 pub struct State {
     pub watch: Watch,
@@ -41,6 +49,7 @@ pub struct State {
     pub antennas: bool,
     pub battery: Battery,
     pub serials: Serials,
+    pub message: Message,
     pub ends: Ends,
     pub modules: [Module; 8],
 }

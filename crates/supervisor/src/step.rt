@@ -6,6 +6,7 @@ use crate::act::act;
 use crate::report::write;
 use crate::state::State;
 use frames::answer::Answer;
+use frames::greeting::text_of;
 use frames::kind::REPORT_BYTES;
 use frames::reading::Reading;
 use frames::reading::read;
@@ -39,7 +40,7 @@ pub fn step(state: State, input: &[u8], room: &mut [u8]) -> Stepped
             return Stepped { answer, state };
         }
         Reading::Accepted(frame) => {
-            let acted = act(state, frame);
+            let acted = act(state, frame, text_of(input));
             write(room, frame, acted);
             let answer = acted.answer;
             let next = acted.state;

@@ -70,10 +70,14 @@ thresholds-requires c κs = told (c .before) ∙ ap totalOf (c .match .keys5)
 
 timed-requires : tie.Need-timed-requires
 unfolding totalOf
-timed-requires c κs =
-    let (known, fifth) = c .match .rest in
+timed-requires c κs = told (c .before) ∙ ap totalOf (c .match .keys6)
+
+greeting-requires : tie.Need-greeting-requires
+unfolding totalOf
+greeting-requires c κs =
+    let (known, sixth) = c .match .rest in
     told (c .before)
-    ∙ last-total _ (known .0 .0 .0 .1) (known .0 .0 .1) (known .0 .1) (known .1) fifth
+    ∙ last-total _ (known .0 .0 .0 .0 .1) (known .0 .0 .0 .1) (known .0 .0 .1) (known .0 .1) (known .1) sixth
     (rw (c .before .before .before .total .ensures) at (c .before .before .if2 .left))
 
 returns-4 : tie.Need-returns-4
@@ -92,11 +96,21 @@ returns-8 : tie.Need-returns-8
 returns-8 c = c .thresholds .ensures ∙ sym (by-kind (c .before .before) _ (c .before .match .keys5))
 
 returns-9 : tie.Need-returns-9
-returns-9 c =
-    let (known, fifth) = c .before .match .rest in
-    c .timed .ensures
+returns-9 c = c .timed .ensures ∙ sym (by-kind (c .before .before) _ (c .before .match .keys6))
+
+returns-10 : tie.Need-returns-10
+returns-10 c =
+    let (known, sixth) = c .before .match .rest in
+    c .greeting .ensures
     ∙ sym (by-kind (c .before .before) _ refl
-    ∙ simp (ne-eqb _ _ (known .0 .0 .0 .1), ne-eqb _ _ (known .0 .0 .1), ne-eqb _ _ (known .0 .1), ne-eqb _ _ (known .1), ne-eqb _ _ fifth))
+    ∙ simp (
+      ne-eqb _ _ (known .0 .0 .0 .0 .1),
+      ne-eqb _ _ (known .0 .0 .0 .1),
+      ne-eqb _ _ (known .0 .0 .1),
+      ne-eqb _ _ (known .0 .1),
+      ne-eqb _ _ (known .1),
+      ne-eqb _ _ sixth,
+    ))
 
 pub read-spec : {M : Type 1} → statement M
 read-spec =
@@ -113,9 +127,11 @@ read-spec =
     order-requires
     thresholds-requires
     timed-requires
+    greeting-requires
     returns-4
     returns-5
     returns-6
     returns-7
     returns-8
-    returns-9)
+    returns-9
+    returns-10)
