@@ -69,7 +69,8 @@ impl Message {
     fn in_range(self) -> bool
         ensures { λ r. ⌜ r ≡ messageInRange self ⌝ }
     {
-        is_greeting(self.length, self.text)
+        let text = self.text;
+        is_greeting(self.length, text)
     }
 }
 

@@ -11,9 +11,12 @@ request-requires c κs = search needs
 none-requires : tie.Need-none-requires
 none-requires c κs = search needs
 
+none-requires-2 : tie.Need-none-requires-2
+none-requires-2 c κs = search needs
+
 returns : tie.Need-returns
 unfolding freshState
-returns c = simp (c .none .ensures, c .before .request .ensures)
+returns c = simp (c .none2 .ensures, c .before .none .ensures, c .before .before .request .ensures)
 
 pub fresh-spec : {M : Type 1} → statement M
-fresh-spec = tie.close (tie.spec request-requires none-requires returns)
+fresh-spec = tie.close (tie.spec request-requires none-requires none-requires-2 returns)

@@ -34,7 +34,10 @@ enum-known-reading-2 : tie.Need-enum-known-reading-2
 enum-known-reading-2 c = search needs
 
 act-requires : tie.Need-act-requires
-act-requires c κs = valid (c .before .before .before .before .before)
+act-requires c κs = valid (c .before .before .before .before .before .before)
+
+text-of-requires : tie.Need-text-of-requires
+text-of-requires c κs = search needs
 
 write-requires : tie.Need-write-requires
 write-requires c κs = search needs
@@ -51,13 +54,14 @@ same-length c = search needs
 returns-4 : tie.Need-returns-4
 unfolding stepOf
 returns-4 c =
-    let heard : tie.After-read = c .before .before .before .before .before .before .before .before .before in
+    let heard : tie.After-read = c .before .before .before .before .before .before .before .before .before .before in
     simp (
       valid (heard .before .before),
       le-leb _ _ (heard .before .if2 .left),
-      rw (heard .read .ensures) at (c .before .before .before .before .before .before .before .reading2 .given .1),
+      rw (heard .read .ensures) at (c .before .before .before .before .before .before .before .before .reading2 .given .1),
       c .before .before .before .write .ensures,
       c .before .before .before .before .before .act .ensures,
+      c .before .before .before .before .before .before .text-of .ensures,
     )
 
 pub step-spec : {M : Type 1} → statement M
@@ -71,6 +75,7 @@ step-spec =
     enum-known-reading
     returns-3
     enum-known-reading-2
+    text-of-requires
     act-requires
     write-requires
     same-length

@@ -24,12 +24,24 @@ returns-3 : tie.Need-returns-3
 returns-3 c = simp (c .before .enum-told2 .given .1, ne-eqb _ _ (c .if1 .left))
 
 returns-4 : tie.Need-returns-4
-returns-4 c = simp (c .before .enum-told3 .given .1, eq-eqb _ _ (c .if2 .taken))
+returns-4 c = simp (c .before .before .enum-told3 .given .1, eq-eqb _ _ (c .before .if2 .taken), c .if3 .taken)
 
 returns-5 : tie.Need-returns-5
-returns-5 c = simp (c .before .enum-told3 .given .1, ne-eqb _ _ (c .if2 .left))
+returns-5 c = simp (c .before .before .enum-told3 .given .1, eq-eqb _ _ (c .before .if2 .taken), c .if3 .left)
+
+returns-6 : tie.Need-returns-6
+returns-6 c = simp (c .before .enum-told3 .given .1, ne-eqb _ _ (c .if2 .left))
 
 pub due-spec : {M : Type 1} → statement M
 due-spec =
     tie.close
-    (tie.spec enum-told enum-told-2 enum-told-3 returns returns-2 returns-3 returns-4 returns-5)
+    (tie.spec
+    enum-told
+    enum-told-2
+    enum-told-3
+    returns
+    returns-2
+    returns-3
+    returns-4
+    returns-5
+    returns-6)

@@ -28,6 +28,12 @@ enum-known-command-3 c = search needs
 thresholds-requires : tie.Need-thresholds-requires
 thresholds-requires c κs = search needs
 
+enum-known-command-4 : tie.Need-enum-known-command-4
+enum-known-command-4 c = search needs
+
+greeting-requires : tie.Need-greeting-requires
+greeting-requires c κs = search needs
+
 returns : tie.Need-returns
 returns c = simp (c .before .before .command .given .1, c .order .ensures)
 
@@ -36,6 +42,9 @@ returns-2 c = simp (c .before .before .command2 .given .1, c .order2 .ensures)
 
 returns-3 : tie.Need-returns-3
 returns-3 c = simp (c .before .before .command3 .given .1, c .thresholds .ensures)
+
+returns-4 : tie.Need-returns-4
+returns-4 c = simp (c .before .before .command4 .given .1, c .greeting .ensures)
 
 pub take-spec : {M : Type 1} → statement M
 take-spec =
@@ -49,6 +58,9 @@ take-spec =
     order-requires-2
     enum-known-command-3
     thresholds-requires
+    enum-known-command-4
+    greeting-requires
     returns
     returns-2
-    returns-3)
+    returns-3
+    returns-4)
