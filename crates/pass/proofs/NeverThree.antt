@@ -12,6 +12,7 @@ use Rattle.basics.specs.Outcome.{Outcome}
 use Rattle.basics.proofs.ChoiceLaws.{either, within-low}
 use Rattle.frames.specs.Answer.{answerNumber, isReported}
 use Rattle.frames.specs.Kind.{reportBytes}
+use Rattle.frames.specs.Greeting.{greetingText}
 use Rattle.frames.specs.Reading.{readFrame}
 use Rattle.frames.specs.declared.answer.Answer.{Answer}
 use Rattle.frames.specs.declared.answer.Answer.the-variants.{NoInput}
@@ -49,17 +50,17 @@ NotThree after = after .result .answer ≡ NoInput → ⊥
 three : (a : Answer) → a ≡ NoInput → answerNumber a ≡ 3
 three a e = ap answerNumber e
 
-read-not-three : (r : Reading) → SoundPast r → (s : State) (room : List ℕ) → NotThree (stepRead r s room)
-read-not-three (Refused answer) w s room e = omega (arith, three answer e, within-low 4 7 (answerNumber answer) w)
-read-not-three (Accepted f) w s room e =
-    let given : answerNumber (actOf f s .answer) ≡ 3 = three (actOf f s .answer) e in
-    true≢false (ap (λ n. within 1 7 n) (sym given) ∙ unrefused f s (actOf f s) (act-answers f s))
+read-not-three : (text : List ℕ) (r : Reading) → SoundPast text r → (s : State) (room : List ℕ) → NotThree (stepRead r text s room)
+read-not-three text (Refused answer) w s room e = omega (arith, three answer e, within-low 4 7 (answerNumber answer) w)
+read-not-three text (Accepted f) w s room e =
+    let given : answerNumber (actOf f text s .answer) ≡ 3 = three (actOf f text s .answer) e in
+    true≢false (ap (λ n. within 1 7 n) (sym given) ∙ unrefused f s (actOf f text s) (act-answers f text s))
 
 step-not-three : (s : State) (frame room : List ℕ) → 0 < length frame → NotThree (stepOf s frame room)
 unfolding stepOf
 step-not-three s frame room some =
     either NotThree (inRange s)
-    (either NotThree (leb reportBytes (length room)) (read-not-three (readFrame frame) (some-sound frame some) s room) (λ e. omega (arith, ap answerNumber e)))
+    (either NotThree (leb reportBytes (length room)) (read-not-three (greetingText frame) (readFrame frame) (some-sound frame some) s room) (λ e. omega (arith, ap answerNumber e)))
     (λ e. omega (arith, ap answerNumber e))
 
 -- nor is a pass of such frames
