@@ -1,4 +1,4 @@
-//! The beacon's two texts.
+//! The beacon's three texts.
 
 use crate::state::{Mode, State};
 
@@ -7,7 +7,7 @@ pub fn basic(state: &State) -> String {
     format!("EMS {} {:04}", letter(state.mode), state.tension)
 }
 
-/// The letter that a mode has in both texts.
+/// The letter that a mode has in all texts.
 fn letter(mode: Mode) -> char {
     match mode {
         Mode::Waiting(_) | Mode::Settling(_) => 'D',
@@ -20,4 +20,14 @@ fn letter(mode: Mode) -> char {
 pub fn complete(state: &State) -> String {
     let (on, failed) = (state.on_mask(), state.failed_mask());
     format!("{} {on:02X} {failed:02X}", basic(state))
+}
+
+/// The extended text; none where no message is kept.
+pub fn extended(state: &State) -> Option<String> {
+    let message = state.message.text()?.iter().map(|&byte| char::from(byte));
+    Some(format!(
+        "{} {}",
+        complete(state),
+        message.collect::<String>()
+    ))
 }

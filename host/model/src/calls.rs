@@ -40,17 +40,25 @@ pub fn pass(bytes: &mut [u8], frames: &[u8], room: &mut [u8]) -> (u8, usize) {
 
 /// The basic beacon's text.
 pub fn beacon_basic(bytes: &[u8], text: &mut [u8]) -> (u8, usize) {
-    beacon(bytes, text, beacon::basic)
+    beacon(bytes, text, |state| Ok(beacon::basic(state)))
 }
 
 /// The complete beacon's text.
 pub fn beacon_complete(bytes: &[u8], text: &mut [u8]) -> (u8, usize) {
-    beacon(bytes, text, beacon::complete)
+    beacon(bytes, text, |state| Ok(beacon::complete(state)))
 }
 
-fn beacon(bytes: &[u8], text: &mut [u8], say: fn(&State) -> String) -> (u8, usize) {
-    let said = image::load(bytes).ok_or(1);
-    give(said.map(|state| say(&state).into_bytes()), text)
+/// The extended beacon's text.
+pub fn beacon_extended(bytes: &[u8], text: &mut [u8]) -> (u8, usize) {
+    beacon(bytes, text, |state| beacon::extended(state).ok_or(21))
+}
+
+/// A text of a state, or why it can't be had.
+type Say = fn(&State) -> Result<String, u8>;
+
+fn beacon(bytes: &[u8], text: &mut [u8], say: Say) -> (u8, usize) {
+    let said = image::load(bytes).ok_or(1).and_then(|state| say(&state));
+    give(said.map(String::into_bytes), text)
 }
 
 /// Keys a text.

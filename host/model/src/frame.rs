@@ -1,7 +1,9 @@
 //! Frames in: checks 3 to 7.
 
+use crate::message::Message;
 use crate::table::{
-    self, Kind, ANTENNAS, BATTERY, FROM_PAYLOAD, MISSION, ORDER, PAYLOAD, THRESHOLDS, TICK, TIMED,
+    self, Kind, ANTENNAS, BATTERY, FROM_PAYLOAD, GREETING, MISSION, ORDER, PAYLOAD, THRESHOLDS,
+    TICK, TIMED,
 };
 
 /// Who a frame comes from, and its serial.
@@ -43,6 +45,8 @@ pub enum Body {
         /// How long.
         minutes: u16,
     },
+    /// A message for the beacon.
+    Greeting(Message),
 }
 
 /// A frame that has passed checks 3 to 7.
@@ -63,15 +67,16 @@ pub fn read(input: &[u8]) -> Result<Frame, u8> {
     if input.len() != kind.total {
         return Err(5);
     }
-    let values = fields(kind, &input[1..]);
+    let (values, text) = fields(kind, &input[1..]);
     let in_range = |(field, value): (&table::Field, &u16)| (field.low..=field.high).contains(value);
     if !kind.fields.iter().zip(&values).all(in_range) {
         return Err(6);
     }
-    let frame = build(kind, &values).ok_or(4)?;
+    let frame = build(kind, &values, text).ok_or(4)?;
     match frame.body {
         Body::Thresholds { ascend, descend } if descend > ascend => return Err(6),
         Body::Timed { module, .. } if !MISSION.contains(&module) => return Err(6),
+        Body::Greeting(message) if !message.in_range() => return Err(6),
         _ => {}
     }
     if frame
@@ -92,20 +97,20 @@ pub fn cut(input: &[u8]) -> (&[u8], &[u8]) {
     input.split_at(total.min(input.len()))
 }
 
-/// The numbers of a body, one for each field.
-fn fields(kind: &Kind, mut body: &[u8]) -> Vec<u16> {
+/// The numbers of a body, one for each field, and the text behind them.
+fn fields<'a>(kind: &Kind, mut body: &'a [u8]) -> (Vec<u16>, &'a [u8]) {
     let mut values = Vec::new();
     for field in kind.fields {
         let (own, rest) = body.split_at(field.bytes);
         values.push(own.iter().fold(0, |n, &byte| 256 * n + u16::from(byte)));
         body = rest;
     }
-    values
+    (values, body)
 }
 
-/// A frame of its fields' values; none where the table has a row that no rule
-/// speaks of yet.
-fn build(kind: &Kind, values: &[u16]) -> Option<Frame> {
+/// A frame of its fields' values and its text; none where the table has a row that
+/// no rule speaks of yet.
+fn build(kind: &Kind, values: &[u16], text: &[u8]) -> Option<Frame> {
     let byte = |value: u16| value.to_be_bytes()[1];
     let sender = |origin, serial| {
         let origin = byte(origin);
@@ -127,6 +132,14 @@ fn build(kind: &Kind, values: &[u16]) -> Option<Frame> {
         (TIMED, &[origin, serial, module, minutes]) => {
             let module = byte(module);
             (sender(origin, serial), Body::Timed { module, minutes })
+        }
+        (GREETING, &[origin, serial, repeats, length]) => {
+            let message = Message {
+                repeats: byte(repeats),
+                length: byte(length),
+                bytes: text.try_into().ok()?,
+            };
+            (sender(origin, serial), Body::Greeting(message))
         }
         _ => return None,
     };

@@ -1,11 +1,12 @@
-//! The state as 50 bytes, as `include/ems.h` lays them out.
+//! The state as 68 bytes, as `include/ems.h` lays them out.
 
+use crate::message::{self, Message};
 use crate::state::{Last, Mode, Module, Power, State, CLEAN_SECONDS};
 
 /// The bytes of an image.
-pub const BYTES: usize = 50;
+pub const BYTES: usize = 68;
 /// The layout's version, an image's first byte.
-pub const VERSION: u8 = 4;
+pub const VERSION: u8 = 5;
 
 /// Where the fields begin.
 pub mod at {
@@ -29,10 +30,16 @@ pub mod at {
     pub const GROUND: usize = 14;
     /// The payload's last serial: 2 bytes.
     pub const PAYLOAD: usize = 16;
+    /// The message's repeats.
+    pub const REPEATS: usize = 18;
+    /// The message's length.
+    pub const LENGTH: usize = 19;
+    /// The message's text with its filler: 16 bytes.
+    pub const TEXT: usize = 20;
     /// The ends of the mission four, 4 bytes each.
-    pub const ENDS: usize = 18;
+    pub const ENDS: usize = 36;
     /// The modules, 2 bytes each.
-    pub const MODULES: usize = 34;
+    pub const MODULES: usize = 52;
 }
 
 /// The numbers of modes and modules.
@@ -82,6 +89,9 @@ pub fn save(state: &State) -> [u8; BYTES] {
     put(at::DESCEND, &state.descend.to_le_bytes());
     put(at::GROUND, &state.last.ground.to_le_bytes());
     put(at::PAYLOAD, &state.last.payload.to_le_bytes());
+    put(at::REPEATS, &[state.message.repeats]);
+    put(at::LENGTH, &[state.message.length]);
+    put(at::TEXT, &state.message.bytes);
     for (begin, end) in ends().zip(&state.ends) {
         put(begin, &end.to_le_bytes());
     }
@@ -118,6 +128,8 @@ fn guess(image: &[u8; BYTES]) -> State {
         waited @ ..=code::SETTLING => Mode::Waiting(waited),
         settling => Mode::Settling(settling - code::SETTLING),
     };
+    let mut text = [0; message::BYTES];
+    text.copy_from_slice(&image[at::TEXT..at::ENDS]);
     let mut state = State {
         mode,
         control: image[at::CONTROL],
@@ -129,6 +141,11 @@ fn guess(image: &[u8; BYTES]) -> State {
         last: Last {
             ground: two(at::GROUND),
             payload: two(at::PAYLOAD),
+        },
+        message: Message {
+            repeats: image[at::REPEATS],
+            length: image[at::LENGTH],
+            bytes: text,
         },
         ..State::fresh()
     };

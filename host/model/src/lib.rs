@@ -1,5 +1,6 @@
 //! The rules a second time, in plain Rust: document 01's, and of document 02 the
-//! orders with an end, the pass, and the tries that a module keeps.
+//! orders with an end, the pass, the tries that a module keeps, the four signs more,
+//! and the greetings.
 //!
 //! It is written from their words alone and shares nothing with the proved
 //! library, so that a slip in either shows as a difference. It goes for being
@@ -17,6 +18,7 @@ pub mod calls;
 pub mod frame;
 pub mod image;
 mod log;
+pub mod message;
 pub mod morse;
 pub mod pass;
 pub mod report;

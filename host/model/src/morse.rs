@@ -53,22 +53,29 @@ fn sign(byte: u8) -> Option<&'static str> {
     Some(row.1)
 }
 
-/// A text's units, or refusal 11, 12 or 13.
-pub fn key(text: &[u8]) -> Result<Vec<u8>, u8> {
+/// Whether keying takes a text: refusal 11, 12 or 13 otherwise.
+pub fn check(text: &[u8]) -> Result<(), u8> {
     if text.len() > TEXT_BYTES {
         return Err(11);
     }
     if !text.iter().all(|&b| b == b' ' || sign(b).is_some()) {
         return Err(12);
     }
-    if text.is_empty() {
-        return Ok(Vec::new());
-    }
-    let words: Vec<&[u8]> = text.split(|&b| b == b' ').collect();
-    if words.iter().any(|word| word.is_empty()) {
+    if !text.is_empty() && words(text).any(<[u8]>::is_empty) {
         return Err(13);
     }
-    let words: Vec<_> = words.into_iter().map(word_units).collect();
+    Ok(())
+}
+
+/// A text's words; the empty text has an empty one.
+fn words(text: &[u8]) -> impl Iterator<Item = &[u8]> {
+    text.split(|&b| b == b' ')
+}
+
+/// A text's units, or refusal 11, 12 or 13.
+pub fn key(text: &[u8]) -> Result<Vec<u8>, u8> {
+    check(text)?;
+    let words: Vec<_> = words(text).map(word_units).collect();
     Ok(words.join(&[0; 7][..]))
 }
 

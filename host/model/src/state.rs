@@ -3,6 +3,7 @@
 //! Numbers are kept as wide as the image holds them, so that a state out of
 //! range can be told from the one it would be cut to.
 
+use crate::message::Message;
 use crate::table::{FROM_PAYLOAD, HIGHEST, LOWEST, MISSION, MODULES};
 
 /// A module's power.
@@ -100,7 +101,7 @@ pub const SETTLE_SECONDS: u32 = 900;
 pub const CONTROL_TICKS: u8 = 30;
 /// Ticks between two basic beacons.
 pub const BASIC_TICKS: u16 = 300;
-/// Ticks between two complete beacons.
+/// Ticks between two complete or extended beacons.
 pub const COMPLETE_TICKS: u16 = 60;
 /// Seconds of the longest end.
 pub const END_SECONDS: u32 = 86_400;
@@ -124,6 +125,8 @@ pub struct State {
     pub descend: u16,
     /// The last serials.
     pub last: Last,
+    /// The message that is kept for the beacon.
+    pub message: Message,
     /// The ends of the mission four, in the order of [`MISSION`]: the seconds until
     /// the request goes off, 0 where none runs.
     pub ends: [u32; 4],
@@ -146,6 +149,7 @@ impl State {
                 ground: 0,
                 payload: 0,
             },
+            message: Message::NONE,
             ends: [0; 4],
             modules: MODULES.map(|row| Module {
                 power: Power::Off(TRIES),
@@ -177,7 +181,8 @@ impl State {
             Power::Failed(left) => left <= FAILED_SECONDS,
         });
         let ends = self.ends.iter().all(|&end| end <= END_SECONDS);
-        phase && counts && still && tension && thresholds && modules && ends
+        let message = self.message.in_range();
+        phase && counts && still && tension && thresholds && modules && ends && message
     }
 
     /// A module's end; none for one of the core four.

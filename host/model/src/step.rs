@@ -53,6 +53,7 @@ fn act(state: &mut State, frame: &Frame) -> (u8, u8) {
             state.ascend = ascend;
             state.descend = descend;
         }
+        Body::Greeting(message) => state.message = message.kept(),
     }
     (0, 0)
 }

@@ -1,6 +1,8 @@
 //! The page's tables, each once: kinds of frames with their fields, modules. A
 //! new kind or module is a new row here.
 
+use crate::message;
+
 /// A field of a frame's body: a big-endian number within a range.
 pub struct Field {
     /// What the page calls it.
@@ -23,6 +25,8 @@ pub struct Kind {
     pub total: usize,
     /// What follows the kind.
     pub fields: &'static [Field],
+    /// The bytes of text that follow them.
+    pub text: usize,
 }
 
 const fn field(name: &'static str, bytes: usize, low: u16, high: u16) -> Field {
@@ -59,28 +63,33 @@ pub const ORDER: u8 = 0x04;
 pub const THRESHOLDS: u8 = 0x05;
 /// The kind that asks for a module of the mission four, on for some minutes.
 pub const TIMED: u8 = 0x06;
+/// The kind that brings a message for the beacon.
+pub const GREETING: u8 = 0x07;
 /// The kind of a report, which is only written.
 pub const REPORT: u8 = 0x81;
 
 /// The kinds that are read.
-pub const KINDS: [Kind; 6] = [
+pub const KINDS: [Kind; 7] = [
     Kind {
         byte: TICK,
         name: "tick",
         total: 2,
         fields: &[field("shorts", 1, 0, 0xFF)],
+        text: 0,
     },
     Kind {
         byte: BATTERY,
         name: "battery",
         total: 3,
         fields: &[field("tension", 2, LOWEST, HIGHEST)],
+        text: 0,
     },
     Kind {
         byte: ANTENNAS,
         name: "antennas",
         total: 2,
         fields: &[field("deployed", 1, 0, 1)],
+        text: 0,
     },
     Kind {
         byte: ORDER,
@@ -92,6 +101,7 @@ pub const KINDS: [Kind; 6] = [
             field("module", 1, 0, MODULES.len() as u16 - 1),
             field("wanted", 1, 0, 1),
         ],
+        text: 0,
     },
     Kind {
         byte: THRESHOLDS,
@@ -103,6 +113,7 @@ pub const KINDS: [Kind; 6] = [
             field("ascend", 2, LOWEST, HIGHEST),
             field("descend", 2, LOWEST, HIGHEST),
         ],
+        text: 0,
     },
     Kind {
         byte: TIMED,
@@ -115,6 +126,19 @@ pub const KINDS: [Kind; 6] = [
             field("module", 1, MISSION[0] as u16, MISSION[3] as u16),
             field("minutes", 2, 1, 1_440),
         ],
+        text: 0,
+    },
+    Kind {
+        byte: GREETING,
+        name: "greeting",
+        total: 22,
+        fields: &[
+            ORIGIN,
+            SERIAL,
+            field("repeats", 1, 0, 0xFF),
+            field("length", 1, 0, message::BYTES as u16),
+        ],
+        text: message::BYTES,
     },
 ];
 

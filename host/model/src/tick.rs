@@ -112,11 +112,14 @@ fn stayed(tries: u16, seconds: u16) -> Power {
     Power::On { tries, seconds }
 }
 
-/// The beacon stage: 0 none, 1 basic, 2 complete.
+/// The beacon stage: 0 none, 1 basic, 2 complete, 3 extended.
 fn beacon(state: &mut State) -> u8 {
     state.beacon += 1;
     let due = match state.mode {
-        Mode::Safe if state.beacon.is_multiple_of(COMPLETE_TICKS) => 2,
+        Mode::Safe if state.beacon.is_multiple_of(COMPLETE_TICKS) => match state.message.sent() {
+            true => 3,
+            false => 2,
+        },
         Mode::Recovery if state.beacon == BASIC_TICKS => 1,
         _ => return 0,
     };

@@ -15,7 +15,7 @@ fn every_vector_gives_its_log() {
         .filter(|path| path.extension().is_some_and(|end| end == "bin"))
         .collect();
     streams.sort();
-    assert!(streams.len() >= 126, "only {} streams", streams.len());
+    assert!(streams.len() >= 147, "only {} streams", streams.len());
     for stream in streams {
         let input = fs::read(&stream).expect("a stream");
         let wanted = fs::read_to_string(stream.with_extension("log")).expect("its log");
