@@ -1,6 +1,8 @@
 //! The wrapper's `Craft`: only what the library takes becomes one.
 
-use ems::{answer, Craft, Passed, Report, IMAGE_BYTES, REPORT_BYTES};
+use ems::{
+    answer, Craft, Passed, Report, BEACON_EXTENDED_BYTES, IMAGE_BYTES, MESSAGE_BYTES, REPORT_BYTES,
+};
 use model::image::at;
 
 #[test]
@@ -17,7 +19,7 @@ fn bytes_that_are_no_image_become_none() {
     let fresh = *Craft::fresh().image();
     assert_eq!(Craft::from_image(&[]), None);
     assert_eq!(Craft::from_image(&fresh[..IMAGE_BYTES - 1]), None);
-    for version in [3, 5] {
+    for version in [4, 6] {
         let mut other_version = fresh;
         other_version[at::VERSION] = version;
         assert_eq!(Craft::from_image(&other_version), None);
@@ -47,6 +49,53 @@ fn a_module_failed_for_600_seconds_has_the_last_number() {
     assert_eq!(Craft::from_image(&image), None);
 }
 
+/// A craft with an image's bytes from a place on put in the place of its own.
+fn with(place: usize, bytes: &[u8]) -> Option<Craft> {
+    let mut image = *Craft::fresh().image();
+    image[place..place + bytes.len()].copy_from_slice(bytes);
+    Craft::from_image(&image)
+}
+
+#[test]
+fn a_message_of_16_bytes_is_the_longest() {
+    let message = |length: u8, text: &[u8; MESSAGE_BYTES]| {
+        let bytes = [&[255, length][..], text].concat();
+        with(at::REPEATS, &bytes)
+    };
+    assert!(message(16, b"HELLO FROM EARTH").is_some());
+    assert_eq!(message(17, b"HELLO FROM EARTH"), None);
+    assert_eq!(message(16, b"HELLO FROM EARTh"), None);
+    // The byte past its length is none of its own.
+    assert_eq!(message(15, b"HELLO FROM EARTH"), None);
+    assert!(message(15, b"HELLO FROM EART\0").is_some());
+    assert!(message(0, &[0; MESSAGE_BYTES]).is_some());
+}
+
+/// A greeting of the ground, its first.
+fn greeting(repeats: u8, message: &[u8]) -> Vec<u8> {
+    let mut frame = vec![0x07, 1, 0, 1, repeats, message.len() as u8];
+    frame.extend(message);
+    frame.resize(6 + MESSAGE_BYTES, 0);
+    frame
+}
+
+#[test]
+fn an_extended_beacon_is_the_complete_one_a_space_and_the_message() {
+    let mut craft = Craft::fresh();
+    let mut text = [7; BEACON_EXTENDED_BYTES + 1];
+    let none = craft.beacon_extended(&mut text);
+    assert_eq!(none, (answer::NO_MESSAGE, 0));
+    let longest = b"HELLO FROM EARTH";
+    let report = craft.report_on(&greeting(1, longest)).expect("a report");
+    assert_eq!(report.answer, answer::DONE);
+    let short = craft.beacon_extended(&mut text[..BEACON_EXTENDED_BYTES - 1]);
+    assert_eq!(short, (answer::NO_ROOM, 0));
+    assert_eq!(text, [7; BEACON_EXTENDED_BYTES + 1]);
+    let extended = craft.beacon_extended(&mut text);
+    assert_eq!(extended, (answer::DONE, BEACON_EXTENDED_BYTES));
+    assert_eq!(text, *b"EMS D 0000 00 00 HELLO FROM EARTH\x07");
+}
+
 #[test]
 fn a_refused_frame_leaves_the_craft() {
     let mut craft = Craft::fresh();
@@ -59,12 +108,19 @@ fn a_refused_frame_leaves_the_craft() {
 fn a_report_is_what_the_room_has() {
     let (mut one, mut other) = (Craft::fresh(), Craft::fresh());
     // An order that comes too early, the same again, an older one, a timed one that
-    // comes too early, one for the payload alone, half a frame.
+    // comes too early, a greeting, one from the payload, an order for the payload
+    // alone, half a frame.
     for frame in [
         &[0x04, 1, 0, 2, 4, 1][..],
         &[0x04, 1, 0, 2, 4, 1],
         &[0x04, 1, 0, 1, 4, 0],
         &[0x06, 1, 0, 3, 4, 0, 20],
+        &[
+            0x07, 1, 0, 4, 1, 2, b'H', b'I', 0, 0, 0, 0, 0, 0, 0, 0, 0, 0, 0, 0, 0, 0,
+        ],
+        &[
+            0x07, 2, 0, 4, 1, 2, b'H', b'I', 0, 0, 0, 0, 0, 0, 0, 0, 0, 0, 0, 0, 0, 0,
+        ],
         &[0x04, 2, 0, 1, 3, 1],
         &[0x04, 1],
     ] {
@@ -94,8 +150,9 @@ fn bytes_that_are_no_report_become_none() {
 }
 
 /// Frames that are reported on: a reading, the antennas, an order that comes too
-/// early, the same again, an older one, thresholds, a timed order, a second.
-const REPORTED: [&[u8]; 8] = [
+/// early, the same again, an older one, thresholds, a timed order, a greeting, a
+/// second.
+const REPORTED: [&[u8]; 9] = [
     &[0x02, 0x1E, 0x78],
     &[0x03, 1],
     &[0x04, 1, 0, 2, 4, 1],
@@ -103,6 +160,9 @@ const REPORTED: [&[u8]; 8] = [
     &[0x04, 1, 0, 1, 4, 0],
     &[0x05, 1, 0, 3, 0x1D, 0x4C, 0x1B, 0x58],
     &[0x06, 2, 0, 1, 4, 0, 20],
+    &[
+        0x07, 1, 0, 4, 1, 2, b'H', b'I', 0, 0, 0, 0, 0, 0, 0, 0, 0, 0, 0, 0, 0, 0,
+    ],
     &[0x01, 0],
 ];
 

@@ -1,14 +1,18 @@
-/* The shortest flight from C: a frame, its report, a pass, the beacon, its units. */
+/* The shortest flight from C: a frame, its report, a pass, two beacons, their units. */
 #include "ems.h"
 #include <stdio.h>
 
 int main(void)
 {
-    uint8_t image[EMS_IMAGE_BYTES], room[EMS_REPORT_BYTES], reports[3 * EMS_REPORT_BYTES];
-    uint8_t text[EMS_BEACON_BASIC_BYTES], units[EMS_UNITS_BYTES];
+    uint8_t image[EMS_IMAGE_BYTES], room[EMS_REPORT_BYTES], reports[4 * EMS_REPORT_BYTES];
+    uint8_t text[EMS_BEACON_EXTENDED_BYTES], units[EMS_UNITS_BYTES];
     const uint8_t deployed[2] = { EMS_KIND_ANTENNAS, 1 };
-    /* A reading, an order that comes too early, a second that is cut off. */
-    const uint8_t pass[10] = { EMS_KIND_BATTERY, 0x1E, 0x78, EMS_KIND_ORDER, 1, 0, 1, 4, 1, EMS_KIND_TICK };
+    /* A reading, an order that comes too early, a greeting, a second that is cut off. */
+    const uint8_t pass[32] = {
+        EMS_KIND_BATTERY, 0x1E, 0x78, EMS_KIND_ORDER, 1, 0, 1, 4, 1,
+        EMS_KIND_GREETING, 1, 0, 2, 3, 10, 'H', 'I', ',', ' ', 'S', 'C', 'H', 'O', 'O', 'L', 0, 0, 0, 0, 0, 0,
+        EMS_KIND_TICK
+    };
     size_t reported, letters, count;
     int i;
 
@@ -20,5 +24,8 @@ int main(void)
     if (ems_beacon_basic(image, sizeof image, text, sizeof text, &letters) != EMS_DONE) return 1;
     if (ems_key(text, letters, units, sizeof units, &count) != EMS_DONE) return 1;
     printf("\n%.*s, %d units\n", (int)letters, (const char *)text, (int)count);
+    if (ems_beacon_extended(image, sizeof image, text, sizeof text, &letters) != EMS_DONE) return 1;
+    if (ems_key(text, letters, units, sizeof units, &count) != EMS_DONE) return 1;
+    printf("%.*s, %d units\n", (int)letters, (const char *)text, (int)count);
     return 0;
 }

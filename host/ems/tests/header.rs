@@ -25,6 +25,8 @@ fn lengths_are_the_header_s() {
         ("EMS_REPORT_BYTES", ems::REPORT_BYTES),
         ("EMS_BEACON_BASIC_BYTES", ems::BEACON_BASIC_BYTES),
         ("EMS_BEACON_COMPLETE_BYTES", ems::BEACON_COMPLETE_BYTES),
+        ("EMS_BEACON_EXTENDED_BYTES", ems::BEACON_EXTENDED_BYTES),
+        ("EMS_MESSAGE_BYTES", ems::MESSAGE_BYTES),
         ("EMS_TEXT_BYTES", ems::TEXT_BYTES),
         ("EMS_UNITS_BYTES", ems::UNITS_BYTES),
     ] {
@@ -57,6 +59,7 @@ fn answers_are_the_header_s() {
         ("EMS_BAD_SPACE", answer::BAD_SPACE),
         ("EMS_NO_ROOM", answer::NO_ROOM),
         ("EMS_NOT_A_KEYING", answer::NOT_A_KEYING),
+        ("EMS_NO_MESSAGE", answer::NO_MESSAGE),
     ] {
         assert_eq!(number(name), Some(value.into()), "{name}");
     }
@@ -80,7 +83,12 @@ fn print_of(compiler: &str, language: &[&str]) -> String {
     String::from_utf8_lossy(&run.stdout).into_owned()
 }
 
-const PRINT: &str = "0 81 03 00 00 00 00 00 27 00 00 00\n5 02 0 04 10\nEMS D 7800, 115 units\n";
+const PRINT: &str = "\
+0 81 03 00 00 00 00 00 27 00 00 00
+5 02 0 04 10 07 0
+EMS D 7800, 115 units
+EMS D 7800 00 00 HI, SCHOOL, 329 units
+";
 
 /// The calls that the header declares.
 fn declared() -> Vec<&'static str> {

@@ -2,7 +2,7 @@
 //! library, the model and the header.
 
 use ems::{answer, Beacon, Craft, Mode, Module};
-use model::table::{FROM_GROUND, KINDS, MODULES, ORDER, TIMED};
+use model::table::{FROM_GROUND, GREETING, KINDS, MODULES, ORDER, TIMED};
 
 const HEADER: &str = include_str!("../../../include/ems.h");
 
@@ -79,14 +79,17 @@ fn the_modes_are_the_header_s() {
 }
 
 /// From the fresh start to SAFE and to RECOVERY again, a mode after the other,
-/// with the beacon that each has.
+/// with the beacon that each has; the first in SAFE has the message.
 #[test]
-fn a_flight_meets_the_modes_and_both_beacons() {
+fn a_flight_meets_the_modes_and_all_beacons() {
     let mut craft = Craft::fresh();
     let (mut modes, mut beacons) = (Vec::new(), Vec::new());
+    let mut greeting = [0; 22];
+    greeting[..8].copy_from_slice(&[GREETING, FROM_GROUND, 0, 1, 1, 2, b'H', b'I']);
     let frames = [
         (&[0x03, 1][..], 1),
         (&[0x02, 0x1E, 0x78], 1),
+        (&greeting, 1),
         (&[0x01, 0], 1_200),
     ];
     let then = [(&[0x02, 0x13, 0x88][..], 1), (&[0x01, 0], 600)];
@@ -101,8 +104,18 @@ fn a_flight_meets_the_modes_and_both_beacons() {
     beacons.dedup();
     let (recovery, safe) = (Mode::Recovery, Mode::Safe);
     assert_eq!(modes, [Mode::DeployWait, recovery, safe, recovery]);
-    assert_eq!(beacons, [Beacon::Complete, Beacon::Basic]);
+    let wanted = [Beacon::Extended, Beacon::Complete, Beacon::Basic];
+    assert_eq!(beacons, wanted);
     assert!(Mode::DeployWait < recovery && recovery < safe);
+}
+
+#[test]
+fn the_beacons_are_the_header_s() {
+    for beacon in Beacon::ALL {
+        let name = beacon.name().to_uppercase();
+        let line = format!("    EMS_DUE_{name} = {}", beacon.number());
+        assert!(HEADER.contains(&line), "{line}");
+    }
 }
 
 #[test]
