@@ -1,7 +1,9 @@
 //! Frames from a seed: by the rules and at their edges, damaged, and noise.
 
+use crate::messages;
 use crate::rng::Rng;
 use crate::shrink::Shot;
+use model::message;
 use model::report;
 use model::state::Last;
 use model::table::{self, Field, Kind, KINDS};
@@ -54,7 +56,7 @@ impl Stream {
                 frame
             }
             Maker::Noise => {
-                let length = rng.below(13);
+                let length = rng.below(26);
                 rng.bytes(length)
             }
         };
@@ -69,7 +71,7 @@ impl Stream {
     fn structured(&mut self, rng: &mut Rng) -> Vec<u8> {
         let often = match rng.below(8) {
             0 => None,
-            1 => table::kind(rng.pick(&[table::ORDER, table::TIMED])),
+            1 => table::kind(rng.pick(&[table::ORDER, table::TIMED, table::GREETING])),
             _ => table::kind(table::TICK),
         };
         let kind = often.unwrap_or_else(|| rng.one(&KINDS));
@@ -85,9 +87,13 @@ impl Stream {
                 "serial" => self.serial(rng, frame[1]),
                 // Few enough that the flight sees the end.
                 "minutes" if rng.once_in(2) => rng.between(1, 3),
+                "repeats" if rng.once_in(2) => rng.between(0, 3),
                 _ => value(rng, field),
             };
             frame.extend(&value.to_be_bytes()[2 - field.bytes..]);
+        }
+        if kind.text > 0 {
+            text(rng, &mut frame);
         }
         frame
     }
@@ -152,4 +158,17 @@ fn value(rng: &mut Rng, field: &Field) -> u16 {
         4 if rng.once_in(4) => rng.between(0, most),
         _ => rng.between(field.low, field.high),
     }
+}
+
+/// Puts a text behind the repeats and the length of a greeting: mostly one of that
+/// length that can be keyed, with its filler; else one with something wrong.
+fn text(rng: &mut Rng, frame: &mut Vec<u8>) {
+    let said = frame.last().map_or(0, |&length| length.into());
+    let length = message::BYTES.min(said);
+    let mut message = messages::of_length(rng, 0, length);
+    if rng.once_in(8) {
+        let fault = rng.pick(&messages::faults(length));
+        message = messages::with(rng, message, fault);
+    }
+    frame.extend(message.bytes);
 }

@@ -1,7 +1,10 @@
 //! Images from a seed: of states in range, at the ranges' ends, and outside.
 
+use crate::compare::LONGEST;
+use crate::messages;
 use crate::rng::Rng;
 use model::image::{self, at, code};
+use model::message::Message;
 use model::state::{
     Last, Mode, Module, Power, CLEAN_SECONDS, CONTROL_TICKS, END_SECONDS, FAILED_SECONDS,
     SETTLE_SECONDS, TRIES, WAIT_SECONDS,
@@ -49,6 +52,7 @@ pub fn state_in(rng: &mut Rng, mode: Mode) -> State {
             ground: rng.word(),
             payload: rng.word(),
         },
+        message: messages::good(rng),
         ends: std::array::from_fn(|_| end(rng)),
         modules: std::array::from_fn(|_| module(rng)),
     }
@@ -161,6 +165,13 @@ pub fn set_end(bytes: &mut [u8], place: usize, seconds: u32) {
     bytes[begin..begin + 4].copy_from_slice(&seconds.to_le_bytes());
 }
 
+/// Sets the message of an image.
+pub fn set_message(bytes: &mut [u8], message: &Message) {
+    bytes[at::REPEATS] = message.repeats;
+    bytes[at::LENGTH] = message.length;
+    bytes[at::TEXT..at::ENDS].copy_from_slice(&message.bytes);
+}
+
 /// Sets a module of an image by its number.
 pub fn set_module(bytes: &mut [u8], place: usize, number: u16) {
     let begin = at::MODULES + 2 * place;
@@ -173,12 +184,13 @@ pub fn clear_counts(bytes: &mut [u8]) {
 }
 
 /// Bytes that often are no image: a number of a mode, of ends or of modules at an
-/// edge, a tag beside the right ones, a byte or two changed, another length, noise.
+/// edge, a message with one thing wrong, a tag beside the right ones, a byte or two
+/// changed, another length, noise.
 pub fn damaged(rng: &mut Rng) -> Vec<u8> {
     let mut bytes = good(rng);
-    match rng.below(11) {
+    match rng.below(12) {
         0 => {
-            let length = rng.below(70);
+            let length = rng.below(LONGEST + 1);
             bytes.resize(length, 0);
         }
         1 => {
@@ -203,7 +215,7 @@ pub fn damaged(rng: &mut Rng) -> Vec<u8> {
             }
         }
         5 => match rng.below(2) {
-            0 => bytes[at::VERSION] = rng.pick(&[0, 1, 2, 3, 5]),
+            0 => bytes[at::VERSION] = rng.pick(&[0, 1, 2, 3, 4, 6]),
             _ => bytes[at::ANTENNAS] = rng.pick(&[2, 3, 128, 255]),
         },
         6 => {
@@ -211,6 +223,7 @@ pub fn damaged(rng: &mut Rng) -> Vec<u8> {
                 set_end(&mut bytes, rng.below(4), rng.pick(&ENDS));
             }
         }
+        7 => set_message(&mut bytes, &messages::bad(rng)),
         _ => {
             for _ in 0..=rng.below(2) {
                 let place = rng.below(bytes.len());

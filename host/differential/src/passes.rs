@@ -8,10 +8,10 @@ use crate::rng::Rng;
 use crate::shrink::Pass;
 use model::state::Last;
 use model::table::{
-    Field, Kind, FROM_GROUND, FROM_PAYLOAD, KINDS, MODULES, ORDER, PAYLOAD, REPORT, THRESHOLDS,
-    TIMED,
+    Field, Kind, FROM_GROUND, FROM_PAYLOAD, GREETING, KINDS, MODULES, ORDER, PAYLOAD, REPORT,
+    THRESHOLDS, TIMED,
 };
-use model::{frame, image, report};
+use model::{frame, image, message, report};
 use std::sync::LazyLock;
 
 /// The most frames of a pass.
@@ -84,6 +84,7 @@ fn lowest(kind: &Kind) -> Vec<u8> {
     for field in kind.fields {
         frame.extend(&field.low.to_be_bytes()[2 - field.bytes..]);
     }
+    frame.resize(kind.total, 0);
     frame
 }
 
@@ -132,7 +133,29 @@ fn out_of_range() -> Vec<Vec<u8>> {
     frames.push(vec![THRESHOLDS, FROM_GROUND, 0, 1, 0x1B, 0x58, 0x1B, 0x59]);
     let core = MODULES.iter().filter(|module| module.core);
     frames.extend(core.map(|module| vec![TIMED, FROM_GROUND, 0, 1, module.number, 0, 20]));
+    // Greetings with a byte that is not of the alphabet, with a space out of its place,
+    // and with filler that is not 0.
+    for (length, text) in [
+        (2, &b"hI"[..]),
+        (3, b"HI;"),
+        (3, b"HI\0"),
+        (3, b" HI"),
+        (3, b"HI "),
+        (4, b"H  I"),
+        (2, b"HI?"),
+        (0, b"\0\0\0\0\0\0\0\0\0\0\0\0\0\0\0E"),
+    ] {
+        frames.push(greeting(FROM_GROUND, length, text));
+    }
     frames
+}
+
+/// A greeting with a text, and the length that it is said to have.
+fn greeting(origin: u8, length: u8, text: &[u8]) -> Vec<u8> {
+    let mut frame = vec![GREETING, origin, 0, 1, 1, length];
+    frame.extend(text);
+    frame.resize(6 + message::BYTES, 0);
+    frame
 }
 
 /// The values beside both ends of a field's range that it can hold.
@@ -146,7 +169,11 @@ fn beside(field: &Field) -> Vec<u16> {
 }
 
 fn not_permitted() -> Vec<Vec<u8>> {
-    let mut frames = vec![vec![THRESHOLDS, FROM_PAYLOAD, 0, 1, 0x1C, 0xE8, 0x1B, 0x58]];
+    let mut frames = vec![
+        vec![THRESHOLDS, FROM_PAYLOAD, 0, 1, 0x1C, 0xE8, 0x1B, 0x58],
+        greeting(FROM_PAYLOAD, 2, b"HI"),
+        greeting(FROM_PAYLOAD, 0, b""),
+    ];
     for module in MODULES.iter().filter(|module| module.number != PAYLOAD) {
         for wanted in [0, 1] {
             frames.push(vec![ORDER, FROM_PAYLOAD, 0, 1, module.number, wanted]);

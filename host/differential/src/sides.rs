@@ -13,6 +13,8 @@ pub struct Calls {
     pub beacon_basic: Counted,
     /// `ems_beacon_complete`
     pub beacon_complete: Counted,
+    /// `ems_beacon_extended`
+    pub beacon_extended: Counted,
     /// `ems_key`
     pub key: Counted,
     /// `ems_read`
@@ -32,6 +34,7 @@ pub const LIBRARY: Calls = Calls {
     pass: ems::calls::pass,
     beacon_basic: ems::calls::beacon_basic,
     beacon_complete: ems::calls::beacon_complete,
+    beacon_extended: ems::calls::beacon_extended,
     key: ems::calls::key,
     read: ems::calls::read,
 };
@@ -43,6 +46,7 @@ pub const MODEL: Calls = Calls {
     pass: model::calls::pass,
     beacon_basic: model::calls::beacon_basic,
     beacon_complete: model::calls::beacon_complete,
+    beacon_extended: model::calls::beacon_extended,
     key: model::calls::key,
     read: model::calls::read,
 };

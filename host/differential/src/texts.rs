@@ -13,10 +13,20 @@ pub fn word(rng: &mut Rng, length: usize) -> Vec<u8> {
     (0..length).map(|_| rng.pick(SIGNS)).collect()
 }
 
+/// A byte that is not of the alphabet.
+pub fn beside(rng: &mut Rng) -> u8 {
+    rng.pick(BESIDE)
+}
+
 /// A text that can be keyed, of up to 64 bytes.
 pub fn good(rng: &mut Rng) -> Vec<u8> {
     let any_length = rng.below(65);
     let length = rng.pick(&[0, 1, 2, 3, 10, 16, 63, 64, any_length]);
+    of_length(rng, length)
+}
+
+/// A text that can be keyed, of so many bytes.
+pub fn of_length(rng: &mut Rng, length: usize) -> Vec<u8> {
     let mut text: Vec<u8> = Vec::new();
     while text.len() < length {
         let inner = text.last().is_some_and(|&b| b != b' ') && text.len() + 1 < length;
@@ -41,7 +51,7 @@ pub fn any(rng: &mut Rng) -> Vec<u8> {
         2 | 3 if !text.is_empty() => {
             let place = rng.below(text.len());
             let any_byte = rng.byte();
-            let beside = rng.pick(BESIDE);
+            let beside = beside(rng);
             text[place] = rng.pick(&[b' ', beside, beside, any_byte]);
         }
         _ => {}

@@ -1,6 +1,7 @@
 //! The differential tests' own test: faults planted in one side are found, and
 //! come out short.
 
+mod kept;
 mod signs;
 mod wrong;
 
@@ -295,6 +296,82 @@ fn a_number_past_those_that_are_on_is_found() {
         };
         let told = told(group, faulty);
         assert_eq!(frames(&told), 1, "{told}");
+    }
+}
+
+#[test]
+fn every_greeting_taken_wrongly_is_found_and_one_frame_shows_it() {
+    for (name, step) in wrong::greetings::TAKEN {
+        let told = told("greetings about every limit", Calls { step, ..MODEL });
+        assert_eq!(frames(&told), 1, "{name}\n{told}");
+    }
+}
+
+#[test]
+fn a_byte_of_a_greeting_that_is_misread_is_found_in_every_place() {
+    for wrong in [
+        "asks who sends it first",
+        "looks at no filler",
+        "takes 17 characters",
+        "takes small letters",
+        "takes spaces anywhere",
+        "excuses one that clears",
+    ] {
+        let mut taken = wrong::greetings::TAKEN.into_iter();
+        let (_, step) = taken.find(|(name, _)| *name == wrong).expect("it is wrong");
+        let group = "every byte in every place of a greeting";
+        let told = told(group, Calls { step, ..MODEL });
+        assert_eq!(frames(&told), 1, "{wrong}\n{told}");
+    }
+}
+
+#[test]
+fn every_message_sent_wrongly_is_found_and_one_frame_shows_it() {
+    for (name, step) in wrong::greetings::SENT {
+        let told = told("messages that run out", Calls { step, ..MODEL });
+        assert_eq!(frames(&told), 1, "{name}\n{told}");
+    }
+}
+
+#[test]
+fn a_message_that_never_ends_is_found() {
+    for wrong in [
+        "drops the message with its last repeat",
+        "sends it once more",
+        "never lets repeats fall",
+    ] {
+        let mut sent = wrong::greetings::SENT.into_iter();
+        let (_, step) = sent.find(|(name, _)| *name == wrong).expect("it is wrong");
+        let told = told("the most repeats", Calls { step, ..MODEL });
+        assert_eq!(frames(&told), 1, "{wrong}\n{told}");
+    }
+}
+
+#[test]
+fn a_state_whose_message_is_not_looked_at_is_found() {
+    for group in [
+        "every message that is kept",
+        "every value of every image byte",
+        "damaged images",
+    ] {
+        let faulty = Calls {
+            step: kept::step,
+            ..MODEL
+        };
+        let told = told(group, faulty);
+        assert_eq!(frames(&told), 1, "{group}\n{told}");
+    }
+}
+
+#[test]
+fn every_wrong_extended_beacon_is_found() {
+    for (name, beacon_extended) in kept::BEACONS {
+        let faulty = Calls {
+            beacon_extended,
+            ..MODEL
+        };
+        let told = told("extended beacons in every room", faulty);
+        assert!(told.starts_with("input:   05 "), "{name}\n{told}");
     }
 }
 

@@ -4,6 +4,7 @@ use super::{beacons, fly, Verdict, ROOM};
 use crate::compare::hex;
 use crate::frames::{Maker, Stream};
 use crate::images;
+use crate::messages;
 use crate::rng::Rng;
 use crate::shrink::Shot;
 use crate::sides::Calls;
@@ -82,6 +83,7 @@ pub fn serials(sides: &[Calls; 2], rng: &mut Rng) -> Verdict {
             (table::THRESHOLDS, FROM_GROUND),
             (table::TIMED, FROM_GROUND),
             (table::TIMED, FROM_PAYLOAD),
+            (table::GREETING, FROM_GROUND),
         ] {
             let mut state = images::state(rng);
             state.last = Last {
@@ -95,6 +97,7 @@ pub fn serials(sides: &[Calls; 2], rng: &mut Rng) -> Verdict {
                 match kind {
                     table::ORDER => frame.extend([table::PAYLOAD, rng.byte() & 1]),
                     table::TIMED => frame.extend([table::PAYLOAD, 0, rng.byte() | 1]),
+                    table::GREETING => frame.extend(messages::body(&messages::good(rng))),
                     _ => frame.extend([0x1C, 0xE8, 0x1B, 0x58]),
                 }
                 made += fly(sides, &start, vec![(frame, ROOM)])?.0;

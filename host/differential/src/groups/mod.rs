@@ -1,6 +1,7 @@
 //! The groups of cases, each with how many calls it makes on the library.
 
 mod flights;
+mod greetings;
 mod images;
 mod passes;
 mod texts;
@@ -34,7 +35,7 @@ pub type Verdict = Result<u64, String>;
 pub type Group = (&'static str, fn(&[Calls; 2], &mut Rng) -> Verdict);
 
 /// All groups.
-pub const GROUPS: [Group; 26] = [
+pub const GROUPS: [Group; 32] = [
     ("fresh start, every length", images::fresh_starts),
     ("flights by the table", |sides, rng| {
         flights::of(sides, rng, Maker::Structured, 4_000_000)
@@ -57,6 +58,18 @@ pub const GROUPS: [Group; 26] = [
     ("every power in every second", tries::every_power),
     ("modules that short", tries::modules_that_short),
     ("a board that starts and shorts", tries::starts_and_shorts),
+    ("greetings about every limit", greetings::greetings),
+    (
+        "every byte in every place of a greeting",
+        greetings::greeting_bytes,
+    ),
+    ("every message that is kept", greetings::kept_messages),
+    ("messages that run out", greetings::messages_run_out),
+    ("the most repeats", greetings::most_repeats),
+    (
+        "extended beacons in every room",
+        greetings::extended_beacons,
+    ),
     ("passes", passes::any_passes),
     ("passes stopped in every way", passes::stops),
     ("passes in every room", passes::pass_rooms),
@@ -90,9 +103,10 @@ fn call(
         .map_err(|_| tell_counted(sides, call, input.to_vec(), room))
 }
 
-/// Both beacons of an image, in rooms of a length around theirs.
+/// All beacons of an image, in rooms of a length around theirs.
 fn beacons(sides: &[Calls; 2], rng: &mut Rng, image: &[u8]) -> Verdict {
     call(sides, |calls| calls.beacon_basic, image, rng.below(20))?;
     call(sides, |calls| calls.beacon_complete, image, rng.below(20))?;
-    Ok(2)
+    call(sides, |calls| calls.beacon_extended, image, rng.below(37))?;
+    Ok(3)
 }

@@ -1,5 +1,7 @@
-//! Passes that go wrong in ways that look right; [`seconds`] has seconds that do.
+//! Passes that go wrong in ways that look right; [`seconds`] has seconds that do, and
+//! [`greetings`] greetings and their messages.
 
+pub mod greetings;
 pub mod seconds;
 
 use differential::sides::Pass;
