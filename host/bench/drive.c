@@ -13,7 +13,7 @@
 #ifdef PEER
 #include "peer/ems.h"
 #include "peer/morse.h"
-#define IMAGE_BYTES 50
+#define IMAGE_BYTES 68
 #define KEY peer_key
 #define READ peer_read
 #else
@@ -49,11 +49,13 @@ static void put_back(const uint8_t *image)
         .beacon = (uint16_t)low(image + 5), .tension = (uint16_t)low(image + 8),
         .ascend = (uint16_t)low(image + 10), .descend = (uint16_t)low(image + 12),
         .last = { (uint16_t)low(image + 14), (uint16_t)low(image + 16) },
+        .message = { .repeats = image[18], .length = image[19] },
     };
+    memcpy(state.message.text, image + 20, sizeof state.message.text);
     for (int i = 0; i < 4; i++)
-        state.end[i] = low(image + 18 + 4 * i) + ((uint32_t)low(image + 20 + 4 * i) << 16);
+        state.end[i] = low(image + 36 + 4 * i) + ((uint32_t)low(image + 38 + 4 * i) << 16);
     for (int i = 0; i < 8; i++) {
-        unsigned code = low(image + 34 + 2 * i), power = code % REQUESTED;
+        unsigned code = low(image + 52 + 2 * i), power = code % REQUESTED;
         state.m[i] = (struct module){
             .power = power <= OFF ? PW_ON : power < FAILED ? PW_OFF : PW_FAILED, .requested = code >= REQUESTED,
             .tries = (uint8_t)(power <= OFF ? power / 60 + 1 : power < FAILED ? power - OFF : 0),
@@ -81,7 +83,7 @@ static uint8_t step(const uint8_t *frame, size_t length, uint8_t *report, size_t
  * One that is cut off, or of unknown kind, is handed over as it is. */
 static uint8_t one_by_one(const uint8_t *frames, size_t length, size_t *written)
 {
-    static const uint8_t totals[7] = { 0, 2, 3, 2, 6, 8, 7 };
+    static const uint8_t totals[8] = { 0, 2, 3, 2, 6, 8, 7, 22 };
     size_t used = 0;
     uint8_t answer = 0;
     while (length > 0) {

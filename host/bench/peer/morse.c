@@ -81,13 +81,20 @@ static size_t keyed(const uint8_t *text, size_t n, uint8_t *units)
     return at;
 }
 
-uint8_t peer_key(const uint8_t *text, size_t n, uint8_t *units, size_t room, size_t *count)
+uint8_t peer_text(const uint8_t *text, size_t n)
 {
-    *count = 0;
     if (n > 64) return 11;
     for (size_t i = 0; i < n; i++) if (text[i] != ' ' && !sign(text[i])) return 12;
     for (size_t i = 0; i < n; i++)
         if (text[i] == ' ' && (i == 0 || i + 1 == n || text[i + 1] == ' ')) return 13;
+    return 0;
+}
+
+uint8_t peer_key(const uint8_t *text, size_t n, uint8_t *units, size_t room, size_t *count)
+{
+    *count = 0;
+    uint8_t refusal = peer_text(text, n);
+    if (refusal) return refusal;
     if (keyed(text, n, 0) > room) return 14;
     *count = keyed(text, n, units);
     return 0;

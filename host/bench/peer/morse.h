@@ -4,6 +4,8 @@
 #include <stddef.h>
 #include <stdint.h>
 
+/* What a text is refused with, 11 to 13; 0 where it can be keyed. */
+uint8_t peer_text(const uint8_t *text, size_t n);
 uint8_t peer_key(const uint8_t *text, size_t n, uint8_t *units, size_t room, size_t *count);
 uint8_t peer_read(const uint8_t *units, size_t n, uint8_t *text, size_t room, size_t *count);
 #endif

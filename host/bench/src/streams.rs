@@ -1,7 +1,10 @@
 //! What is measured: an image to start from, and inputs that go round.
 
+use model::message::Message;
 use model::state::{Mode, Module, Power, END_SECONDS, TRIES};
-use model::table::{BATTERY, FROM_GROUND, MISSION, ORDER, PAYLOAD, THRESHOLDS, TICK, TIMED};
+use model::table::{
+    BATTERY, FROM_GROUND, GREETING, MISSION, ORDER, PAYLOAD, THRESHOLDS, TICK, TIMED,
+};
 use model::{calls, frame, image, report, State};
 
 /// A row of the table.
@@ -69,6 +72,21 @@ fn ending(mode: Mode) -> State {
     let ends = [END_SECONDS; 4];
     State {
         ends,
+        ..board(mode)
+    }
+}
+
+/// A message as long as any.
+const MESSAGE: Message = Message {
+    repeats: u8::MAX,
+    length: 16,
+    bytes: *b"HELLO FROM EARTH",
+};
+
+/// The same with a message, so many times that each beacon on the way is extended.
+fn greeted(mode: Mode) -> State {
+    State {
+        message: MESSAGE,
         ..board(mode)
     }
 }
@@ -155,6 +173,14 @@ pub fn streams() -> Vec<Stream> {
         let [high, low] = (64 * i).to_be_bytes();
         vec![TIMED, FROM_GROUND, high, low, PAYLOAD, 0, 20]
     };
+    let greeting = |i: u16| {
+        let [high, low] = (64 * i).to_be_bytes();
+        let Message {
+            repeats, length, ..
+        } = MESSAGE;
+        let head = [GREETING, FROM_GROUND, high, low, repeats, length];
+        [&head[..], &MESSAGE.bytes].concat()
+    };
     let all = |order: fn(u16) -> Vec<u8>| (1..=1_024).map(|i| order(i % 1_024)).collect();
     let units = |text| model::morse::key(text).unwrap_or_default();
     vec![
@@ -173,8 +199,10 @@ pub fn streams() -> Vec<Stream> {
             ending(Mode::Safe),
             quiet(),
         ),
+        step("tick in SAFE, a message kept", greeted(Mode::Safe), quiet()),
         step("order, done", board(Mode::Safe), all(order)),
         step("timed order, done", board(Mode::Safe), all(timed)),
+        step("greeting, done", board(Mode::Safe), all(greeting)),
         step(
             "battery, refused (6)",
             board(Mode::Safe),
@@ -269,7 +297,7 @@ mod tests {
     #[test]
     fn single_calls_come_to_the_same() {
         let refused = [0x04, 2, 0, 1, 3, 1];
-        for tail in [&[][..], &[TICK], &[0x07], &refused] {
+        for tail in [&[][..], &[TICK], &[GREETING], &[0x08], &refused] {
             let frames = [&pass(0), tail].concat();
             let start = image::save(&board(Mode::Safe));
             let (mut one, mut each) = ((start, [0; 2_048]), (start, [0; 2_048]));
