@@ -4,7 +4,7 @@
 
 use crate::image::Image;
 use crate::tables::{origins, timed, TICK};
-use ems::{answer, Beacon, Craft, Module, Report, BEACON_COMPLETE_BYTES, REPORT_BYTES};
+use ems::{answer, Beacon, Craft, Module, Report, BEACON_EXTENDED_BYTES, REPORT_BYTES};
 
 /// A board, and how far its flight has come.
 pub struct Board {
@@ -152,13 +152,18 @@ impl Board {
         self.image
     }
 
-    /// A beacon's text.
-    pub fn beacon(&self, which: Beacon) -> String {
-        let mut text = [0; BEACON_COMPLETE_BYTES];
-        let (_, length) = match which {
+    /// A beacon's text, or the number that it is refused with. One that is due has a
+    /// text.
+    pub fn beacon(&self, which: Beacon) -> Result<String, u8> {
+        let mut text = [0; BEACON_EXTENDED_BYTES];
+        let (answer, length) = match which {
             Beacon::Basic => self.craft.beacon_basic(&mut text),
             Beacon::Complete => self.craft.beacon_complete(&mut text),
+            Beacon::Extended => self.craft.beacon_extended(&mut text),
         };
-        String::from_utf8_lossy(&text[..length]).into_owned()
+        match answer {
+            answer::DONE => Ok(String::from_utf8_lossy(&text[..length]).into_owned()),
+            refusal => Err(refusal),
+        }
     }
 }

@@ -4,9 +4,10 @@ use crate::args;
 use crate::board::{Board, Step};
 use crate::failure::{Failure, REFUSED};
 use crate::few::Few;
+use crate::refusal::reason;
 use crate::script::in_words;
 use crate::stream::{Sent, Stream};
-use crate::tables::{loses_the_cut, meaning};
+use crate::tables::loses_the_cut;
 use crate::words::{count, thousands};
 
 /// A flight that is under way.
@@ -103,7 +104,7 @@ impl Flight {
 /// what follows it.
 pub fn refused(name: &str, sent: &Sent, refusal: u8, hint: Option<String>) -> String {
     let Sent { n, place, frame } = sent;
-    let (n, frame, why) = (thousands(*n), in_words(frame), meaning(refusal));
+    let (n, why, frame) = (thousands(*n), reason(frame, refusal), in_words(frame));
     let refused = format!("{name}, {place}: frame {n}, `{frame}`, is refused: {refusal}, {why}");
     match hint.filter(|_| loses_the_cut(refusal)) {
         Some(hint) => format!("{refused}; {hint}"),

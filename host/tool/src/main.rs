@@ -16,6 +16,7 @@ mod output;
 mod pass;
 mod plot;
 mod progress;
+mod refusal;
 mod report;
 mod script;
 mod source;

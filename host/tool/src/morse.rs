@@ -5,9 +5,19 @@ use crate::tables::meaning;
 use crate::words::{count, list, thousands, visible};
 use ems::{answer, TEXT_BYTES, UNITS_BYTES};
 
-/// Why a text is refused: the limit, the alphabet or the place, where it is that.
+/// What is said of a text that is refused.
 pub fn unkeyed(text: &str, refusal: u8) -> String {
-    let why = meaning(refusal);
+    format!("the text is refused: {refusal}, {}", why(text, refusal))
+}
+
+/// Why bytes are no text that is keyed; nothing, if they are.
+pub fn fault(text: &[u8]) -> Option<String> {
+    let (given, _) = ems::key(text, &mut [0; UNITS_BYTES]);
+    (given != answer::DONE).then(|| why(&String::from_utf8_lossy(text), given))
+}
+
+/// Why a text is refused: the limit, the alphabet or the place, where it is that.
+fn why(text: &str, refusal: u8) -> String {
     let more = match refusal {
         answer::TEXT_TOO_LONG => {
             let bytes = count(text.len() as u64, "byte");
@@ -20,7 +30,7 @@ pub fn unkeyed(text: &str, refusal: u8) -> String {
         answer::BAD_SPACE => format!(": character {}", thousands(bad_space(text))),
         _ => String::new(),
     };
-    format!("the text is refused: {refusal}, {why}{more}")
+    meaning(refusal).to_string() + &more
 }
 
 /// The first character that can't be keyed, and those that can.

@@ -75,7 +75,7 @@ fn quarrels(report: &Report, kind: &Kind) -> Vec<String> {
     let both = report.on & report.failed;
     let its_mode = due.map(|due| match due {
         Beacon::Basic => Mode::Recovery,
-        Beacon::Complete => Mode::Safe,
+        Beacon::Complete | Beacon::Extended => Mode::Safe,
     });
     let checks = [
         (unsent, "this kind has no origin and no serial".to_string()),

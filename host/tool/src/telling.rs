@@ -2,9 +2,10 @@
 
 use crate::board::Step;
 use crate::output::Output;
+use crate::refusal::reason;
 use crate::script::in_words;
 use crate::story;
-use crate::tables::{meaning, shorts, TICK};
+use crate::tables::{shorts, TICK};
 use crate::words::{clock, count, list, modules, thousands};
 use ems::{Beacon, Report};
 use std::io::{self, Write};
@@ -84,7 +85,7 @@ impl Telling {
 fn happened(frame: &[u8], step: &Step) -> Option<String> {
     let came = match step.outcome {
         Ok(report) => came_of(frame, step, &report)?,
-        Err(refusal) => format!("refused, {refusal}: {}", meaning(refusal)),
+        Err(refusal) => format!("refused, {refusal}: {}", reason(frame, refusal)),
     };
     Some(format!("{}: {came}", in_words(frame)))
 }

@@ -18,6 +18,22 @@ fn the_same_flight_never_differs() {
     assert_eq!(ran.text().matches(": holds\n").count(), 3);
 }
 
+/// A greeting is a frame like others: with the same one the promise holds, also where
+/// one craft has no beacon for it, and with another one it is not spoken of.
+#[test]
+fn greetings_are_among_the_same_frames() {
+    let flight = |millivolts: &str, greeting: &str| {
+        format!(
+            "antennas deployed\nbattery {millivolts}\ngreet ground 1 5 \"{greeting}\"\ntick 1500\n"
+        )
+    };
+    let (low, high) = (flight("7000", "HELLO"), flight("7800", "HELLO"));
+    let ran = compared("greeted", &low, &high).status(0);
+    assert_eq!(ran.text().matches(": holds\n").count(), 3);
+    let ran = compared("differently", &low, &flight("7800", "HELLo")).status(3);
+    ran.says("frame 3, the frames are not the same: `greet ground 1 5 \"HELLO\"` on A, `greet ground 1 5 \"HELLo\"` on B");
+}
+
 #[test]
 fn a_lower_reading_on_b_breaks_the_premises() {
     let ran = run(&[

@@ -27,6 +27,16 @@ fn every_command_has_help_with_an_example() {
 }
 
 #[test]
+fn help_says_how_a_greeting_is_read() {
+    run(&["beacon", "--help"])
+        .status(0)
+        .prints("--extended")
+        .prints("if a greeting is kept")
+        .prints("with no greeting kept, the status is 2")
+        .prints("\n  ems beacon --all examples/school.pass\n");
+}
+
+#[test]
 fn wrong_usage_is_told_with_status_1() {
     for args in [
         &[][..],

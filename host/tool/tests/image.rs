@@ -5,31 +5,33 @@ mod common;
 
 use common::{bash, fed, place, run, scratch, Ran};
 
-/// The fresh start: version 4, waiting for no second, thresholds of 7,400 and
-/// 7,000 mV, no end, every module off with 5 tries, the core four requested.
-const FRESH: [u8; 50] = [
-    4, 0, 0, 0, 0, 0, 0, 0, 0, 0, 0xE8, 0x1C, 0x58, 0x1B, 0, 0, 0, 0, //
+/// The fresh start: version 5, waiting for no second, thresholds of 7,400 and
+/// 7,000 mV, no greeting, no end, every module off with 5 tries, the core four
+/// requested.
+const FRESH: [u8; 68] = [
+    5, 0, 0, 0, 0, 0, 0, 0, 0, 0, 0xE8, 0x1C, 0x58, 0x1B, 0, 0, 0, 0, //
+    0, 0, 0, 0, 0, 0, 0, 0, 0, 0, 0, 0, 0, 0, 0, 0, 0, 0, //
     0, 0, 0, 0, 0, 0, 0, 0, 0, 0, 0, 0, 0, 0, 0, 0, //
     0xF5, 0x80, 0xF5, 0x80, 0xF5, 0x80, 0xF5, 0, 0xF5, 0, 0xF5, 0x80, 0xF5, 0, 0xF5, 0,
 ];
 
 /// Where the ends begin, and whose they are.
 const ENDS: [(usize, &str); 4] = [
-    (18, "ADCS"),
-    (22, "PAYLOAD"),
-    (26, "SBAND1"),
-    (30, "SBAND2"),
+    (36, "ADCS"),
+    (40, "PAYLOAD"),
+    (44, "SBAND1"),
+    (48, "SBAND2"),
 ];
 
 /// The fresh start with other bytes from a place on.
-fn with(at: usize, bytes: &[u8]) -> [u8; 50] {
+fn with(at: usize, bytes: &[u8]) -> [u8; 68] {
     let mut image = FRESH;
     image[at..at + bytes.len()].copy_from_slice(bytes);
     image
 }
 
 /// In SAFE, with other bytes from a place on.
-fn safe_with(at: usize, bytes: &[u8]) -> [u8; 50] {
+fn safe_with(at: usize, bytes: &[u8]) -> [u8; 68] {
     let mut image = with(1, &[0x05, 0x55, 0x01]);
     image[at..at + bytes.len()].copy_from_slice(bytes);
     image
@@ -48,7 +50,7 @@ fn says(image: &[u8], line: &str) {
 fn every_field_is_shown_with_its_bytes() {
     let wanted = "\
 at  bytes        field          says
- 0  04           version        4
+ 0  05           version        5
  1  00 00 00     mode           DEPLOY_WAIT, 0 seconds waited for the antennas
  4  00           control        0 of 30 seconds
  5  00 00        beacon         0 of 300 seconds
@@ -58,18 +60,24 @@ at  bytes        field          says
 12  58 1B        descend        7,000 mV
 14  00 00        ground         last number 0
 16  00 00        payload        last number 0
-18  00 00 00 00  ADCS's end     none
-22  00 00 00 00  PAYLOAD's end  none
-26  00 00 00 00  SBAND1's end   none
-30  00 00 00 00  SBAND2's end   none
-34  F5 80        MCS            off, 5 tries left, requested
-36  F5 80        COMM1          off, 5 tries left, requested
-38  F5 80        COMM2          off, 5 tries left, requested
-40  F5 00        ADCS           off, 5 tries left, not requested
-42  F5 00        PAYLOAD        off, 5 tries left, not requested
-44  F5 80        I2C            off, 5 tries left, requested
-46  F5 00        SBAND1         off, 5 tries left, not requested
-48  F5 00        SBAND2         off, 5 tries left, not requested
+18  00           repeats        0 left
+19  00           length         0 characters
+20  00 00 00 00  message        none
+24  00 00 00 00
+28  00 00 00 00
+32  00 00 00 00
+36  00 00 00 00  ADCS's end     none
+40  00 00 00 00  PAYLOAD's end  none
+44  00 00 00 00  SBAND1's end   none
+48  00 00 00 00  SBAND2's end   none
+52  F5 80        MCS            off, 5 tries left, requested
+54  F5 80        COMM1          off, 5 tries left, requested
+56  F5 80        COMM2          off, 5 tries left, requested
+58  F5 00        ADCS           off, 5 tries left, not requested
+60  F5 00        PAYLOAD        off, 5 tries left, not requested
+62  F5 80        I2C            off, 5 tries left, requested
+64  F5 00        SBAND1         off, 5 tries left, not requested
+66  F5 00        SBAND2         off, 5 tries left, not requested
 ";
     assert_eq!(shown(&FRESH).status(0).text(), wanted);
     let file = scratch("saved.bin", FRESH);
@@ -97,8 +105,8 @@ fn every_number_is_put_in_words() {
     mode(87_301, "SAFE");
     let module = |number: u16, said: &str| {
         let [low, high] = number.to_le_bytes();
-        let line = format!("48  {low:02X} {high:02X}        SBAND2         {said}");
-        says(&with(48, &[low, high]), &line);
+        let line = format!("66  {low:02X} {high:02X}        SBAND2         {said}");
+        says(&with(66, &[low, high]), &line);
     };
     for (number, power) in [
         (0, "on, 1 try left, 0 of 60 seconds"),
@@ -160,13 +168,13 @@ fn every_number_is_put_in_words() {
 fn bytes_that_are_no_image_are_told_why() {
     let wrong = |image: &[u8], why: &str| {
         let ran = shown(image).status(1);
-        assert_eq!(ran.text().lines().count(), 23, "{}", ran.text());
+        assert_eq!(ran.text().lines().count(), 29, "{}", ran.text());
         ran.says(&format!(
             "ems: standard input: no state has this image: {why}\n"
         ));
     };
-    wrong(&with(0, &[3]), "version is 3, not 4");
-    wrong(&with(0, &[5]), "version is 5, not 4");
+    wrong(&with(0, &[4]), "version is 4, not 5");
+    wrong(&with(0, &[6]), "version is 6, not 5");
     wrong(
         &with(1, &[0x06, 0x55, 0x01]),
         "mode is 87,302, not 0 to 87,301",
@@ -204,17 +212,17 @@ fn bytes_that_are_no_image_are_told_why() {
         );
     }
     let module = "not 0 to 846, nor so much and 32,768";
-    wrong(&with(34, &[0x4F, 0x03]), &format!("MCS is 847, {module}"));
+    wrong(&with(52, &[0x4F, 0x03]), &format!("MCS is 847, {module}"));
     wrong(
-        &with(34, &[0xFF, 0x7F]),
+        &with(52, &[0xFF, 0x7F]),
         &format!("MCS is 32,767, {module}"),
     );
     wrong(
-        &with(48, &[0x4F, 0x83]),
+        &with(66, &[0x4F, 0x83]),
         &format!("SBAND2 is 33,615, {module}"),
     );
     wrong(
-        &with(48, &[0xFF, 0xFF]),
+        &with(66, &[0xFF, 0xFF]),
         &format!("SBAND2 is 65,535, {module}"),
     );
     shown(&with(7, &[2]))
@@ -227,8 +235,8 @@ fn bytes_that_are_no_image_are_told_why() {
 
 #[test]
 fn other_lengths_are_no_image() {
-    for length in [0, 1, 34, 46, 49, 51] {
-        let bytes = vec![4; length];
+    for length in [0, 1, 34, 50, 67, 69] {
+        let bytes = vec![5; length];
         let said = if length == 1 {
             "1 byte".to_string()
         } else {
@@ -236,7 +244,7 @@ fn other_lengths_are_no_image() {
         };
         shown(&bytes)
             .status(1)
-            .says(&format!("standard input has {said}, and an image has 50\n"));
+            .says(&format!("standard input has {said}, and an image has 68\n"));
     }
 }
 
@@ -264,7 +272,7 @@ fn an_image_can_be_written_in_hex() {
     };
     wrong("04 0", "standard input: the last byte has one digit");
     wrong("04 0x", "standard input: `x` is no hexadecimal digit");
-    wrong("04 00", "standard input has 2 bytes, and an image has 50");
+    wrong("04 00", "standard input has 2 bytes, and an image has 68");
 }
 
 #[test]
@@ -282,10 +290,10 @@ fn a_flight_ends_with_an_image() {
         " 8  78 1E        tension        7,800 mV\n",
         "14  10 00        ground         last number 16\n",
         "16  03 00        payload        last number 3\n",
-        "18  00 00 00 00  ADCS's end     none\n",
-        "22  99 04 00 00  PAYLOAD's end  in 1,177 seconds\n",
-        "34  F0 80        MCS            on, 5 tries left, requested\n",
-        "42  F2 80        PAYLOAD        off, 2 tries left, requested\n",
+        "36  00 00 00 00  ADCS's end     none\n",
+        "40  99 04 00 00  PAYLOAD's end  in 1,177 seconds\n",
+        "52  F0 80        MCS            on, 5 tries left, requested\n",
+        "60  F2 80        PAYLOAD        off, 2 tries left, requested\n",
     ] {
         assert!(ran.text().contains(line), "{} lacks {line}", ran.text());
     }
@@ -303,6 +311,80 @@ fn a_flight_ends_with_an_image() {
             .text(),
         ran.text()
     );
+}
+
+/// The greeting as it is kept, as its repeats are used up, and cleared.
+#[test]
+fn a_greeting_is_shown_with_what_is_left_of_it() {
+    let flight = "antennas deployed\nbattery 7800\ntick 931\ngreet ground 21 3 \"HELLO FROM 4B\"\n";
+    let shown = |script: &str, repeats: &str, kept: &str| {
+        let file = scratch("greeted.pass", format!("{flight}{script}"));
+        run(&["image", "--after", &file])
+            .status(0)
+            .prints(&format!("{repeats}\n{kept}\n36  "));
+    };
+    let kept = "19  0D           length         13 characters\n\
+                20  48 45 4C 4C  message        \"HELLO FROM 4B\"\n\
+                24  4F 20 46 52\n28  4F 4D 20 34\n32  42 00 00 00";
+    let none = "19  00           length         0 characters\n\
+                20  00 00 00 00  message        none\n\
+                24  00 00 00 00\n28  00 00 00 00\n32  00 00 00 00";
+    shown("", "18  03           repeats        3 left", kept);
+    shown("tick 60\n", "18  02           repeats        2 left", kept);
+    // It stays after the last one, and in RECOVERY.
+    let spent = "18  00           repeats        0 left";
+    shown("tick 180\n", spent, kept);
+    shown("tick 9999\n", spent, kept);
+    shown(
+        "tick 60\nbattery 6900\ntick 900\n",
+        "18  02           repeats        2 left",
+        kept,
+    );
+    for cleared in ["0 \"\"", "5 \"\"", "0 \"73\""] {
+        shown(&format!("greet ground 22 {cleared}\n"), spent, none);
+    }
+}
+
+#[test]
+fn a_greeting_that_no_board_keeps_is_told_why() {
+    let wrong = |length: u8, text: &[u8], why: &str| {
+        let ran = shown(&with(18, &[&[3, length][..], text].concat())).status(1);
+        ran.says(&format!(
+            "ems: standard input: no state has this image: {why}\n"
+        ))
+    };
+    wrong(17, b"HELLO FROM 4B", "length is 17, not 0 to 16")
+        .prints("19  11           length         17, which no state has\n");
+    let alphabet = "it has 0 to 9, A to Z, the space, `,`, `.`, `/` and `?`";
+    wrong(
+        5,
+        b"Hello",
+        &format!(
+            "message is \"Hello\", which can't be keyed: a character is outside the alphabet: \
+             `e`, character 2; {alphabet}"
+        ),
+    )
+    .prints("20  48 65 6C 6C  message        \"Hello\", which no state has\n24  6F 00 00 00\n");
+    wrong(
+        6,
+        b"HELLO",
+        &format!(
+            "message is \"HELLO\u{2400}\", which can't be keyed: a character is outside the \
+             alphabet: `\u{2400}`, character 6; {alphabet}"
+        ),
+    );
+    wrong(
+        4,
+        b"A  B",
+        "message is \"A  B\", which can't be keyed: a space is first, last or doubled: character 3",
+    );
+    wrong(
+        4,
+        b"HELLO",
+        "message is \"HELL\", with a byte past its length that is not 0",
+    );
+    // With no text there may be repeats: no board gets there, and none refuses it.
+    says(&with(18, &[3]), "18  03           repeats        3 left");
 }
 
 /// The seconds on run towards 60 while tries are spent, and stand still once none are.
@@ -355,5 +437,5 @@ fn an_image_or_a_flight_and_not_both() {
     }
     bash("$ems image examples/dawn.pass")
         .status(1)
-        .says(" bytes, and an image has 50");
+        .says(" bytes, and an image has 68");
 }

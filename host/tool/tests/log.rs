@@ -451,3 +451,184 @@ fn minutes_that_no_board_takes_are_refused() {
             .says(&format!("frame 935, `{sent}`, is refused: {number}, "));
     }
 }
+
+/// In SAFE, at 00:15:31; a beacon is due every minute, at its first second.
+const SAFE: &str = "antennas deployed\nbattery 7800\ntick 931\n";
+
+/// What an explanation says of what follows in SAFE.
+fn in_safe(script: &str, line: &str) {
+    explained(&format!("{SAFE}{script}"), line);
+}
+
+#[test]
+fn a_greeting_is_told_with_its_beacons() {
+    in_safe(
+        "greet ground 21 5 \"HELLO FROM 4B\"\n",
+        "greet ground 21 5 \"HELLO FROM 4B\": done, the greeting \"HELLO FROM 4B\" is kept, \
+         for 5 beacons\n",
+    );
+    in_safe(
+        "greet ground 21 1 \"HI\"\n",
+        ": done, the greeting \"HI\" is kept, for 1 beacon\n",
+    );
+    // In every mode.
+    for (script, mode) in [
+        ("", "0"),
+        ("antennas deployed\nbattery 7000\ntick 901\n", "1"),
+    ] {
+        let script = format!("{script}greet ground 21 5 \"HI\"\n");
+        explained(
+            &script,
+            ": done, the greeting \"HI\" is kept, for 5 beacons\n",
+        );
+        let ran = fed(&["log", "--as", "script", "-"], script.as_bytes()).status(0);
+        let last = ran.text().lines().last().expect("a report");
+        assert!(last.contains(&format!(" 07 1 21 0 {mode} 27 ")), "{last}");
+    }
+    let again = "greet ground 21 5 \"HELLO\"\n";
+    in_safe(
+        &format!("{again}{again}"),
+        "8, 21 is a repeat of ground's last number: nothing moved\n",
+    );
+    in_safe(
+        &format!("{again}greet ground 20 5 \"HELLO\"\n"),
+        "9, 20 is stale, ground's last number was 21: nothing moved\n",
+    );
+    // The ground has one row of numbers, whatever they are for.
+    in_safe(
+        &format!("{again}order ground 21 PAYLOAD on\n"),
+        "8, 21 is a repeat of ground's last number: nothing moved\n",
+    );
+}
+
+#[test]
+fn a_greeting_is_replaced_and_cleared() {
+    let hello = "greet ground 21 5 \"HELLO\"\ntick 90\n";
+    let then = |words: &str, told: &str| {
+        let line = format!("greet ground 22 {words}");
+        in_safe(
+            &format!("{hello}{line}\n"),
+            &format!("{line}: done, {told}\n"),
+        );
+    };
+    then(
+        "2 \"73\"",
+        "the greeting \"73\" is kept, for 2 beacons, in place of \"HELLO\"",
+    );
+    then(
+        "9 \"HELLO\"",
+        "the greeting \"HELLO\" is kept, for 9 beacons",
+    );
+    // Of five, two were due meanwhile.
+    then("3 \"HELLO\"", "nothing changed");
+    for clear in ["0 \"\"", "5 \"\"", "0 \"73\""] {
+        then(clear, "the greeting \"HELLO\" is cleared");
+        let line = format!("greet ground 1 {clear}");
+        in_safe(
+            &format!("{line}\n"),
+            &format!("{line}: done, nothing changed\n"),
+        );
+    }
+    // What is cleared is sent no more.
+    in_safe(
+        &format!("{hello}greet ground 22 0 \"\"\ntick 300\n"),
+        "the greeting \"HELLO\" is cleared\n\
+         00:22:01      1,325  300 ticks, frames 1,026 to 1,325: nothing changed; \
+         5 complete beacons, the last EMS S 7800 27 00\n",
+    );
+}
+
+/// The last one is told by itself, so that those before and after it are of one kind.
+#[test]
+fn the_last_repeat_is_told() {
+    in_safe(
+        "greet ground 21 3 \"HELLO FROM 4B\"\ntick 600\n",
+        "00:15:31        934  greet ground 21 3 \"HELLO FROM 4B\": done, the greeting \
+         \"HELLO FROM 4B\" is kept, for 3 beacons\n\
+         00:18:00      1,083  149 ticks, frames 935 to 1,083: nothing changed; \
+         2 extended beacons, the last EMS S 7800 27 00 HELLO FROM 4B\n\
+         00:18:01      1,084  tick: the greeting goes out for the last time; \
+         extended beacon due: EMS S 7800 27 00 HELLO FROM 4B\n\
+         00:25:31      1,534  450 ticks, frames 1,085 to 1,534: nothing changed; \
+         7 complete beacons, the last EMS S 7800 27 00\n",
+    );
+    // It stays, and can be cleared.
+    in_safe(
+        "greet ground 21 3 \"HELLO\"\ntick 600\ngreet ground 22 0 \"\"\n",
+        "greet ground 22 0 \"\": done, the greeting \"HELLO\" is cleared\n",
+    );
+}
+
+/// On the way down the beacon of that very second is none, and on the way up it is an
+/// extended one: the mode after judging counts.
+#[test]
+fn recovery_uses_up_nothing() {
+    in_safe(
+        "greet ground 21 2 \"HELLO\"\nbattery 6900\ntick 629\nbattery 7800\ntick 90\n",
+        "00:15:31        935  battery 6900: done, tension 6,900 mV\n\
+         00:16:00        964  29 ticks, frames 936 to 964: nothing changed\n\
+         00:16:01        965  tick: SAFE to RECOVERY, tension 6,900 mV below descend 7,000 mV\n\
+         00:26:00      1,564  599 ticks, frames 966 to 1,564: nothing changed; \
+         2 basic beacons, the last EMS R 6900\n\
+         00:26:00      1,565  battery 7800: done, tension 7,800 mV\n\
+         00:26:01      1,566  tick: RECOVERY to SAFE, tension 7,800 mV above ascend 7,400 mV; \
+         extended beacon due: EMS S 7800 27 00 HELLO\n\
+         00:27:00      1,625  59 ticks, frames 1,567 to 1,625: nothing changed\n\
+         00:27:01      1,626  tick: the greeting goes out for the last time; \
+         extended beacon due: EMS S 7800 27 00 HELLO\n",
+    );
+}
+
+/// Why a greeting is refused: the keyer's reason, where it is the text.
+#[test]
+fn a_greeting_that_is_refused_is_told_why() {
+    let refused = |line: &str, said: &str| {
+        let script = format!("{SAFE}{line}\n");
+        let args = ["log", "--explain", "--as", "script", "-"];
+        let ran = fed(&args, script.as_bytes()).status(2);
+        let (number, why) = said.split_once(", ").expect("a number and a reason");
+        let ran = ran.prints(&format!("  {line}: refused, {number}: {why}\n"));
+        ran.says(&format!(
+            "line 4: frame 934, `{line}`, is refused: {said}\n"
+        ));
+    };
+    let alphabet = "it has 0 to 9, A to Z, the space, `,`, `.`, `/` and `?`";
+    let outside = "6, the greeting can't be keyed: a character is outside the alphabet";
+    refused(
+        "greet ground 21 5 \"Hello from 4B\"",
+        &format!("{outside}: `e`, character 2; {alphabet}"),
+    );
+    refused(
+        "greet ground 21 5 \"HELLO!\"",
+        &format!("{outside}: `!`, character 6; {alphabet}"),
+    );
+    // Also where it would be cleared, and where the payload sends it.
+    refused(
+        "greet ground 21 0 \"hi\"",
+        &format!("{outside}: `h`, character 1; {alphabet}"),
+    );
+    refused(
+        "greet payload 21 5 \"hi\"",
+        &format!("{outside}: `h`, character 1; {alphabet}"),
+    );
+    let space = "6, the greeting can't be keyed: a space is first, last or doubled: character";
+    for (text, at) in [(" HI", 1), ("HI ", 3), ("A  B", 3), (" ", 1)] {
+        refused(
+            &format!("greet ground 21 5 \"{text}\""),
+            &format!("{space} {at}"),
+        );
+    }
+    refused(
+        "greet 3 21 5 \"HI\"",
+        "6, the origin, the length or a byte past the text is outside its range",
+    );
+    refused(
+        "greet payload 21 5 \"HI\"",
+        "7, the payload asks for what only the ground may",
+    );
+    // Other frames are told as ever.
+    refused(
+        "battery 4999",
+        "6, a field is outside its range, or descend is above ascend",
+    );
+}

@@ -32,11 +32,99 @@ fn all_beacons_of_a_flight() {
     assert!(fed(&["beacon", "--all", "-"], b"").status(0).out.is_empty());
 }
 
+/// In SAFE, with a greeting for two beacons.
+const GREETED: &str =
+    "antennas deployed\nbattery 7800\ntick 931\ngreet ground 21 2 \"HELLO FROM 4B\"\n";
+
+#[test]
+fn a_greeting_goes_out_with_the_beacon_that_falls_due() {
+    let beacon = |script: &str, more: &[&str]| {
+        let args = [&["beacon", "--as", "script", "-"], more].concat();
+        fed(&args, format!("{GREETED}{script}").as_bytes()).status(0)
+    };
+    let due = beacon("", &[]);
+    assert_eq!(due.text(), "EMS S 7800 27 00 HELLO FROM 4B\n");
+    due.says("none is due at the end; left alone, the next is after 30 seconds");
+    let due = beacon("tick 30\n", &[]);
+    assert_eq!(
+        (due.text(), due.err.as_str()),
+        ("EMS S 7800 27 00 HELLO FROM 4B\n", "")
+    );
+    // The second is the last.
+    assert_eq!(beacon("tick 120\n", &[]).text(), "EMS S 7800 27 00\n");
+    let all = beacon("tick 120\nbattery 6900\ntick 320\n", &["--all"]);
+    let wanted = "\
+00:16:01  extended  EMS S 7800 27 00 HELLO FROM 4B
+00:17:01  extended  EMS S 7800 27 00 HELLO FROM 4B
+00:22:01  basic     EMS R 6900
+";
+    assert_eq!(all.text(), wanted);
+}
+
+/// The extended text is there as long as a greeting is kept: due or not, sent out or
+/// not, in every mode.
+#[test]
+fn the_extended_text_is_had_while_a_greeting_is_kept() {
+    let extended = |script: &str| {
+        let args = ["beacon", "--extended", "--as", "script", "-"];
+        fed(&args, script.as_bytes())
+    };
+    let had = |script: &str, text: &str| {
+        let ran = extended(script).status(0);
+        assert_eq!((ran.text(), ran.err.as_str()), (text, ""));
+    };
+    had(GREETED, "EMS S 7800 27 00 HELLO FROM 4B\n");
+    had(
+        &format!("{GREETED}tick 9999\n"),
+        "EMS S 7800 27 00 HELLO FROM 4B\n",
+    );
+    had(
+        &format!("{GREETED}battery 6900\ntick 30\n"),
+        "EMS R 6900 27 00 HELLO FROM 4B\n",
+    );
+    had(
+        "greet ground 1 1 \"CQ DE EMS/S, 73?\"\n",
+        "EMS D 0000 00 00 CQ DE EMS/S, 73?\n",
+    );
+    // None is kept: there is no text, and standard output has nothing of it.
+    for script in [
+        "",
+        "tick 9\n",
+        "greet ground 1 0 \"HI\"\n",
+        "greet ground 1 9 \"\"\n",
+    ] {
+        let ran = extended(script).status(2);
+        assert!(ran.out.is_empty());
+        ran.says("ems: the text is refused: 21, no greeting is kept\n");
+    }
+    let ran = extended(&format!("{GREETED}greet ground 22 0 \"\"\n")).status(2);
+    ran.says("refused: 21");
+    // A frame that is refused ends it as it does without.
+    let ran = extended(&format!("{GREETED}battery 1\n")).status(2);
+    assert!(ran.out.is_empty());
+    ran.says("`battery 1`, is refused: 6");
+    let args = [
+        "beacon",
+        "--extended",
+        "--keep-going",
+        "--as",
+        "script",
+        "-",
+    ];
+    let ran = fed(&args, format!("{GREETED}battery 1\n").as_bytes()).status(2);
+    assert_eq!(ran.text(), "EMS S 7800 27 00 HELLO FROM 4B\n");
+    let ran = fed(&args, b"battery 1\n").status(2);
+    let said: Vec<&str> = ran.err.lines().collect();
+    assert_eq!(said.len(), 2, "{}", ran.err);
+    assert!(said[0].contains("`battery 1`, is refused: 6") && said[1].contains("refused: 21"));
+    run(&["beacon", "--extended", "--all", "examples/school.pass"]).status(1);
+}
+
 #[test]
 fn a_refused_frame_ends_the_beacon_too() {
-    fed(&["beacon", "-"], &[0x07])
+    fed(&["beacon", "-"], &[0x08])
         .status(2)
-        .says("frame 1, `raw 07`, is refused: 4");
+        .says("frame 1, `raw 08`, is refused: 4");
 }
 
 #[test]

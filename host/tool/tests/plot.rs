@@ -142,6 +142,7 @@ fn every_mark_and_bar_says_what_it_is() {
     for script in [
         "dawn",
         "orbit",
+        "school",
         "shorted",
         "sister-craft-a",
         "starts-and-shorts",
@@ -255,6 +256,107 @@ fn beacons_too_close_to_tell_are_bands_that_are_counted() {
     let picture = drawn(&format!("{SAFE}tick 1200\n"));
     assert!(picture.says("21 complete"));
     assert_eq!(picture.about("complete beacon, ").len(), 21);
+}
+
+/// Three extended beacons, then complete ones: all are ticks, and those with the
+/// greeting fly a flag.
+#[test]
+fn an_extended_beacon_flies_a_flag() {
+    let greet = "greet ground 1 3 \"HELLO FROM 4B\"\n";
+    let picture = drawn(&format!("{SAFE}{greet}tick 600\n"));
+    assert!(picture.says("3 extended") && picture.says("8 complete"));
+    let flags = picture.about("extended beacon, ");
+    let said: Vec<&str> = flags.iter().map(|one| one.about.as_str()).collect();
+    assert_eq!(
+        said,
+        [
+            "extended beacon, 00:17:01",
+            "extended beacon, 00:18:01",
+            "extended beacon, 00:19:01",
+        ]
+    );
+    let complete = picture.about("complete beacon, ");
+    assert_eq!(complete.len(), 8);
+    for (flag, second) in flags.iter().zip([1_021.0, 1_081.0, 1_141.0]) {
+        assert_eq!(
+            (flag.element.as_str(), flag.class.as_str()),
+            ("path", "solid")
+        );
+        assert!(near(flag.left, x(&picture, second, 1_561.0)), "{flag:?}");
+        assert!(near(flag.width(), 5.0) && near(flag.height(), complete[0].height()));
+    }
+    assert!(complete.iter().all(|tick| near(tick.width(), 0.0)));
+    // The greeting is an order like others, in the list and under the pointer.
+    assert!(picture.says(greet.trim_end()));
+    picture.one("1, 00:16:01: greet ground 1 3 \"HELLO FROM 4B\": 0 done");
+    is_framed("three flags", &picture);
+}
+
+/// In the last second of the picture a flag flies to the left.
+#[test]
+fn a_flag_at_the_edge_stays_within_the_panels() {
+    let script = format!("{SAFE}greet ground 1 9 \"HI\"\ntick 180\n");
+    for (from, to) in [("00:18:01", "00:19:01"), ("0", "00:19:01")] {
+        let picture = drawn_with(&script, &["--from", from, "--to", to]);
+        is_framed(from, &picture);
+        let panel = picture.one("ascend");
+        let last = picture.one("extended beacon, 00:19:01");
+        assert!(near(last.right, panel.right) && near(last.width(), 5.0));
+    }
+}
+
+#[test]
+fn extended_is_in_the_legend_only_where_such_a_beacon_is_due() {
+    let legend = |script: &str, more: &[&str]| drawn_with(script, more).says("extended");
+    let greet = "greet ground 1 3 \"HI\"\n";
+    assert!(!legend(&format!("{SAFE}tick 600\n"), &[]));
+    // Kept and not due yet; kept in RECOVERY; cleared.
+    assert!(!legend(&format!("{SAFE}{greet}tick 59\n"), &[]));
+    assert!(!legend(
+        &format!("antennas deployed\nbattery 7000\n{greet}tick 2000\n"),
+        &[]
+    ));
+    assert!(!legend(
+        &format!("{SAFE}{greet}greet ground 2 0 \"\"\ntick 600\n"),
+        &[]
+    ));
+    // Of a flight in parts, the one in which it is due.
+    let script = format!("{SAFE}{greet}tick 600\n");
+    for (from, to, seen) in [
+        ("0", "17m", false),
+        ("17m", "18m", true),
+        ("20m", "26m", false),
+    ] {
+        assert_eq!(
+            legend(&script, &["--from", from, "--to", to]),
+            seen,
+            "{from}"
+        );
+    }
+}
+
+/// Of a day, a greeting of 255 beacons is one band, with a flag.
+#[test]
+fn extended_beacons_too_close_to_tell_are_a_band_with_a_flag() {
+    let script = format!("{SAFE}tick 40000\ngreet ground 1 255 \"HI\"\ntick 45439\n");
+    let file = scratch("day.pass", script);
+    let ran = run(&["plot", &file, "-o", "-"]).status(0);
+    assert!(ran.out.len() < 20_000, "{} bytes", ran.out.len());
+    let picture = Picture::read(ran.text());
+    assert!(picture.says("255 extended"));
+    let [band, flag] = picture.about("255 extended beacons, 11:23:01 to 15:37:01")[..] else {
+        panic!("one band and its flag");
+    };
+    assert_eq!(
+        (band.element.as_str(), band.class.as_str()),
+        ("rect", "many")
+    );
+    assert_eq!(
+        (flag.element.as_str(), flag.class.as_str()),
+        ("path", "solid")
+    );
+    assert!(near(flag.left, band.left) && flag.right < band.right);
+    is_framed("a band with a flag", &picture);
 }
 
 #[test]

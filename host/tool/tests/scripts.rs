@@ -48,6 +48,18 @@ fn each_kind_of_line_sends_its_bytes() {
         bytes("order ground 1 ADCS on for 1 min"),
         [6, 1, 0, 1, 3, 0, 1]
     );
+    assert_eq!(
+        bytes("greet ground 21 5 \"HELLO FROM 4B\""),
+        *b"\x07\x01\x00\x15\x05\x0DHELLO FROM 4B\0\0\0"
+    );
+    assert_eq!(
+        bytes("GREET Ground 65535 255 \"CQ DE EMS/S, 73?\"# full"),
+        *b"\x07\x01\xFF\xFF\xFF\x10CQ DE EMS/S, 73?"
+    );
+    assert_eq!(
+        bytes("greet ground 22 0 \"\""),
+        *b"\x07\x01\x00\x16\x00\x00\0\0\0\0\0\0\0\0\0\0\0\0\0\0\0\0"
+    );
     assert_eq!(bytes("raw 04 01 00 fF"), [4, 1, 0, 0xFF]);
     assert_eq!(bytes("\n  # a comment\n\ttick # and one\r\n"), [1, 0]);
     assert_eq!(bytes(""), []);
@@ -60,6 +72,34 @@ fn what_the_board_refuses_can_be_sent() {
     assert_eq!(bytes("order 3 1 8 2"), [4, 3, 0, 1, 8, 2]);
     assert_eq!(bytes("order payload 1 MCS on"), [4, 2, 0, 1, 0, 1]);
     assert_eq!(bytes("order 3 1 0 on for 20 min"), [6, 3, 0, 1, 0, 0, 20]);
+    // A text is sent as it stands: small letters, other signs, spaces at its ends.
+    for (text, length) in [
+        ("Hello", 5),
+        ("A#B # C", 7),
+        (" A  B ", 6),
+        ("\tA\u{7f}", 3),
+        ("\u{c9}COLE", 6),
+        ("\u{706b}\u{661f}\u{706b}\u{661f}\u{706b}!", 16),
+    ] {
+        let sent = bytes(&format!("greet payload 1 0 \"{text}\" # a comment"));
+        assert_eq!(sent[..6], [7, 2, 0, 1, 0, length], "{text}");
+        assert_eq!(&sent[6..6 + text.len()], text.as_bytes());
+        assert!(sent[6 + text.len()..].iter().all(|&byte| byte == 0));
+        assert_eq!(sent.len(), 22);
+    }
+}
+
+/// A `#` in quotes is part of the text, and a quote in a comment is part of the comment.
+#[test]
+fn a_comment_begins_outside_of_quotes() {
+    let hash = bytes("greet ground 1 5 \"#4\"#4\n# \"\ntick # \"x\n");
+    assert_eq!(
+        hash,
+        *b"\x07\x01\x00\x01\x05\x02#4\0\0\0\0\0\0\0\0\0\0\0\0\0\0\x01\x00"
+    );
+    // The word that tells a timed order apart is no word in a text.
+    let said = mistakes("order ground 1 MCS \"on for 20 min\"");
+    assert!(said.contains(":1:20: expected wanted: off, on"), "{said}");
 }
 
 #[test]
@@ -84,7 +124,7 @@ fn each_mistake_says_what_was_expected() {
     };
     said(
         "tack 3",
-        ":1:1: expected a frame: tick, battery, antennas, order, thresholds or raw",
+        ":1:1: expected a frame: tick, battery, antennas, order, thresholds, greet or raw",
     );
     said("tick 0", ":1:6: expected a number 1 to 4,294,967,295");
     said(
@@ -183,6 +223,65 @@ fn a_timed_order_that_no_board_takes_is_a_mistake() {
     assert_eq!(
         bytes("order ground 1 MCS on # for a day"),
         [4, 1, 0, 1, 0, 1]
+    );
+}
+
+#[test]
+fn a_greeting_that_fits_no_frame_is_a_mistake() {
+    let said = |line: &str, where_and_what: &str| {
+        let mistakes = mistakes(line);
+        assert!(mistakes.contains(where_and_what), "{mistakes}");
+    };
+    let text = "expected text: up to 16 bytes in double quotes";
+    let none = format!("{text}, as in \"HELLO FROM 4B\"\n");
+    said("greet ground 21 5", &format!(":1:19: {none}"));
+    for word in ["HELLO", "'HELLO'", "\u{201c}HELLO\u{201d}", "nothing"] {
+        said(
+            &format!("greet ground 21 5 {word}"),
+            &format!(":1:19: {none}"),
+        );
+    }
+    let unclosed = format!(":1:19: {text}; the second quote is missing\n");
+    for rest in ["\"", "\"HELLO", "\"HELLO # to all", "\"HELLO\u{201d}"] {
+        said(&format!("greet ground 21 5 {rest}"), &unclosed);
+    }
+    for (long, bytes) in [
+        ("HELLO FROM 4B 4BC".to_string(), "17"),
+        (" ".repeat(17), "17"),
+        ("\u{706b}".repeat(6), "18"),
+        ("A".repeat(256), "256"),
+        ("A".repeat(100_000), "100,000"),
+    ] {
+        said(
+            &format!("greet ground 21 5 \"{long}\""),
+            &format!(":1:19: {text}; it has {bytes} bytes\n"),
+        );
+    }
+    assert_eq!(
+        mistakes("greet ground 21 5 \"HELLO TO EVERYBODY\" # all"),
+        "ems: wrong.pass:1:19: expected text: up to 16 bytes in double quotes; it has 18 bytes\n    \
+         greet ground 21 5 \"HELLO TO EVERYBODY\" # all\n                      ^^^^^^^^^^^^^^^^^^^^\n"
+    );
+    said(
+        "greet ground 21 \"HELLO\" 5",
+        ":1:17: expected repeats: a number 0 to 255\n",
+    );
+    said(
+        "greet ground 21 256 \"HELLO\"",
+        ":1:17: expected repeats: a number 0 to 255\n",
+    );
+    said(
+        "greet ground \"HELLO\"",
+        ":1:14: expected serial: a number 0 to 65,535\n",
+    );
+    said("greet \"HELLO\"", ":1:7: expected origin: ground, payload");
+    said(
+        "greet ground 21 5 \"HELLO\" \"ALL\"",
+        ":1:27: expected the end of the line\n",
+    );
+    said(
+        "greet ground 21 5 \"HELLO\"S",
+        ":1:26: expected the end of the line\n",
     );
 }
 

@@ -70,6 +70,89 @@ fn a_timed_order_is_shown_in_words() {
     );
 }
 
+/// A greeting whose text a line can have is shown in words, whether the board takes it
+/// or not; another is shown as bytes.
+#[test]
+fn a_greeting_is_shown_in_words() {
+    let greeting = |head: [u8; 5], text: &[u8]| {
+        let mut frame = [&[7][..], &head, text].concat();
+        frame.resize(22, 0);
+        frame
+    };
+    let shown = |frame: Vec<u8>, words: &str, comment: &str| {
+        let ran = fed(&["show", "-"], &frame).status(0);
+        let line = format!("{:40}# 000000  {comment}", format!("{words} "));
+        assert_eq!(ran.text(), format!("{}\n", line.trim_end()));
+        assert_eq!(
+            fed(&["frames", "-", "-o", "-"], &ran.out).status(0).out,
+            frame
+        );
+    };
+    shown(
+        greeting([1, 0, 21, 5, 13], b"HELLO FROM 4B"),
+        "greet ground 21 5 \"HELLO FROM 4B\"",
+        "",
+    );
+    shown(
+        greeting([1, 0, 22, 0, 0], b""),
+        "greet ground 22 0 \"\"",
+        "",
+    );
+    shown(
+        greeting([1, 0xFF, 0xFF, 255, 16], b"CQ DE EMS/S, 73?"),
+        "greet ground 65535 255 \"CQ DE EMS/S, 73?\"",
+        "",
+    );
+    shown(
+        greeting([2, 0, 1, 5, 2], b"HI"),
+        "greet payload 1 5 \"HI\"",
+        "refused: 7, the payload asks for what only the ground may",
+    );
+    let alphabet = "it has 0 to 9, A to Z, the space, `,`, `.`, `/` and `?`";
+    let outside = "refused: 6, the greeting can't be keyed: a character is outside the alphabet";
+    shown(
+        greeting([1, 0, 21, 5, 7], b"Hi # 4B"),
+        "greet ground 21 5 \"Hi # 4B\"",
+        &format!("{outside}: `i`, character 2; {alphabet}"),
+    );
+    shown(
+        greeting([1, 0, 21, 5, 6], "\u{c9}COLE".as_bytes()),
+        "greet ground 21 5 \"\u{c9}COLE\"",
+        &format!("{outside}: `\u{c9}`, character 1; {alphabet}"),
+    );
+    shown(
+        greeting([1, 0, 21, 5, 4], b"A B "),
+        "greet ground 21 5 \"A B \"",
+        "refused: 6, the greeting can't be keyed: a space is first, last or doubled: character 4",
+    );
+    let other = "the origin, the length or a byte past the text is outside its range";
+    shown(
+        greeting([3, 0, 21, 5, 2], b"HI"),
+        "greet 3 21 5 \"HI\"",
+        &format!("refused: 6, {other}"),
+    );
+    let raw = |frame: Vec<u8>, why: &str| {
+        let bytes: Vec<String> = frame.iter().map(|byte| format!("{byte:02X}")).collect();
+        let words = format!("raw {}", bytes.join(" "));
+        shown(frame, &words, &format!("refused: 6, {why}"));
+    };
+    raw(greeting([1, 0, 21, 5, 3], b"A BC"), other);
+    raw(greeting([1, 0, 21, 5, 17], b"HELLO FROM 4B 4B"), other);
+    for (text, sign) in [
+        ("A\"B".as_bytes(), '"'),
+        (b"A\nB", '\u{240a}'),
+        (b"A\x1B[", '\u{241b}'),
+        (b"A\xFFB", '\u{fffd}'),
+        (b"A\0B", '\u{2400}'),
+    ] {
+        let why = "the greeting can't be keyed: a character is outside the alphabet";
+        raw(
+            greeting([1, 0, 21, 5, text.len() as u8], text),
+            &format!("{why}: `{sign}`, character 2; {alphabet}"),
+        );
+    }
+}
+
 #[test]
 fn a_report_is_shown_in_words() {
     let report = b"\x81\x04\x01\x00\x11\x08\x02\x27\x27\x00\x00";
@@ -83,6 +166,27 @@ fn a_report_is_shown_in_words() {
         "a report: timed order ground 17: 0 done; SAFE; requested 37 MCS,COMM1,COMM2,PAYLOAD,I2C;";
     assert!(ran.text().contains(words), "{}", ran.text());
     assert!(!ran.text().contains("no board"), "{}", ran.text());
+    // A greeting that is done outside SAFE, and a tick that makes its beacon due.
+    for (report, words) in [
+        (
+            b"\x81\x07\x01\x00\x15\x00\x01\x27\x27\x00\x00",
+            "a report: greeting ground 21: 0 done; RECOVERY; requested 27 MCS,COMM1,COMM2,I2C;",
+        ),
+        (
+            b"\x81\x01\x00\x00\x00\x00\x02\x27\x27\x00\x03",
+            "a report: tick: 0 done; SAFE; requested 27 MCS,COMM1,COMM2,I2C;",
+        ),
+    ] {
+        let ran = fed(&["show", "-"], report).status(0);
+        assert!(ran.text().contains(words), "{}", ran.text());
+        assert!(!ran.text().contains("no board"), "{}", ran.text());
+        let due = if report[10] == 3 { "extended" } else { "no" };
+        assert!(
+            ran.text().ends_with(&format!("; {due} beacon\n")),
+            "{}",
+            ran.text()
+        );
+    }
 }
 
 #[test]
@@ -105,8 +209,12 @@ fn a_report_that_no_board_sends_is_marked() {
     marked(changed(4, 8), "this kind has no such answer");
     marked(changed(5, 3), "there is no mode 3");
     marked(changed(8, 0x21), "MCS and I2C on and failed at once");
-    marked(changed(9, 3), "there is no beacon 3");
+    marked(changed(9, 4), "there is no beacon 4");
     marked(changed(9, 1), "no such beacon is due in SAFE");
+    marked(
+        [1, 0, 0, 0, 0, 1, 0x27, 0x27, 0, 3],
+        "no such beacon is due in RECOVERY",
+    );
     marked([4, 3, 0, 1, 0, 2, 0, 0, 0, 0], "there is no origin 3");
     marked(
         [4, 1, 0, 1, 10, 2, 0, 0, 0, 0],
@@ -125,6 +233,15 @@ fn a_report_that_no_board_sends_is_marked() {
         "it is not done in RECOVERY",
     );
     marked([6, 0, 0, 1, 8, 1, 0, 0, 0, 0], "there is no origin 0");
+    marked(
+        [7, 1, 0, 1, 10, 1, 0, 0, 0, 0],
+        "this kind has no such answer",
+    );
+    marked([7, 0, 0, 1, 0, 2, 0, 0, 0, 0], "there is no origin 0");
+    marked(
+        [7, 1, 0, 1, 0, 2, 0, 0, 0, 3],
+        "only a tick makes a beacon due",
+    );
     marked(
         [2, 0, 0, 0, 0, 2, 0, 0, 0, 2],
         "only a tick makes a beacon due",

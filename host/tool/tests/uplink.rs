@@ -24,8 +24,11 @@ fn frames(ran: &Ran) -> Vec<&str> {
     frames.lines().collect()
 }
 
-/// A line of `log --explain` without the text of a beacon.
+/// A line of `log --explain` without the text of a beacon. What a greeting says stays.
 fn without_text(line: &str) -> &str {
+    if line.contains("  greet ") {
+        return line;
+    }
     let begin = line.find("EMS ").unwrap_or(line.len());
     let line = &line[..begin];
     let line = line.trim_end_matches(": ").trim_end_matches(", the last ");
@@ -72,6 +75,7 @@ fn the_answer_is_that_of_one_call_with_the_bytes_of_frames() {
     for name in [
         "dawn",
         "morning",
+        "school",
         "shorted",
         "sister-craft-a",
         "starts-and-shorts",
@@ -137,6 +141,38 @@ fn a_pass_that_is_done_says_so() {
         verdict(&ran),
         ["0 reports come back, 0 bytes of a room of 0: one for every frame."]
     );
+}
+
+/// A greeting's beacons are told without their text, as others are; one that can't be
+/// keyed stops the pass, with the keyer's reason.
+#[test]
+fn a_greeting_goes_up_with_a_pass() {
+    let safe = "antennas deployed\nbattery 7800\ntick 931\n";
+    let script = format!("{safe}greet ground 21 3 \"HELLO FROM 4B\"\ntick 240\n");
+    let ran = handed(&script, &[]).status(0);
+    assert_eq!(
+        frames(&ran)[9..],
+        [
+            "00:15:31        934  greet ground 21 3 \"HELLO FROM 4B\": done, the greeting \
+             \"HELLO FROM 4B\" is kept, for 3 beacons",
+            "00:18:00      1,083  149 ticks, frames 935 to 1,083: nothing changed; \
+             2 extended beacons",
+            "00:18:01      1,084  tick: the greeting goes out for the last time; \
+             extended beacon due",
+            "00:19:31      1,174  90 ticks, frames 1,085 to 1,174: nothing changed; \
+             1 complete beacon",
+        ]
+    );
+    let ran = handed("greet ground 21 3 \"Hello\"\ntick\n", &[]).status(2);
+    let why = "6, the greeting can't be keyed: a character is outside the alphabet: \
+               `e`, character 2; it has 0 to 9, A to Z, the space, `,`, `.`, `/` and `?`";
+    assert_eq!(
+        verdict(&ran)[1],
+        format!("The pass stops before frame 1, line 1, `greet ground 21 3 \"Hello\"`: {why}.")
+    );
+    ran.says(&format!(
+        "`greet ground 21 3 \"Hello\"`, is refused: {why}\n"
+    ));
 }
 
 /// 8, 9 and 10 are reports, and stop nothing.
@@ -345,8 +381,8 @@ fn an_image_that_is_none_is_told_why() {
         "wrong.bin: no state has this image: antennas is 2, not 0 or 1\n",
     );
     wrong(
-        &bytes[..49],
-        "wrong.bin has 49 bytes, and an image has 50\n",
+        &bytes[..67],
+        "wrong.bin has 67 bytes, and an image has 68\n",
     );
 }
 

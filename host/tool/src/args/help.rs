@@ -67,8 +67,12 @@ pub const BEACON: &str = "\
 The text that the last tick made due; if none is due then, the board is left alone
 until one is, and standard error says for how long.
 
+The extended beacon has the greeting. It stays after its last repeat, so --extended has
+the text still; with no greeting kept, the status is 2.
+
 Examples:
   ems beacon examples/dawn.pass
+  ems beacon --all examples/school.pass
   ems key \"$(ems beacon examples/dawn.pass)\" -o beacon.wav";
 
 pub const KEY: &str = "\

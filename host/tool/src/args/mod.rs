@@ -159,6 +159,9 @@ pub struct Beacon {
     /// Every beacon that falls due in the flight, with its time and kind
     #[arg(long)]
     pub all: bool,
+    /// The extended beacon's text at the flight's end, due or not, if a greeting is kept
+    #[arg(long, conflicts_with = "all")]
+    pub extended: bool,
     #[command(flatten)]
     pub going: KeepGoing,
 }

@@ -25,6 +25,6 @@ pub fn run(flight: &args::Flight, keep_going: bool) -> Result<(), Failure> {
 /// The beacon that a step has made due, and its text.
 fn due(flight: &Flight, step: &Step) -> Option<Due> {
     let beacon = Beacon::of(step.outcome.ok()?.beacon)?;
-    let text = Some(flight.board.beacon(beacon));
+    let text = flight.board.beacon(beacon).ok();
     Some(Due { beacon, text })
 }

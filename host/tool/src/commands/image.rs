@@ -7,10 +7,13 @@ use crate::flight::Flight;
 use crate::image::{fields, Field, Image, BYTES};
 use crate::output::Output;
 use crate::source;
-use crate::words::{count, hex, thousands, visible};
+use crate::words::{count, hex, visible};
 use ems::Craft;
 use std::io::{self, Write};
 use std::path::Path;
+
+/// Bytes on a line.
+const ROW: usize = 4;
 
 pub fn run(args: &args::Image) -> Result<(), Failure> {
     match (&args.file, &args.after) {
@@ -48,11 +51,8 @@ pub fn board(file: &Path) -> Result<Board, Failure> {
 /// Why an image is no state's: all that is wrong with it.
 fn no_state(name: &str, image: &Image) -> Failure {
     let wrong = |(field, why): &(Field, String)| {
-        let number = thousands(u64::from(image.number(field)));
-        format!(
-            "{name}: no state has this image: {} is {number}, {why}",
-            field.name
-        )
+        let (field, shown) = (field.name, image.shown(field));
+        format!("{name}: no state has this image: {field} is {shown}, {why}")
     };
     Failure {
         status: USAGE,
@@ -71,16 +71,20 @@ fn after(file: &Path, args: &args::Image) -> Result<(), Failure> {
     flight.end()
 }
 
-/// Every field: where it begins, its bytes, its name, and what it says.
+/// Every field: where it begins, its bytes, its name, and what it says. A long one's
+/// bytes go on in lines of their own.
 fn print(output: &mut Output, image: &Image) -> io::Result<()> {
     writeln!(output, "at  bytes        field          says")?;
     for field in fields() {
-        let number = image.number(&field);
-        let said = (field.says)(number);
-        let said =
-            said.unwrap_or_else(|| format!("{}, which no state has", thousands(u64::from(number))));
-        let (at, bytes, name) = (field.at, hex(image.bytes(&field)), field.name);
-        writeln!(output, "{at:>2}  {bytes:12} {name:14} {said}")?;
+        let strange = || format!("{}, which no state has", image.shown(&field));
+        let said = image.says(&field).unwrap_or_else(strange);
+        let mut about = format!(" {:14} {said}", field.name);
+        for (row, bytes) in image.bytes(&field).chunks(ROW).enumerate() {
+            let (at, bytes) = (field.at + ROW * row, hex(bytes));
+            let line = format!("{at:>2}  {bytes:12}{about}");
+            writeln!(output, "{}", line.trim_end())?;
+            about.clear();
+        }
     }
     Ok(())
 }

@@ -5,10 +5,11 @@ use crate::args::Show;
 use crate::board::Board;
 use crate::failure::Failure;
 use crate::output::Output;
+use crate::refusal::reason;
 use crate::report;
 use crate::script;
 use crate::source;
-use crate::tables::{kind_of, loses_the_cut, meaning, Kind};
+use crate::tables::{kind_of, loses_the_cut, Kind};
 use ems::{Report, REPORT_BYTES, REPORT_KIND};
 use std::io::{self, Write};
 
@@ -97,7 +98,7 @@ fn about(piece: &[u8]) -> String {
     if let Some(report) = Report::read(piece) {
         return report::in_words(&report);
     }
-    let refused = |refusal| format!("refused: {refusal}, {}", meaning(refusal));
+    let refused = |refusal| format!("refused: {refusal}, {}", reason(piece, refusal));
     refusal(piece).map(refused).unwrap_or_default()
 }
 

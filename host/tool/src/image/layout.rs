@@ -3,24 +3,35 @@
 
 use super::supply::Supply;
 use crate::words::{count, thousands};
-use ems::{Mode, Module};
+use ems::{Mode, Module, MESSAGE_BYTES};
 
 /// The bytes of an image.
-pub const BYTES: usize = 50;
+pub const BYTES: usize = 68;
 
-/// A field: its name, where it begins, its bytes, and what its number says.
+/// A field: its name, where it begins, its bytes, and what they say.
 #[derive(Clone, Copy)]
 pub struct Field {
     pub name: &'static str,
     pub at: usize,
     pub bytes: usize,
-    /// What a number says; none where no state has it.
-    pub says: fn(u32) -> Option<String>,
-    /// The numbers that states have.
-    pub range: &'static str,
+    pub says: Says,
 }
 
-pub const VERSION: Field = field("version", 0, 1, version, "4");
+/// What a field's bytes are.
+#[derive(Clone, Copy)]
+pub enum Says {
+    /// A number.
+    Number {
+        /// What it says; none where no state has it.
+        said: fn(u32) -> Option<String>,
+        /// The numbers that states have.
+        range: &'static str,
+    },
+    /// A text, as long as another field says, and zeros.
+    Text,
+}
+
+pub const VERSION: Field = field("version", 0, 1, version, "5");
 pub const MODE: Field = field("mode", 1, 3, mode, "0 to 87,301");
 pub const CONTROL: Field = field("control", 4, 1, control, "0 to 29");
 pub const BEACON: Field = field("beacon", 5, 2, beacon, "0 to 299");
@@ -30,31 +41,38 @@ pub const ASCEND: Field = field("ascend", 10, 2, millivolts, "5,000 to 9,000");
 pub const DESCEND: Field = field("descend", 12, 2, millivolts, "5,000 to 9,000");
 pub const GROUND: Field = field("ground", 14, 2, serial, "any");
 pub const PAYLOAD: Field = field("payload", 16, 2, serial, "any");
+pub const REPEATS: Field = field("repeats", 18, 1, repeats, "any");
+pub const LENGTH: Field = field("length", 19, 1, length, "0 to 16");
+pub const TEXT: Field = Field {
+    name: "message",
+    at: 20,
+    bytes: MESSAGE_BYTES,
+    says: Says::Text,
+};
 
 /// The ends of the mission four.
 const ENDS: [(Module, Field); 4] = [
-    (Module::Adcs, end("ADCS's end", 18)),
-    (Module::Payload, end("PAYLOAD's end", 22)),
-    (Module::Sband1, end("SBAND1's end", 26)),
-    (Module::Sband2, end("SBAND2's end", 30)),
+    (Module::Adcs, end("ADCS's end", 36)),
+    (Module::Payload, end("PAYLOAD's end", 40)),
+    (Module::Sband1, end("SBAND1's end", 44)),
+    (Module::Sband2, end("SBAND2's end", 48)),
 ];
 
 /// The first of the modules; each next one follows the one before.
-const MODULE: Field = field("", 34, 2, module, "0 to 846, nor so much and 32,768");
+const MODULE: Field = field("", 52, 2, module, "0 to 846, nor so much and 32,768");
 
 const fn field(
     name: &'static str,
     at: usize,
     bytes: usize,
-    says: fn(u32) -> Option<String>,
+    said: fn(u32) -> Option<String>,
     range: &'static str,
 ) -> Field {
     Field {
         name,
         at,
         bytes,
-        says,
-        range,
+        says: Says::Number { said, range },
     }
 }
 
@@ -63,8 +81,9 @@ const fn end(name: &'static str, at: usize) -> Field {
 }
 
 /// The fields before the ends.
-const HEAD: [Field; 10] = [
-    VERSION, MODE, CONTROL, BEACON, ANTENNAS, TENSION, ASCEND, DESCEND, GROUND, PAYLOAD,
+const HEAD: [Field; 13] = [
+    VERSION, MODE, CONTROL, BEACON, ANTENNAS, TENSION, ASCEND, DESCEND, GROUND, PAYLOAD, REPEATS,
+    LENGTH, TEXT,
 ];
 
 /// All fields, in their order.
@@ -91,7 +110,7 @@ pub fn of_module(module: Module) -> Field {
 }
 
 fn version(number: u32) -> Option<String> {
-    (number == 4).then(|| "4".to_string())
+    (number == 5).then(|| "5".to_string())
 }
 
 fn mode(number: u32) -> Option<String> {
@@ -128,6 +147,15 @@ fn millivolts(number: u32) -> Option<String> {
 
 fn serial(number: u32) -> Option<String> {
     Some(format!("last number {number}"))
+}
+
+fn repeats(number: u32) -> Option<String> {
+    Some(format!("{number} left"))
+}
+
+fn length(number: u32) -> Option<String> {
+    let said = || count(u64::from(number), "character");
+    (number as usize <= MESSAGE_BYTES).then(said)
 }
 
 fn seconds_to_go(number: u32) -> Option<String> {

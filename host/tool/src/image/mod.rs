@@ -6,10 +6,12 @@ mod supply;
 pub use layout::{fields, Field, BYTES};
 pub use supply::Power;
 
+use crate::morse;
+use crate::words::{thousands, visible};
 use ems::{Mode, Module};
 use layout::{
-    of_end, of_module, Watch, ANTENNAS, ASCEND, BEACON, CONTROL, DESCEND, GROUND, MODE, PAYLOAD,
-    TENSION,
+    of_end, of_module, Says, Watch, ANTENNAS, ASCEND, BEACON, CONTROL, DESCEND, GROUND, LENGTH,
+    MODE, PAYLOAD, REPEATS, TENSION, TEXT,
 };
 use supply::Supply;
 
@@ -53,16 +55,48 @@ impl Image {
         bytes.fold(0, |number, &byte| 256 * number + u32::from(byte))
     }
 
+    /// What a field says; none where no state has it.
+    pub fn says(&self, field: &Field) -> Option<String> {
+        match field.says {
+            Says::Number { said, .. } => said(self.number(field)),
+            Says::Text if self.unkept().is_some() => None,
+            Says::Text if self.text().is_some_and(<[u8]>::is_empty) => Some("none".to_string()),
+            Says::Text => Some(self.shown(field)),
+        }
+    }
+
+    /// A field as it stands, also where no state has it.
+    pub fn shown(&self, field: &Field) -> String {
+        match field.says {
+            Says::Number { .. } => thousands(u64::from(self.number(field))),
+            Says::Text => quoted(self.text().unwrap_or(self.bytes(field))),
+        }
+    }
+
     /// Why this is no state's image, field by field: nothing, if it is.
     pub fn faults(&self) -> Vec<(Field, String)> {
-        let not_said = |field: &Field| (field.says)(self.number(field)).is_none();
-        let strays = fields().filter(not_said);
-        let strays: Vec<(Field, String)> = strays
-            .map(|field| (field, format!("not {}", field.range)))
-            .collect();
+        let stray = |field: Field| match field.says {
+            Says::Number { said, range } => {
+                let not_said = said(self.number(&field)).is_none();
+                not_said.then(|| (field, format!("not {range}")))
+            }
+            Says::Text => self.unkept().map(|why| (field, why)),
+        };
+        let strays: Vec<(Field, String)> = fields().filter_map(stray).collect();
         match strays.is_empty() {
             true => self.disagreements(),
             false => strays,
+        }
+    }
+
+    /// Why no state keeps this greeting; nothing, if its length is the fault.
+    fn unkept(&self) -> Option<String> {
+        let text = self.text()?;
+        let past = &self.bytes(&TEXT)[text.len()..];
+        let filled = || past.iter().any(|&byte| byte != 0);
+        match morse::fault(text) {
+            Some(fault) => Some(format!("which can't be keyed: {fault}")),
+            None => filled().then(|| "with a byte past its length that is not 0".to_string()),
         }
     }
 
@@ -137,6 +171,22 @@ impl Image {
         of_end(module).map_or(0, |field| self.number(&field))
     }
 
+    /// The greeting that is kept, if there is one.
+    pub fn greeting(&self) -> Option<&[u8]> {
+        self.text().filter(|text| !text.is_empty())
+    }
+
+    /// How many beacons the greeting is still for.
+    pub fn repeats(&self) -> u64 {
+        u64::from(self.number(&REPEATS))
+    }
+
+    /// As much of the greeting's bytes as its length says, if there are so many.
+    fn text(&self) -> Option<&[u8]> {
+        let length = self.number(&LENGTH) as usize;
+        self.bytes(&TEXT).get(..length)
+    }
+
     /// The modules that are requested on, as a mask.
     pub fn requests(&self) -> u8 {
         self.mask(|supply| supply.requested)
@@ -162,11 +212,18 @@ impl Image {
     }
 }
 
+/// A text in quotes, as it is shown.
+pub fn quoted(text: &[u8]) -> String {
+    let text = String::from_utf8_lossy(text);
+    format!("\"{}\"", visible(&text))
+}
+
 #[cfg(test)]
 mod tests {
     use super::*;
-    use ems::Craft;
+    use ems::{Craft, MESSAGE_BYTES};
     use model::image::save;
+    use model::message::Message;
     use model::state::{self, Last, State};
     use model::table::MISSION;
 
@@ -187,6 +244,8 @@ mod tests {
         for origin in [1, 2] {
             assert_eq!(image.serial(origin), state.last.of(origin));
         }
+        assert_eq!(image.greeting(), state.message.text());
+        assert_eq!(image.repeats(), u64::from(state.message.repeats));
         for (module, own) in Module::ALL.into_iter().zip(&state.modules) {
             let power = match own.power {
                 state::Power::On { tries, seconds } => Power::On { tries, seconds },
@@ -216,6 +275,11 @@ mod tests {
             last: Last {
                 ground: 0x1122,
                 payload: 0x3344,
+            },
+            message: Message {
+                repeats: 200,
+                length: 13,
+                bytes: *b"HELLO FROM 4B\0\0\0",
             },
             ends: [1, 1_200, 86_399, 86_400],
             ..fresh
@@ -269,8 +333,9 @@ mod tests {
         let far = (1 << 24..u32::MAX).step_by(9_999_991).chain([u32::MAX]);
         let numbers: Vec<u32> = near.chain((0..1 << 24).step_by(4_999)).chain(far).collect();
         let fresh = Image::of(Craft::fresh().image());
+        let number = |field: &Field| matches!(field.says, Says::Number { .. });
         for start in [fresh, put(fresh, &MODE, 87_301)] {
-            for field in fields() {
+            for field in fields().filter(number) {
                 let fits = |n: &&u32| u64::from(**n) >> (8 * field.bytes) == 0;
                 for &number in numbers.iter().filter(fits) {
                     let image = put(start, &field, number);
@@ -280,6 +345,41 @@ mod tests {
                 }
             }
         }
+    }
+
+    /// So they do where a greeting is kept: with every length and every byte in it and
+    /// past it, and with the spaces that a text may not have.
+    #[test]
+    fn the_library_keeps_the_same_greetings() {
+        let fresh = Image::of(Craft::fresh().image());
+        let kept = |length: u8, text: &[u8; MESSAGE_BYTES]| {
+            let mut image = put(fresh, &LENGTH, length.into());
+            image.0[TEXT.at..TEXT.at + TEXT.bytes].copy_from_slice(text);
+            let taken = Craft::from_image(&image.0).is_some();
+            let fine = image.faults().is_empty();
+            assert_eq!(fine, taken, "{length} of {text:?}");
+            fine
+        };
+        let mut fine = 0;
+        for text in [
+            b"HELLO FROM 4B\0\0\0",
+            b"HELLO FROM 4B 73",
+            b"A  B\0\0\0\0\0\0\0\0\0\0\0\0",
+            b" AB \0\0\0\0\0\0\0\0\0\0\0\0",
+            &[0; MESSAGE_BYTES],
+        ] {
+            for length in 0..=u8::MAX {
+                fine += u32::from(kept(length, text));
+            }
+            for at in 0..MESSAGE_BYTES {
+                for byte in 0..=u8::MAX {
+                    let mut text = *text;
+                    text[at] = byte;
+                    fine += u32::from(kept(13, &text));
+                }
+            }
+        }
+        assert!(fine > 300, "{fine}");
     }
 
     /// An image with another number in a field.

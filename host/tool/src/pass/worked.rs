@@ -2,9 +2,9 @@
 
 use super::Pass;
 use crate::board::{Board, Passed};
+use crate::refusal::reason;
 use crate::script::in_words;
 use crate::stream::Sent;
-use crate::tables::meaning;
 use crate::words::{count, thousands};
 use ems::{answer, REPORT_BYTES};
 
@@ -105,7 +105,7 @@ impl<'a> Stop<'a> {
     fn said(&self) -> String {
         let Stop { sent, answer } = self;
         let (n, place, frame) = (thousands(sent.n), sent.place, in_words(sent.frame));
-        let why = meaning(*answer);
+        let why = reason(sent.frame, *answer);
         format!("before frame {n}, {place}, `{frame}`: {answer}, {why}")
     }
 }

@@ -47,7 +47,7 @@ fn groups(view: &View) -> [Group; 6] {
         ("Millivolts:", millivolts()),
         ("Module:", modules(view)),
         ("Short:", shorts()),
-        ("Beacon:", due()),
+        ("Beacon:", due(view)),
         ("Order:", orders()),
     ]
 }
@@ -111,7 +111,7 @@ fn shorts() -> Vec<(Sign, String)> {
     vec![sign(short, "short"), sign(tries, "tries left")]
 }
 
-fn due() -> Vec<(Sign, String)> {
+fn due(view: &View) -> Vec<(Sign, String)> {
     let tick = |beacon: Beacon| {
         let draw = move |svg: &mut Svg, x: f64, y: f64| {
             let top = y + 8.0 - 0.6 * beacons::tall(beacon);
@@ -120,11 +120,15 @@ fn due() -> Vec<(Sign, String)> {
         sign(draw, beacon.name())
     };
     let band = |svg: &mut Svg, x: f64, y: f64| svg.rect(x, y - 7.0, 20.0, 15.0, "many", "");
-    vec![
-        tick(Beacon::Basic),
-        tick(Beacon::Complete),
-        sign(band, "many"),
-    ]
+    let mut signs = vec![tick(Beacon::Basic), tick(Beacon::Complete)];
+    if beacons::any_extended(view) {
+        let flag = |svg: &mut Svg, x: f64, y: f64| {
+            svg.path(&beacons::flagged(x + 10.0, y + 8.0, y - 7.0), "solid", "");
+        };
+        signs.push(sign(flag, Beacon::Extended.name()));
+    }
+    signs.push(sign(band, "many"));
+    signs
 }
 
 fn orders() -> Vec<(Sign, String)> {

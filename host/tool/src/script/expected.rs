@@ -2,8 +2,9 @@
 //! where nobody reads it.
 
 use super::line::RAW;
+use super::quoted::Unquoted;
 use crate::tables::{Field, Written, KINDS};
-use crate::words::thousands;
+use crate::words::{count, thousands};
 use ems::Module;
 use std::fmt;
 
@@ -19,6 +20,11 @@ pub enum Expected {
     Name {
         field: &'static Field,
         times: bool,
+    },
+    /// A text in quotes, and why this is none.
+    Quoted {
+        field: &'static Field,
+        why: Unquoted,
     },
     Byte,
     /// The end, or the word that would tell of another kind.
@@ -46,6 +52,16 @@ impl fmt::Display for Expected {
                 let times = if *times { "how often, " } else { "" };
                 write!(f, "expected {times}{} or the end of the line", field.name)
             }
+            Expected::Quoted { field, why } => {
+                value(f, field)?;
+                match why {
+                    Unquoted::Unopened => f.write_str(", as in \"HELLO FROM 4B\""),
+                    Unquoted::Unclosed => f.write_str("; the second quote is missing"),
+                    Unquoted::TooLong(bytes) => {
+                        write!(f, "; it has {}", count(*bytes as u64, "byte"))
+                    }
+                }
+            }
             Expected::Byte => f.write_str("expected a byte: two hexadecimal digits"),
             Expected::End(None) => f.write_str("expected the end of the line"),
             Expected::End(Some(word)) => write!(f, "expected {word} or the end of the line"),
@@ -60,9 +76,9 @@ impl fmt::Display for Expected {
 /// What may stand for a field.
 fn value(f: &mut fmt::Formatter<'_>, field: &Field) -> fmt::Result {
     let name = field.name;
-    let numbers = format!("a number 0 to {}", thousands(field.greatest()));
+    let numbers = || format!("a number 0 to {}", thousands(field.greatest()));
     match field.written {
-        Written::Number => write!(f, "expected {name}: {numbers}"),
+        Written::Number => write!(f, "expected {name}: {}", numbers()),
         Written::Within(least, greatest) => {
             let greatest = thousands(greatest);
             write!(f, "expected {name}: a number {least} to {greatest}")
@@ -70,11 +86,16 @@ fn value(f: &mut fmt::Formatter<'_>, field: &Field) -> fmt::Result {
         Written::Word(example) => write!(f, "expected {name}, as in `{example}`"),
         Written::Named(names) => {
             let names: Vec<&str> = names.iter().map(|row| row.1).collect();
-            write!(f, "expected {name}: {}, or {numbers}", names.join(", "))
+            let (names, numbers) = (names.join(", "), numbers());
+            write!(f, "expected {name}: {names}, or {numbers}")
         }
         Written::Modules => {
             let names = Module::ALL.map(Module::name).join(", ");
             write!(f, "expected modules with commas between: {names}")
+        }
+        Written::Quoted => {
+            let most = count(field.longest() as u64, "byte");
+            write!(f, "expected {name}: up to {most} in double quotes")
         }
     }
 }

@@ -1,10 +1,11 @@
 //! A frame's fields as words of a script, and back.
 
+use super::quoted;
 use crate::tables::{kind_of, Field, Kind, Written};
 use crate::words;
 use ems::Module;
 
-/// The value of a field's word.
+/// The value of a field's word; a text has none.
 pub fn value(field: &Field, word: &str) -> Option<u64> {
     match field.written {
         Written::Number => decimal(word, field.greatest()),
@@ -24,6 +25,7 @@ pub fn value(field: &Field, word: &str) -> Option<u64> {
             let module = all.find(|module| module.name().eq_ignore_ascii_case(name))?;
             Some(mask | u64::from(module.bit()))
         }),
+        Written::Quoted => None,
     }
 }
 
@@ -47,14 +49,15 @@ pub fn in_words(frame: &[u8]) -> String {
     }
 }
 
-/// Whether a line of words sends this frame: it is whole, and its numbers are
-/// within what may be written.
+/// Whether a line of words sends this frame: it is whole, its numbers are within
+/// what may be written, and its text can be.
 fn has_words(kind: &Kind, frame: &[u8]) -> bool {
-    let fits = |(field, value): (&Field, u64)| match field.written {
-        Written::Within(least, greatest) => (least..=greatest).contains(&value),
+    let fits = |(field, bytes): (&Field, &[u8])| match field.written {
+        Written::Within(least, greatest) => (least..=greatest).contains(&number(bytes)),
+        Written::Quoted => quoted::word(bytes).is_some(),
         _ => true,
     };
-    kind.total() == frame.len() && values(kind, frame).all(fits)
+    kind.total() == frame.len() && parts(kind, frame).all(fits)
 }
 
 /// The word for one field of a frame; nothing where there is none.
@@ -67,36 +70,42 @@ pub fn word_of(frame: &[u8], name: &str) -> String {
 
 /// The names and words of a frame's fields, but for those that are left out.
 fn words_of(kind: &Kind, frame: &[u8]) -> Vec<(&'static str, String)> {
-    let words = values(kind, frame)
-        .filter_map(|(field, value)| word(field, value).map(|word| (field.name, word)));
+    let words = parts(kind, frame)
+        .filter_map(|(field, bytes)| word(field, bytes).map(|word| (field.name, word)));
     words.collect()
 }
 
-/// A frame's fields with their values.
-fn values<'a>(kind: &Kind, frame: &'a [u8]) -> impl Iterator<Item = (&'static Field, u64)> + 'a {
+/// A frame's fields with their bytes.
+fn parts<'a>(kind: &Kind, frame: &'a [u8]) -> impl Iterator<Item = (&'static Field, &'a [u8])> {
     let mut rest = &frame[1..];
     kind.fields.iter().map(move |field| {
         let (bytes, after) = rest.split_at(field.bytes.min(rest.len()));
         rest = after;
-        let value = bytes
-            .iter()
-            .fold(0, |value, &byte| value << 8 | u64::from(byte));
-        (field, value)
+        (field, bytes)
     })
 }
 
-/// A field's value as it is written; nothing where it is left out.
-fn word(field: &Field, value: u64) -> Option<String> {
+/// The number that a field's bytes are.
+fn number(bytes: &[u8]) -> u64 {
+    let digits = bytes.iter();
+    digits.fold(0, |value, &byte| value << 8 | u64::from(byte))
+}
+
+/// A field as it is written; nothing where it is left out.
+fn word(field: &Field, bytes: &[u8]) -> Option<String> {
     match field.written {
-        Written::Number | Written::Within(..) => Some(value.to_string()),
+        Written::Number | Written::Within(..) => Some(number(bytes).to_string()),
         Written::Word(_) => Some(field.name.to_string()),
         Written::Named(names) => {
+            let value = number(bytes);
             let named = names.iter().find(|row| u64::from(row.0) == value);
             Some(named.map_or_else(|| value.to_string(), |&(_, name)| name.to_string()))
         }
         Written::Modules => {
-            let names = words::modules(value as u8).join(",");
-            (value != 0).then(|| format!("{} {names}", field.name))
+            let mask = number(bytes) as u8;
+            let names = words::modules(mask).join(",");
+            (mask != 0).then(|| format!("{} {names}", field.name))
         }
+        Written::Quoted => quoted::word(bytes),
     }
 }

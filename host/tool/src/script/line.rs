@@ -2,9 +2,10 @@
 
 use super::expected::Expected;
 use super::fields::{decimal, value};
+use super::quoted;
 use super::reader::{Reader, Wrong};
 use super::Line;
-use crate::tables::{Kind, Written, KINDS};
+use crate::tables::{Field, Kind, Written, KINDS};
 
 /// What a line sends, if it isn't empty or a comment.
 pub fn parse(number: usize, text: &str) -> Result<Option<Line>, Wrong<'_>> {
@@ -65,6 +66,10 @@ fn frame<'a>(reader: &mut Reader<'a>, kind: &'static Kind) -> Result<(Vec<u8>, u
     };
     let mut bytes = vec![kind.byte];
     for field in kind.fields {
+        if field.written == Written::Quoted {
+            bytes.extend(text(reader, field)?);
+            continue;
+        }
         let by_name = field.written == Written::Modules;
         let given = if by_name && reader.peek().is_none() {
             0
@@ -79,6 +84,17 @@ fn frame<'a>(reader: &mut Reader<'a>, kind: &'static Kind) -> Result<(Vec<u8>, u
         bytes.extend(&given.to_be_bytes()[8 - field.bytes..]);
     }
     Ok((bytes, times))
+}
+
+/// The bytes of a field that is written as a text.
+fn text<'a>(reader: &mut Reader<'a>, field: &'static Field) -> Result<Vec<u8>, Wrong<'a>> {
+    match quoted::bytes(field, reader.peek().unwrap_or_default()) {
+        Ok(bytes) => {
+            reader.skip();
+            Ok(bytes)
+        }
+        Err(why) => Err(reader.wrong(Expected::Quoted { field, why })),
+    }
 }
 
 /// A number of times, from 1.

@@ -5,6 +5,7 @@ mod expected;
 mod fields;
 mod line;
 mod mistake;
+mod quoted;
 mod reader;
 mod sending;
 

@@ -1,6 +1,7 @@
 //! A line's words, taken one by one.
 
 use super::expected::Expected;
+use super::quoted::QUOTE;
 
 /// What is left of a line that is being read.
 #[derive(Clone)]
@@ -88,12 +89,16 @@ impl<'a> Reader<'a> {
         }
     }
 
-    /// The first word after the last one's end, up to a comment.
+    /// The first word after the last one's end, up to a comment. A text in quotes is
+    /// one word, whatever it has in it; without its second quote it is all that is left.
     fn word(&self) -> Option<(usize, &'a str)> {
         let rest = &self.text[self.end..];
         let at = rest.find(|c: char| !c.is_whitespace())?;
         let rest = &rest[at..];
-        let length = rest.find(|c: char| c.is_whitespace() || c == '#');
+        let length = match rest.strip_prefix(QUOTE) {
+            Some(text) => text.find(QUOTE).map(|length| length + 2 * QUOTE.len_utf8()),
+            None => rest.find(|c: char| c.is_whitespace() || c == '#'),
+        };
         let word = &rest[..length.unwrap_or(rest.len())];
         (!word.is_empty()).then_some((self.end + at, word))
     }

@@ -2,6 +2,7 @@
 //! answer.
 
 mod ends;
+mod greeting;
 mod powers;
 
 use crate::board::Step;
@@ -45,6 +46,7 @@ pub fn changes(frame: &[u8], step: &Step) -> Vec<String> {
     said.extend(requests(before, after, ends.told));
     said.extend(ends.others);
     said.extend(powers::changes(before, after, shorts(frame)));
+    said.extend(greeting::change(step));
     said
 }
 

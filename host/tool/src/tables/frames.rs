@@ -1,6 +1,6 @@
 //! The kinds of frames and their fields. A new kind is a new row.
 
-use ems::Module;
+use ems::{Module, MESSAGE_BYTES};
 
 /// How a field is written in a pass script.
 #[derive(Clone, Copy, Debug, PartialEq, Eq)]
@@ -19,9 +19,12 @@ pub enum Written {
     /// As the field's own name: a word that stands for no byte, and an example of
     /// how it is used.
     Word(&'static str),
+    /// As a text in double quotes. Its bytes are a length and the text, filled up with
+    /// zeros.
+    Quoted,
 }
 
-/// A field of a frame: a big-endian number.
+/// A field of a frame: a big-endian number, or a text with its length.
 #[derive(Debug)]
 pub struct Field {
     pub name: &'static str,
@@ -50,6 +53,11 @@ impl Field {
     /// The greatest number that its bytes hold.
     pub fn greatest(&self) -> u64 {
         (1 << (8 * self.bytes)) - 1
+    }
+
+    /// The most bytes that a text in it has, beside its length.
+    pub fn longest(&self) -> usize {
+        self.bytes - 1
     }
 }
 
@@ -97,6 +105,15 @@ const fn word(name: &'static str) -> Field {
     Field {
         name,
         bytes: 0,
+        written,
+    }
+}
+
+const fn quoted(name: &'static str, longest: usize) -> Field {
+    let written = Written::Quoted;
+    Field {
+        name,
+        bytes: 1 + longest,
         written,
     }
 }
@@ -151,6 +168,8 @@ pub const ORDER: u8 = 0x04;
 const THRESHOLDS: u8 = 0x05;
 /// The kind that asks for a module to be on for some minutes.
 pub const TIMED: u8 = 0x06;
+/// The kind that brings a text for the beacon.
+pub const GREETING: u8 = 0x07;
 
 /// The minutes of a timed order.
 const MINUTES: Field = Field {
@@ -159,7 +178,7 @@ const MINUTES: Field = Field {
 };
 
 /// The kinds that are read.
-pub const KINDS: [Kind; 6] = [
+pub const KINDS: [Kind; 7] = [
     Kind {
         repeats: true,
         ..kind(TICK, "tick", &[modules("shorts")])
@@ -202,6 +221,19 @@ pub const KINDS: [Kind; 6] = [
             ],
         )
     },
+    Kind {
+        word: "greet",
+        ..kind(
+            GREETING,
+            "greeting",
+            &[
+                ORIGIN,
+                SERIAL,
+                number("repeats", 1),
+                quoted("text", MESSAGE_BYTES),
+            ],
+        )
+    },
 ];
 
 /// The shorts of a frame that is a tick; none of any other.
@@ -216,6 +248,15 @@ pub fn shorts(frame: &[u8]) -> u8 {
 pub fn timed(frame: &[u8]) -> Option<Module> {
     match frame {
         [TIMED, _, _, _, module, ..] => Module::of(*module),
+        _ => None,
+    }
+}
+
+/// The text that a frame would have the board keep, if it is a greeting that has room
+/// for as much as it says.
+pub fn greeted(frame: &[u8]) -> Option<&[u8]> {
+    match frame {
+        [GREETING, _, _, _, _, length, text @ ..] => text.get(..usize::from(*length)),
         _ => None,
     }
 }

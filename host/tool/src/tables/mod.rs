@@ -1,13 +1,13 @@
 //! The interface's names and sizes, each once: kinds with their fields, origins,
 //! answers. There is no rule, and no range but that of a timed order's minutes:
-//! those are the library's. Modules and modes are the wrapper's.
+//! those are the library's. Modules, modes and beacons are the wrapper's.
 
 mod frames;
 mod names;
 
 pub use frames::{
-    kind_of, origin, origins, shorts, timed, Field, Kind, Written, BATTERY, KINDS, ORDER, TICK,
-    TIMED,
+    greeted, kind_of, origin, origins, shorts, timed, Field, Kind, Written, BATTERY, GREETING,
+    KINDS, ORDER, TICK, TIMED,
 };
 pub use names::{answer, beacon, loses_the_cut, meaning, mode};
 

@@ -65,6 +65,7 @@ fn row(number: u8) -> (&'static str, &'static str) {
             "not a keying",
             "the units are not exactly the keying of a text",
         ),
+        answer::NO_MESSAGE => ("no message", "no greeting is kept"),
         _ => ("", ""),
     }
 }
