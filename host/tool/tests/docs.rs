@@ -140,7 +140,7 @@ fn the_table_of_lines_is_right() {
             rows += 1;
         }
     }
-    assert_eq!(rows, 11);
+    assert_eq!(rows, 13);
 }
 
 #[test]

@@ -6,7 +6,7 @@ use common::{is_file, root, run, scratch};
 use std::fs;
 
 /// Each with its picture's title.
-const EXAMPLES: [(&str, &str); 7] = [
+const EXAMPLES: [(&str, &str); 8] = [
     ("dawn", "The night of the mission, as it goes now"),
     (
         "twenty-minutes",
@@ -15,6 +15,7 @@ const EXAMPLES: [(&str, &str); 7] = [
     ("orbit", "A day of fifteen orbits"),
     ("shorted", "Modules with a short"),
     ("starts-and-shorts", "A board that starts and shorts"),
+    ("school", "A school's greeting on the beacon"),
     ("sister-craft-a", "Sister craft A, the tired battery"),
     ("sister-craft-b", "Sister craft B, the fresh battery"),
 ];
@@ -209,6 +210,51 @@ fn a_board_that_starts_and_shorts_is_given_up_and_taken_back() {
         .prints("SBAND1's 1 minute is over: requested off; SBAND1 off, 1 try left; ")
         .prints("03:39:32     13,185  tick: SBAND1 on, 1 try left\n")
         .prints("03:40:32     13,245  tick: SBAND1 has all 5 tries again\n");
+}
+
+/// The sentence on top of `school.pass`: twelve beacons with the greeting, seven before
+/// the eclipse and five after it, and what is kept meanwhile.
+#[test]
+fn a_school_s_greeting_goes_out_twelve_times() {
+    let ran = run(&["beacon", "--all", "examples/school.pass"]).status(0);
+    let due: Vec<(&str, &str)> = ran
+        .text()
+        .lines()
+        .map(|line| line.split_at(20))
+        .map(|(head, text)| (head[10..].trim(), text))
+        .collect();
+    let kinds: Vec<(&str, usize)> = due
+        .chunk_by(|a, b| a.0 == b.0)
+        .map(|same| (same[0].0, same.len()))
+        .collect();
+    assert_eq!(
+        kinds,
+        [
+            ("complete", 4),
+            ("extended", 7),
+            ("basic", 7),
+            ("extended", 5),
+            ("complete", 3),
+            ("extended", 2),
+            ("complete", 5),
+            ("extended", 3),
+            ("complete", 2),
+        ]
+    );
+    for (kind, text) in &due {
+        let greets = text.ends_with(" HELLO FROM 4B") || text.ends_with(" 73 DE 4B");
+        assert_eq!(greets, *kind == "extended", "{text}");
+    }
+    let class = due.iter().filter(|due| due.1.ends_with(" HELLO FROM 4B"));
+    assert_eq!(class.count(), 12);
+    run(&["log", "--explain", "examples/school.pass"])
+        .status(0)
+        .prints("greet ground 21 12 \"HELLO FROM 4B\": done, the greeting \"HELLO FROM 4B\" is kept, for 12 beacons\n")
+        .prints("greet ground 21 12 \"HELLO FROM 4B\": 8, 21 is a repeat of ground's last number: nothing moved\n")
+        .prints("7 basic beacons, the last EMS R 6950\n")
+        .prints("RECOVERY to SAFE, tension 7,600 mV above ascend 7,400 mV; extended beacon due: EMS S 7600 27 00 HELLO FROM 4B\n")
+        .prints("tick: the greeting goes out for the last time; extended beacon due: EMS S 7600 27 00 HELLO FROM 4B\n")
+        .prints("greet ground 23 0 \"\": done, the greeting \"73 DE 4B\" is cleared\n");
 }
 
 #[test]

@@ -19,8 +19,8 @@ static void frame(const char *bytes, size_t length) {
     ems_step(image, sizeof image, (const uint8_t *)bytes, length, report, sizeof report);
 }
 
-/* A board from its start to SAFE, with orders, an end that comes, shorts, tries that
- * come back, and refusals. */
+/* A board from its start to SAFE, with orders, an end that comes, a greeting, shorts,
+ * tries that come back, and refusals. */
 static void step(void) {
     int seconds;
     ems_fresh(image, sizeof image);
@@ -34,14 +34,17 @@ static void step(void) {
     frame("\5\2\0\2\x1C\xE8\x1B\x58", 8);
     frame("\4\1\0\3\10\1", 6);
     frame("\6\1\0\3\4\0\1", 7);
+    frame("\7\1\0\4\2\15hello from 4b\0\0\0", 22);
+    frame("\7\1\0\4\2\15HELLO FROM 4B\0\0\0", 22);
     for (seconds = 0; seconds < 200; seconds++)
         frame("\1\0", 2);
 }
 
 /* The same kinds of frames in one call, up to one that is refused. */
 static void pass(void) {
-    static const uint8_t frames[] = "\1\0\1\xFF\2\x1E\x78\3\1\4\1\0\4\4\1\4\1\0\4\4\1"
-                                    "\5\1\0\5\x1C\xE8\x1B\x58\6\1\0\6\4\0\1\1\0\5\2";
+    static const uint8_t frames[] = "\1\0\1\xFF\2\x1E\x78\3\1\4\1\0\5\4\1\4\1\0\5\4\1"
+                                    "\5\1\0\6\x1C\xE8\x1B\x58\6\1\0\7\4\0\1"
+                                    "\7\1\0\10\2\15HELLO FROM 4B\0\0\0\1\0\5\2";
     static uint8_t reports[20 * EMS_REPORT_BYTES];
     ems_pass(image, sizeof image, frames, sizeof frames - 1, reports, sizeof reports, &count);
 }
@@ -50,6 +53,7 @@ static void nothing(void) {}
 static void fresh(void) { ems_fresh(image, sizeof image); }
 static void basic(void) { ems_beacon_basic(image, sizeof image, text, sizeof text, &count); }
 static void complete(void) { ems_beacon_complete(image, sizeof image, text, sizeof text, &count); }
+static void extended(void) { ems_beacon_extended(image, sizeof image, text, sizeof text, &count); }
 
 static void key(void) {
     memset(text, '0', sizeof text);
@@ -86,6 +90,7 @@ int main(void) {
     measure("ems_pass", pass);
     measure("ems_beacon_basic", basic);
     measure("ems_beacon_complete", complete);
+    measure("ems_beacon_extended", extended);
     measure("ems_key", key);
     measure("ems_read", read_back);
     return 0;
