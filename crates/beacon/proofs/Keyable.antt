@@ -1,12 +1,13 @@
--- Every beacon text of a state in range is one that keying takes: none of the refusals 11 to 13 applies.
+-- Every beacon text that a state in range has is one that keying takes: none of the refusals 11 to 13 applies.
 -- Assumes nothing.
 use mathlib.Core.Path.{_≡_, refl}
 use mathlib.Core.Bool.{Bool, true, false, not, _&&_, _||_}
-use mathlib.Core.List.{List}
+use mathlib.Core.List.{List, _∷_, _++_}
 use Prim.Native.Nat.{ℕ, _/_, _%_, _<_, _≤_}
 use native.Mathlib.Omega.{arith}
-use lib.Dec.{T, eqb}
-use lib.ListN.{length}
+use lib.Dec.{T, eqb, ltb, ltb→lt}
+use lib.ListN.{length, take}
+use lib.Seq.{length-take-le}
 use borrow.Author.Tests.{not-true, eqb-true}
 use Rattle.basics.proofs.ChoiceLaws.{is-true, holds, and-left, and-right, within-high}
 use Rattle.basics.proofs.TablesLaws.{upto}
@@ -19,6 +20,9 @@ use Rattle.frames.specs.Reading.{lowestReading, highestReading, isReading, areT
 use Rattle.morse.specs.Signs.{alphabet, signOf, signed}
 use Rattle.morse.specs.Texts.{isSpace, faultOf}
 use Rattle.morse.specs.declared.texts.Fault.the-variants.{Nothing}
+use Rattle.morse.proofs.TextsLaws as texts
+use Rattle.morse.proofs.TextsLaws.{fairly, joined}
+use Rattle.frames.proofs.GreetingLaws as greetings
 use Rattle.supervisor.specs.Range.{batteryInRange, inRange}
 use Rattle.supervisor.specs.declared.state.Battery.{Battery}
 use Rattle.supervisor.proofs.RangeLaws.{parts}
@@ -26,10 +30,11 @@ use Rattle.supervisor.proofs.ModuleLaws.{Eight}
 use Rattle.supervisor.specs.declared.state.Mode.{Mode}
 use Rattle.supervisor.specs.declared.state.Mode.the-variants.{DeployWait, Recovery, Safe}
 use Rattle.supervisor.specs.declared.state.State.{State}
-use Rattle.basics.specs.Bytes.{hexDigit}
-use Rattle.beacon.specs.Text.{modeLetter, figure, basicText, completeText, textOf}
+use Rattle.basics.specs.Bytes.{hexDigit, space}
+use Rattle.beacon.specs.Text.{modeLetter, figure, basicText, completeText, extendedText, textOf, hasText}
+use Rattle.beacon.proofs.TextLaws.{complete-length}
 use Rattle.beacon.specs.declared.text.Form.{Form}
-use Rattle.beacon.specs.declared.text.Form.the-variants.{Basic, Complete}
+use Rattle.beacon.specs.declared.text.Form.the-variants.{Basic, Complete, Extended}
 
 -- a byte with a sign, and no space
 record Plain (c : ℕ) : Type 0 where
@@ -110,6 +115,19 @@ module _ (s : State) (e : inRange s ≡ true) (eight : Eight s) where
         i .sign,
       ) (refl, refl)
 
-  pub keyable : (form : Form) → faultOf (textOf form s) ≡ Nothing
-  keyable Basic = both .0
-  keyable Complete = both .1
+  -- the complete text, a space, and a message that is kept
+  extended : T (ltb 0 (s .message .length)) → faultOf (extendedText s) ≡ Nothing
+  unfolding extendedText
+  extended kept =
+      let fair = greetings.fair (s .message .length) (s .message .text) (parts s (holds (inRange s) e) .message) in
+      let message = take (s .message .length) (s .message .text) in
+      let long : length message ≡ s .message .length = length-take-le (s .message .length) (s .message .text) (omega (arith, fair .sixteen, fair .most)) in
+      fairly (completeText s ++ (space ∷ message))
+      (joined (completeText s) message (texts.fair (completeText s) (both .1)) (texts.fair message (fair .keyable))
+      (omega (arith, complete-length s)) (omega (arith, long, ltb→lt 0 (s .message .length) kept))
+      (omega (arith, complete-length s, long, fair .most)))
+
+  pub keyable : (form : Form) → T (hasText form (s .message .length)) → faultOf (textOf form s) ≡ Nothing
+  keyable Basic had = both .0
+  keyable Complete had = both .1
+  keyable Extended had = extended had

@@ -12,6 +12,8 @@ use Rattle.beacon.proofs.writing.basic as basic
 use Rattle.beacon.proofs.writing.basic.Reads as basic-reads
 use Rattle.beacon.proofs.writing.complete as complete
 use Rattle.beacon.proofs.writing.complete.Reads as complete-reads
+use Rattle.beacon.proofs.writing.extended as extended
+use Rattle.beacon.proofs.writing.extended.Reads as extended-reads
 
 pub number-one : OneOutcome number.ended number-reads.Asked number-reads.Learnt
 number-one = record { taken = λ κs a. tt; one = λ κs a x y p q i. ((p ∙ sym q) i, (tt, tt)) }
@@ -27,3 +29,6 @@ basic-one = record { taken = λ κs a. tt; one = λ κs a x y p q i. ((p ∙ sym
 
 pub complete-one : OneOutcome complete.ended complete-reads.Asked complete-reads.Learnt
 complete-one = record { taken = λ κs a. tt; one = λ κs a x y p q i. ((p ∙ sym q) i .result, (tt, ((p ∙ sym q) i .room, tt))) }
+
+pub extended-one : OneOutcome extended.ended extended-reads.Asked extended-reads.Learnt
+extended-one = record { taken = λ κs a. tt; one = λ κs a x y p q i. ((p ∙ sym q) i .result, (tt, ((p ∙ sym q) i .room, tt))) }

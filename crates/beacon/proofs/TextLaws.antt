@@ -1,26 +1,45 @@
--- Laws of the two texts: how long each is, and that each is a front of the complete one.
+-- Laws of the texts: how long each is, and that each is a front of what the code makes.
 -- Assumes nothing.
-use mathlib.Core.Path.{_≡_, refl}
-use Prim.Native.Nat.{_≤_}
+use Prim.Native.Nat.{ℕ, suc, _+_, _≤_}
+use mathlib.Core.Path.{_≡_, refl, ap, _∙_}
+use mathlib.Core.List.{_∷_}
+use native.Mathlib.Omega.{arith}
 use lib.Dec.{lit≤}
-use lib.ListN.{length, take}
+use lib.ListN.{length, take, length-append}
+use lib.Seq.{length-take-le, take-append-add}
+use Rattle.basics.specs.Bytes.{space}
+use Rattle.frames.specs.Greeting.{longestGreeting}
+use Rattle.frames.proofs.GreetingLaws.{Fair}
 use Rattle.supervisor.specs.declared.state.State.{State}
-use Rattle.beacon.specs.Text.{basicText, completeText, textOf, completeBytes, formBytes}
+use Rattle.beacon.specs.Text.{basicText, completeText, extendedText, textOf, fullText, completeBytes, mostBytes, formBytes}
 use Rattle.beacon.specs.declared.text.Form.{Form}
-use Rattle.beacon.specs.declared.text.Form.the-variants.{Basic, Complete}
+use Rattle.beacon.specs.declared.text.Form.the-variants.{Basic, Complete, Extended}
 
--- no text is longer than the complete one
-pub form-most : (form : Form) → formBytes form ≤ completeBytes
-form-most Basic = lit≤ tt
-form-most Complete = lit≤ tt
+-- no text is longer than what the code makes
+pub form-most : (form : Form) (n : ℕ) → n ≤ longestGreeting → formBytes form n ≤ mostBytes
+form-most Basic n h = lit≤ tt
+form-most Complete n h = lit≤ tt
+form-most Extended n h = omega arith
 
 module _ (s : State) where
-  pub text-length : (form : Form) → length (textOf form s) ≡ formBytes form
+  pub complete-length : length (completeText s) ≡ completeBytes
   unfolding basicText completeText
-  text-length Basic = refl
-  text-length Complete = refl
+  complete-length = refl
 
-  pub text-front : (form : Form) → take (formBytes form) (completeText s) ≡ textOf form s
-  unfolding basicText completeText
-  text-front Basic = refl
-  text-front Complete = refl
+  module _ (fair : Fair (s .message .length) (s .message .text)) where
+    pub text-length : (form : Form) → length (textOf form s) ≡ formBytes form (s .message .length)
+    unfolding basicText completeText extendedText
+    text-length Basic = refl
+    text-length Complete = refl
+    text-length Extended =
+        length-append (completeText s) (space ∷ take (s .message .length) (s .message .text))
+        ∙ rw (length-take-le (s .message .length) (s .message .text) (omega (arith, fair .sixteen, fair .most))) (omega (arith, complete-length))
+
+    pub text-front : (form : Form) → take (formBytes form (s .message .length)) (fullText s) ≡ textOf form s
+    unfolding basicText completeText extendedText
+    text-front Basic = refl
+    text-front Complete = refl
+    text-front Extended =
+        let n : ℕ = s .message .length in
+        let place : formBytes Extended n ≡ length (completeText s) + suc n = omega (arith, complete-length) in
+        ap (λ k. take k (fullText s)) place ∙ take-append-add (completeText s) (space ∷ s .message .text) (suc n)

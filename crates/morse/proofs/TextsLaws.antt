@@ -1,16 +1,18 @@
--- Laws of the texts that may be keyed: one byte of a walk through a text, and what no fault tells.
+-- Laws of the texts that may be keyed: one byte of a walk through a text, what no fault tells, and two texts joined by a space.
 -- Assumes nothing.
 use mathlib.Core.Path.{_≡_, refl, sym, ap, _∙_}
 use mathlib.Core.Bool.{Bool, true, false, not, _&&_, _||_, or-false, and-false}
-use mathlib.Core.List.{List, [], _∷_}
+use mathlib.Core.List.{List, [], _∷_, _++_}
 use Prim.Native.Nat.{ℕ, zero, suc, _+_, _-_, _<_, _≤_, zero-le, suc-le-suc}
 use native.Mathlib.Numerals.{add-one}
 use native.Mathlib.Omega.{arith}
-use lib.ListN.{length, getD, drop}
-use lib.Seq.{drop-cons}
+use lib.ListN.{length, getD, drop, length-append}
+use lib.Seq.{drop-cons, getD-append-add}
 use lib.Dec.{T, ltb, eqb→eq}
 use borrow.Author.Tests.{lt-ltb, le-ltb, ltb-false}
 use Rattle.basics.specs.Choice.{if_then_else_}
+use Rattle.basics.specs.Bytes.{space}
+use Rattle.basics.proofs.ChoiceLaws.{is-true, holds, and-left, and-right, neither-left, neither-right}
 use Rattle.morse.specs.declared.signs.Sign.{Sign}
 use Rattle.morse.specs.Answers.{done}
 use Rattle.morse.specs.declared.texts.Fault.{Fault}
@@ -93,3 +95,65 @@ keyable-fault t h = by-fault (faultOf t) (eqb→eq (faultNumber (faultOf t)) don
     by-fault TextTooLong e = absurd (omega arith)
     by-fault NotKeyable e = absurd (omega arith)
     by-fault BadSpace e = absurd (omega arith)
+
+pub fairly : (t : List ℕ) → Fair t → faultOf t ≡ Nothing
+unfolding faultOf
+fairly t f = rw (le-ltb longest (length t) (f .short), f .known, f .spaced)
+
+less-one : (n : ℕ) → suc n - 1 ≡ n
+less-one n = omega arith
+
+-- two texts with a space between them
+module _ (b : List ℕ) where
+  known-joined : (a : List ℕ) → allKnown a ≡ true → allKnown b ≡ true → allKnown (a ++ (space ∷ b)) ≡ true
+  known-joined [] ka kb = kb
+  known-joined (c ∷ a) ka kb =
+      let both = holds (known c && allKnown a) ka in
+      rw (is-true (known c) (and-left (known c) (allKnown a) both)) (known-joined a (is-true (allKnown a) (and-right (known c) (allKnown a) both)) kb)
+
+  doubled-joined :
+      (a : List ℕ) → 0 < length a → doubled a ≡ false → isSpace (getD a (length a - 1) 0) ≡ false → isSpace (getD b 0 0) ≡ false →
+      doubled b ≡ false → doubled (a ++ (space ∷ b)) ≡ false
+  doubled-joined [] some da last first db = absurd (omega arith)
+  doubled-joined (c ∷ []) some da last first db = rw (last, first, db)
+  doubled-joined (c ∷ e ∷ a) some da last first db =
+      rw (neither-left (isSpace c && isSpace e) (doubled (e ∷ a)) da)
+      (doubled-joined (e ∷ a) (omega arith) (neither-right (isSpace c && isSpace e) (doubled (e ∷ a)) da)
+      (rw (less-one (length a)) (rw (less-one (suc (length a))) at last)) first db)
+
+-- the spaces of a text that is not badly spaced
+record Spaced (t : List ℕ) : Type 0 where
+  first : isSpace (getD t 0 0) ≡ false
+  last : isSpace (getD t (length t - 1) 0) ≡ false
+  single : doubled t ≡ false
+
+spaced : (t : List ℕ) → badlySpaced t ≡ false → Spaced t
+spaced t e = record { first = search (neither-left, neither-right); last = search (neither-left, neither-right); single = search (neither-left, neither-right) }
+
+well-spaced : (t : List ℕ) → Spaced t → badlySpaced t ≡ false
+well-spaced t s = rw (s .first, s .last, s .single)
+
+-- the last byte of the second is that of both
+last-joined : (a b : List ℕ) → 0 < length b → getD (a ++ (space ∷ b)) (length (a ++ (space ∷ b)) - 1) 0 ≡ getD b (length b - 1) 0
+last-joined a [] h = absurd (omega arith)
+last-joined a (c ∷ b) h =
+    let place : length (a ++ (space ∷ c ∷ b)) - 1 ≡ length a + suc (length b) = rw (length-append a (space ∷ c ∷ b)) (omega arith) in
+    ap (λ n. getD (a ++ (space ∷ c ∷ b)) n 0) place ∙ getD-append-add a (space ∷ c ∷ b) (suc (length b)) 0
+    ∙ ap (λ n. getD (c ∷ b) n 0) (sym (less-one (length b)))
+
+pub joined : (a b : List ℕ) → Fair a → Fair b → 0 < length a → 0 < length b → length a + 1 + length b ≤ longest → Fair (a ++ (space ∷ b))
+joined [] b fa fb ha hb h = absurd (omega arith)
+joined (c ∷ a) b fa fb ha hb h =
+    let sa = spaced (c ∷ a) (fa .spaced) in
+    let sb = spaced b (fb .spaced) in
+    record {
+      short = rw (length-append (c ∷ a) (space ∷ b)) (omega arith);
+      known = known-joined b (c ∷ a) (fa .known) (fb .known);
+      spaced =
+          well-spaced ((c ∷ a) ++ (space ∷ b))
+          (record {
+            first = sa .first;
+            last = ap isSpace (last-joined (c ∷ a) b hb) ∙ sb .last;
+            single = doubled-joined b (c ∷ a) ha (sa .single) (sa .last) (sb .first) (sb .single);
+          });
+    }

@@ -3,11 +3,11 @@
 use Prim.Native.Nat.{ℕ, _+_, _-_}
 use native.Mathlib.Omega.{arith}
 use mathlib.Core.Path.{_≡_}
-use mathlib.Core.Bool.{Bool, true, false, _||_, true≢false}
+use mathlib.Core.Bool.{Bool, false, _||_}
 use mathlib.Core.List.{List}
 use lib.Dec.{T, eqb, ltb→lt, lt→ltb}
 use borrow.Author.Tests.{eqb-false}
-use Rattle.basics.proofs.ChoiceLaws.{and-left, and-right, and-both, or-right, within-high, within-of, decided}
+use Rattle.basics.proofs.ChoiceLaws.{and-left, and-right, and-both, or-right, neither-right, within-high, within-of, decided}
 use Rattle.modules.specs.Ends.{endsInRange}
 use Rattle.modules.proofs.EndsLaws.{set-in-range}
 use Rattle.modules.specs.Stage.{modulesInRange}
@@ -92,16 +92,12 @@ beacon-valid s v =
     }
 
 -- in DEPLOY_WAIT
-or-false : (a b : Bool) → a || b ≡ false → b ≡ false
-or-false true b e = absurd (true≢false e)
-or-false false b e = e
-
 phase-valid :
     (antennas : Bool) (p : Phase) (c b : ℕ) → T (phaseInRange p) → (c ≡ 0) × (b ≡ 0) → T (watchInRange (phaseTicked antennas p) c b)
 phase-valid antennas (Waiting waited) c b h z =
     decided (λ (m : Mode). T (watchInRange m c b)) (antennas || eqb (waited + 1) waitSeconds)
     (λ e. phase-watch (Settling settleSeconds) c b tt z)
-    (λ e. phase-watch (Waiting (waited + 1)) c b (omega (arith, ltb→lt, lt→ltb, eqb-false (waited + 1) waitSeconds (or-false antennas _ e))) z)
+    (λ e. phase-watch (Waiting (waited + 1)) c b (omega (arith, ltb→lt, lt→ltb, eqb-false (waited + 1) waitSeconds (neither-right antennas _ e))) z)
 phase-valid antennas (Settling left) c b h z =
     decided (λ (m : Mode). T (watchInRange m c b)) (eqb (left - 1) 0)
     (λ e. low-tested c b (record { control = omega arith; beacon = omega arith }))

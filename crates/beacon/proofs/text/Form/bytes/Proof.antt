@@ -1,0 +1,28 @@
+use borrow.Author.Needs.{needs}
+use Rattle.beacon.proofs.text.Form.bytes.Statement.{statement}
+use Rattle.beacon.proofs.text.Form.bytes.Tie as tie
+
+enum-told : tie.Need-enum-told
+enum-told c = search needs
+
+enum-told-2 : tie.Need-enum-told-2
+enum-told-2 c = search needs
+
+enum-told-3 : tie.Need-enum-told-3
+enum-told-3 c = search needs
+
+add-result : tie.Need-add-result
+add-result c = search needs
+
+returns : tie.Need-returns
+returns c = search needs
+
+returns-2 : tie.Need-returns-2
+returns-2 c = search needs
+
+returns-3 : tie.Need-returns-3
+returns-3 c = search needs
+
+pub bytes-spec : {M : Type 1} → statement M
+bytes-spec =
+    tie.close (tie.spec enum-told enum-told-2 enum-told-3 add-result returns returns-2 returns-3)
