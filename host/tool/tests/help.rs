@@ -32,7 +32,7 @@ fn help_says_how_a_greeting_is_read() {
         .status(0)
         .prints("--extended")
         .prints("if a greeting is kept")
-        .prints("with no greeting kept, the status is 2")
+        .prints("with none kept, the status\nis 2.\n")
         .prints("\n  ems beacon --all examples/school.pass\n");
 }
 

@@ -161,6 +161,20 @@ fn punctuation_is_read_back() {
     assert_eq!(read.text(), format!("{asked}\n"));
 }
 
+/// What a listener hears of every beacon of a school's greeting is its text.
+#[test]
+fn a_greeting_on_the_beacon_is_read_back() {
+    let all = run(&["beacon", "--all", "examples/school.pass"]).status(0);
+    let mut greeted = 0;
+    for text in all.text().lines().map(|line| &line[20..]) {
+        let units = run(&["key", "--units", text]).status(0);
+        let read = fed(&["read", "-"], &units.out).status(0);
+        assert_eq!(read.text(), format!("{text}\n"));
+        greeted += usize::from(text.ends_with("4B"));
+    }
+    assert_eq!(greeted, 17);
+}
+
 #[test]
 fn a_sound_is_as_long_as_its_units() {
     let file = place("beacon.wav");

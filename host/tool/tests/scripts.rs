@@ -417,7 +417,11 @@ fn a_file_is_not_written_over_what_is_read() {
 /// A script means its bytes: it makes no difference where it is cut.
 #[test]
 fn a_script_s_log_is_the_log_of_its_bytes() {
-    for script in ["examples/orbit.pass", "examples/shorted.pass"] {
+    for script in [
+        "examples/orbit.pass",
+        "examples/school.pass",
+        "examples/shorted.pass",
+    ] {
         let file = place("same.bin");
         run(&["frames", script, "-o", &file]).status(0);
         assert!(run(&["log", script]).status(0).out == run(&["log", &file]).status(0).out);

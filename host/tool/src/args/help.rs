@@ -67,8 +67,9 @@ pub const BEACON: &str = "\
 The text that the last tick made due; if none is due then, the board is left alone
 until one is, and standard error says for how long.
 
-The extended beacon has the greeting. It stays after its last repeat, so --extended has
-the text still; with no greeting kept, the status is 2.
+The extended beacon is the complete one with the greeting behind it. A greeting is kept
+after its last repeat, so that --extended still has the text; with none kept, the status
+is 2.
 
 Examples:
   ems beacon examples/dawn.pass
