@@ -14,6 +14,7 @@ pub mod images;
 pub mod messages;
 pub mod passes;
 pub mod rng;
+pub mod sending;
 pub mod shorting;
 pub mod shrink;
 pub mod sides;

@@ -1,20 +1,17 @@
 //! How far the generators get: flights by the table meet every answer in every
 //! mode, both crossings, all beacons, modules that fail and come back, timed orders
-//! and greetings with every answer, and ends and messages with all that becomes of
-//! them. Starts in any state have ends that run, and run out, modules on with all
-//! tries and seconds, and messages of every length, in every mode. Messages with a
-//! fault have each fault in every place, in images too. Modules that short do so, start, and are switched off, with all tries,
+//! with every answer, and ends with all that becomes of them. Starts in any state
+//! have ends that run, and run out, and modules on with all tries and seconds, in
+//! every mode. Modules that short do so, start, and are switched off, with all tries,
 //! about the second that brings them back. Passes stop at every place, for every
-//! reason, in rooms about the end of every report.
+//! reason, in rooms about the end of every report. `reach_greetings.rs` has the greetings.
 
 use differential::frames::{Maker, Stream};
-use differential::messages::{self, Fault};
 use differential::rng::Rng;
 use differential::{images, passes, shorting};
-use model::message::{self, Message};
 use model::state::{Mode, Power, CLEAN_SECONDS, END_SECONDS, FAILED_SECONDS, TRIES};
-use model::table::{GREETING, KINDS, MISSION, ORDER, TICK, TIMED};
-use model::{frame, image, morse, pass, report, step, State};
+use model::table::{KINDS, MISSION, ORDER, TICK, TIMED};
+use model::{frame, image, pass, report, step, State};
 use std::collections::BTreeSet;
 
 /// What can be met.
@@ -22,54 +19,12 @@ use std::collections::BTreeSet;
 enum Met {
     Answer { mode: u8, answer: u8 },
     TimedAnswer { mode: u8, answer: u8 },
-    GreetingAnswer { mode: u8, answer: u8 },
     Crossing { from: u8, to: u8 },
     Due(u8),
     FailedOn,
     FailedOff,
     Revived,
     End(Fate),
-    Message(Told),
-}
-
-/// What becomes of a message.
-#[derive(PartialEq, Eq, PartialOrd, Ord, Debug)]
-enum Told {
-    Brought,
-    Replaced,
-    ClearedByRepeats,
-    ClearedByLength,
-    /// Sent, with so many repeats left, of 2 or fewer.
-    Sent(u8),
-    /// Left out of a beacon because none are left.
-    UsedUp,
-    /// Left out of one in RECOVERY.
-    Basic,
-    /// Kept over a change of mode, with repeats left.
-    Kept {
-        to: u8,
-    },
-}
-
-/// What a frame that is done has made of a message.
-fn told(frame: &[u8], due: u8, before: &State, after: &State) -> Option<Told> {
-    let (had, has) = (before.message, after.message);
-    let none = |message: Message| message.text().is_none();
-    match frame {
-        [GREETING, _, _, _, _, 0, ..] if !none(had) => Some(Told::ClearedByLength),
-        [GREETING, _, _, _, 0, ..] if !none(had) => Some(Told::ClearedByRepeats),
-        [GREETING, ..] if none(had) && !none(has) => Some(Told::Brought),
-        [GREETING, ..] if had.bytes != has.bytes => Some(Told::Replaced),
-        [TICK, _] if none(had) => None,
-        [TICK, _] if due == 3 => (has.repeats <= 2).then_some(Told::Sent(has.repeats)),
-        [TICK, _] if due == 2 => Some(Told::UsedUp),
-        [TICK, _] if due == 1 && has.repeats > 0 => Some(Told::Basic),
-        [TICK, _] if before.mode.number() != after.mode.number() && has.repeats > 0 => {
-            let to = after.mode.number();
-            Some(Told::Kept { to })
-        }
-        _ => None,
-    }
 }
 
 /// What becomes of a running end.
@@ -113,9 +68,6 @@ fn fly(seed: u64, met: &mut BTreeSet<Met>) {
         if frame.first() == Some(&TIMED) {
             met.insert(Met::TimedAnswer { mode: from, answer });
         }
-        if frame.first() == Some(&GREETING) {
-            met.insert(Met::GreetingAnswer { mode: from, answer });
-        }
         let ends = before.ends.into_iter().zip(state.ends);
         for ((old, new), module) in ends.zip(MISSION) {
             let power = state.modules[usize::from(module)].power;
@@ -128,9 +80,6 @@ fn fly(seed: u64, met: &mut BTreeSet<Met>) {
         }
         if let Ok(report) = result {
             met.insert(Met::Due(report.beacon));
-            let told = told(&frame, report.beacon, &before, &state);
-            let done = report.answer == 0;
-            met.extend(told.filter(|_| done).map(Met::Message));
         }
         for (old, new) in before.modules.iter().zip(&state.modules) {
             match (old.power, new.power) {
@@ -161,24 +110,7 @@ fn flights_by_the_table_meet_it_all() {
         }
         let answer = if mode == 2 { 0 } else { 10 };
         wanted.insert(Met::TimedAnswer { mode, answer });
-        wanted.extend([0, 2, 6, 7, 8, 9].map(|answer| Met::GreetingAnswer { mode, answer }));
     }
-    wanted.extend(
-        [
-            Told::Brought,
-            Told::Replaced,
-            Told::ClearedByRepeats,
-            Told::ClearedByLength,
-            Told::Sent(2),
-            Told::Sent(1),
-            Told::Sent(0),
-            Told::UsedUp,
-            Told::Basic,
-            Told::Kept { to: 1 },
-            Told::Kept { to: 2 },
-        ]
-        .map(Met::Message),
-    );
     wanted.extend(
         [
             Fate::RanOut,
@@ -216,101 +148,6 @@ fn starts_have_ends_in_every_mode() {
             }
         }
     }
-}
-
-#[test]
-fn starts_have_messages_of_every_length_in_every_mode() {
-    let mut rng = Rng::new(1);
-    let mut met = BTreeSet::new();
-    for _ in 0..20_000 {
-        let state = images::state(&mut rng);
-        let Message {
-            length, repeats, ..
-        } = state.message;
-        met.insert((state.mode.number(), usize::from(length), repeats));
-    }
-    for mode in [0, 1, 2] {
-        for length in 0..=message::BYTES {
-            for repeats in [0, 1, 2, 255] {
-                let wanted = (mode, length, repeats);
-                assert!(met.contains(&wanted), "not met: {wanted:?}");
-            }
-        }
-    }
-}
-
-/// The faults of a message: of a text the first byte that is not of the alphabet, or
-/// else the spaces that are out of place.
-fn faults(message: &Message) -> BTreeSet<Fault> {
-    let length = usize::from(message.length);
-    let Some((text, filler)) = message.bytes.split_at_checked(length) else {
-        return BTreeSet::from([Fault::Length]);
-    };
-    let set = (length..).zip(filler).filter(|(_, byte)| **byte != 0);
-    let mut found: BTreeSet<Fault> = set.map(|(place, _)| Fault::Filler(place)).collect();
-    let alone = |byte: &u8| *byte != b' ' && morse::check(&[*byte]).is_err();
-    found.extend(text.iter().position(alone).map(Fault::Byte));
-    if morse::check(text) == Err(13) {
-        let space = |place: &usize| {
-            let before = place.checked_sub(1).map(|place| text[place]);
-            let last = place + 1 == length;
-            text[*place] == b' ' && (last || before.is_none_or(|byte| byte == b' '))
-        };
-        found.extend((0..length).filter(space).map(Fault::Space));
-    }
-    found
-}
-
-/// Each fault in each place that it can have.
-fn all_faults() -> BTreeSet<Fault> {
-    let lengths = 0..=message::BYTES;
-    lengths.flat_map(messages::faults).collect()
-}
-
-#[test]
-fn a_message_with_a_fault_has_it() {
-    let mut rng = Rng::new(1);
-    for length in 0..=message::BYTES {
-        for fault in messages::faults(length) {
-            let good = messages::of_length(&mut rng, 1, length);
-            assert!(good.in_range(), "{good:?}");
-            let bad = messages::with(&mut rng, good, fault);
-            assert!(faults(&bad).contains(&fault), "{fault:?}: {bad:?}");
-            assert!(!bad.in_range(), "{fault:?}: {bad:?}");
-        }
-    }
-}
-
-#[test]
-fn frames_and_images_have_messages_with_every_fault() {
-    let mut rng = Rng::new(1);
-    let (mut in_frames, mut in_images) = (BTreeSet::new(), BTreeSet::new());
-    let kind = KINDS.iter().find(|kind| kind.byte == GREETING);
-    let kind = kind.expect("it is in the table");
-    let mut stream = Stream::new(Maker::Structured);
-    for _ in 0..200_000 {
-        let frame = stream.of_kind(&mut rng, kind);
-        if let [_, _, _, _, repeats, length, text @ ..] = &frame[..] {
-            in_frames.extend(faults(&Message {
-                repeats: *repeats,
-                length: *length,
-                bytes: text.try_into().expect("sixteen bytes"),
-            }));
-        }
-        let bytes = images::damaged(&mut rng);
-        if bytes.len() == image::BYTES {
-            let text = &bytes[image::at::TEXT..image::at::ENDS];
-            in_images.extend(faults(&Message {
-                repeats: bytes[image::at::REPEATS],
-                length: bytes[image::at::LENGTH],
-                bytes: text.try_into().expect("sixteen bytes"),
-            }));
-        }
-    }
-    let missing: Vec<_> = all_faults().difference(&in_frames).cloned().collect();
-    assert!(missing.is_empty(), "not met in frames: {missing:?}");
-    let missing: Vec<_> = all_faults().difference(&in_images).cloned().collect();
-    assert!(missing.is_empty(), "not met in images: {missing:?}");
 }
 
 #[test]

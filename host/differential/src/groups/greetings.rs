@@ -3,14 +3,14 @@
 
 use super::{beacons, call, fly, Verdict, MODES, ROOM};
 use crate::compare::hex;
-use crate::frames::{Maker, Stream};
 use crate::images;
 use crate::messages::{self, Fault};
 use crate::rng::Rng;
+use crate::sending;
 use crate::shrink::Shot;
 use crate::sides::Calls;
 use model::message::{self, Message};
-use model::state::{Mode, BASIC_TICKS, COMPLETE_TICKS};
+use model::state::{Mode, COMPLETE_TICKS};
 use model::table::{FROM_GROUND, FROM_PAYLOAD, GREETING, TICK};
 use model::{image, State};
 
@@ -145,14 +145,8 @@ pub fn kept_messages(sides: &[Calls; 2], rng: &mut Rng) -> Verdict {
 pub fn messages_run_out(sides: &[Calls; 2], rng: &mut Rng) -> Verdict {
     let mut made = 0;
     while made < 1_200_000 {
-        let mode = rng.pick(&[Mode::Recovery, Mode::Safe, Mode::Safe]);
-        let mut state = images::state_in(rng, mode);
-        state.message.repeats = rng.below(4) as u8;
-        state.beacon = rng.pick(&[COMPLETE_TICKS, BASIC_TICKS]) - rng.between(1, 4);
-        let mut stream = Stream::new(Maker::Structured).after(state.last);
-        let frames = rng.pick(&[5, 5, 5, 5, 400]);
-        let shots = (0..frames).map(|_| stream.next(rng)).collect();
-        let (steps, end) = fly(sides, &image::save(&state), shots)?;
+        let (start, shots) = sending::flight(rng);
+        let (steps, end) = fly(sides, &image::save(&start), shots)?;
         made += steps + beacons(sides, rng, &end)?;
     }
     Ok(made)
