@@ -3,7 +3,7 @@
  * twice: over the library, and with -DPEER over the C version in peer/.
  *
  * A stream: what is called ('s' step, 'p' pass, 'o' step for one frame of a pass
- * after the other, 'k' key, 'r' read), an image, the number of inputs (2 bytes,
+ * after the other, 'e' extended beacon, 'k' key, 'r' read), an image, the number of inputs (2 bytes,
  * big-endian), and for each its length (2) and its bytes. */
 #define _POSIX_C_SOURCE 199309L
 #include <stdio.h>
@@ -68,6 +68,8 @@ static uint8_t step(const uint8_t *frame, size_t length, uint8_t *report, size_t
 {
     return peer_step(&state, frame, length, report, left);
 }
+
+static uint8_t extended(size_t *written) { return peer_beacon_extended(&state, room, sizeof room, written); }
 #else
 static uint8_t state[EMS_IMAGE_BYTES];
 
@@ -76,6 +78,11 @@ static void put_back(const uint8_t *image) { memcpy(state, image, sizeof state);
 static uint8_t step(const uint8_t *frame, size_t length, uint8_t *report, size_t left)
 {
     return ems_step(state, sizeof state, frame, length, report, left);
+}
+
+static uint8_t extended(size_t *written)
+{
+    return ems_beacon_extended(state, sizeof state, room, sizeof room, written);
 }
 #endif
 
@@ -138,6 +145,7 @@ int main(int argc, char **argv)
         if (call == 's') sum += step(bytes, length, room, 11);
         else if (call == 'k') sum += KEY(bytes, length, room, sizeof room, &written);
         else if (call == 'r') sum += READ(bytes, length, room, sizeof room, &written);
+        else if (call == 'e') sum += extended(&written);
         else if (call == 'p') sum += pass(bytes, length, &written);
         else sum += one_by_one(bytes, length, &written);
     }

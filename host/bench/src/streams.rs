@@ -12,7 +12,7 @@ pub struct Stream {
     /// What it says there.
     pub name: &'static str,
     /// What is called: `s` step, `p` pass, `o` step for one frame of a pass after
-    /// the other, `k` key, `r` read.
+    /// the other, `e` extended beacon, `k` key, `r` read.
     pub call: u8,
     /// The image to start from.
     pub image: [u8; image::BYTES],
@@ -210,6 +210,13 @@ pub fn streams() -> Vec<Stream> {
         ),
         passes("pass of 100 frames", b'p'),
         passes("the same 100 frames, one call each", b'o'),
+        Stream {
+            name: "extended beacon of 33 characters",
+            call: b'e',
+            image: image::save(&greeted(Mode::Safe)),
+            inputs: vec![vec![]],
+            counted: 1_000,
+        },
         text("keying 64 characters", b'k', TEXT.to_vec()),
         text("reading 64 characters", b'r', units(TEXT)),
         text("keying 64 digits", b'k', DIGITS.to_vec()),
@@ -237,6 +244,7 @@ pub fn drive(stream: &Stream, calls: u64) -> (u128, u64) {
             b's' => calls::step(&mut image, input, &mut room[..report::BYTES]),
             b'p' => reported(calls::pass(&mut image, input, &mut room), &mut written),
             b'o' => reported(one_by_one(&mut image, input, &mut room), &mut written),
+            b'e' => counted(calls::beacon_extended(&image, &mut room), &mut written),
             b'k' => counted(calls::key(input, &mut room), &mut written),
             _ => counted(calls::read(input, &mut room), &mut written),
         };

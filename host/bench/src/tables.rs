@@ -107,7 +107,8 @@ fn growth(bench: &Bench, library: &Path, lines: &mut Lines) -> Result<()> {
     Ok(())
 }
 
-/// Bytes of code, of constants and of stack. The C version has no beacon.
+/// Bytes of code, of constants and of stack. The C version has no beacon but the
+/// extended one.
 fn sizes(
     bench: &Bench,
     library: &Path,

@@ -95,7 +95,7 @@ fn flights_by_the_table_meet_it_all() {
     }
     let answers = [0, 2, 6, 7, 8, 9];
     let wanted = [0, 1, 2].map(|mode| answers.map(|answer| (mode, answer)));
-    // There is none for 10.
+    // None gets 10.
     assert_eq!(met.answers, BTreeSet::from_iter(wanted.concat()));
     let mut wanted = all_told();
     wanted.extend([1, 2].map(|to| Told::Kept { to }));
