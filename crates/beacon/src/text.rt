@@ -1,8 +1,11 @@
 // The bytes of the beacon's text: the basic one is the front of the complete one, and that of the extended one.
 ghost use mathlib.Core.Path.{_≡_};
+ghost use mathlib.Core.List.{_∷_, _++_};
 ghost use Prim.Native.Nat.{_<_};
-ghost use Rattle.basics.specs.Bytes.{hexDigit};
-ghost use Rattle.beacon.specs.Text.{modeLetter, figure, hasText, formBytes, fullText};
+ghost use Rattle.basics.specs.Bytes.{hexDigit, space};
+ghost use Rattle.beacon.specs.Text.{modeLetter, figure, hasText, formBytes};
+ghost use Rattle.beacon.specs.Text.{completeText, fullText};
+use frames::greeting::LONGEST;
 use modules::masks::masks_of;
 use supervisor::state::Mode;
 use supervisor::state::State;
@@ -83,12 +86,10 @@ fn digit(n: u8) -> u8
     if n < 10 { b'0' + n } else { b'A' + (n - 10) }
 }
 
-// The complete text of any state, a space, and all sixteen bytes of the message.
-pub(crate) fn full_text(state: State) -> [u8; MOST_BYTES]
-    ensures { λ r. ⌜ r ≡ fullText state ⌝ }
+// The complete text of any state.
+fn complete_text(state: State) -> [u8; COMPLETE_BYTES]
+    ensures { λ r. ⌜ r ≡ completeText state ⌝ }
 {
-    let message = state.message;
-    let text = message.text;
     let watch = state.watch;
     let mode = watch.mode;
     let tension = state.battery.tension;
@@ -111,22 +112,25 @@ pub(crate) fn full_text(state: State) -> [u8; MOST_BYTES]
         b' ',
         digit(masks.failed / HEX),
         digit(masks.failed % HEX),
-        b' ',
-        text[0],
-        text[1],
-        text[2],
-        text[3],
-        text[4],
-        text[5],
-        text[6],
-        text[7],
-        text[8],
-        text[9],
-        text[10],
-        text[11],
-        text[12],
-        text[13],
-        text[14],
-        text[15],
     ]
+}
+
+// A complete text, a space, and all bytes of a message.
+fn greeted(complete: [u8; COMPLETE_BYTES], message: [u8; LONGEST]) -> [u8; MOST_BYTES]
+    ensures { λ r. ⌜ r ≡ complete ++ (space ∷ message) ⌝ }
+{
+    let mut all = [b' '; MOST_BYTES];
+    bytes::copy(&complete, &mut all);
+    bytes::copy(&message, &mut all[GREETED_BYTES..]);
+    all
+}
+
+// The complete text of any state, a space, and all bytes of its message.
+pub(crate) fn full_text(state: State) -> [u8; MOST_BYTES]
+    ensures { λ r. ⌜ r ≡ fullText state ⌝ }
+{
+    let complete = complete_text(state);
+    let message = state.message;
+    let text = message.text;
+    greeted(complete, text)
 }

@@ -1,3 +1,5 @@
+-- `beacon::text::Form::bytes` meets its contract.
+use native.Mathlib.Omega.{arith}
 use borrow.Author.Needs.{needs}
 use Rattle.beacon.proofs.text.Form.bytes.Statement.{statement}
 use Rattle.beacon.proofs.text.Form.bytes.Tie as tie
@@ -21,7 +23,7 @@ returns-2 : tie.Need-returns-2
 returns-2 c = search needs
 
 returns-3 : tie.Need-returns-3
-returns-3 c = search needs
+returns-3 c = simp (c .enum-told3 .given .1) (omega arith)
 
 pub bytes-spec : {M : Type 1} → statement M
 bytes-spec =

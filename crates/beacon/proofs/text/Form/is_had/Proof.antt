@@ -1,3 +1,4 @@
+-- `beacon::text::Form::is_had` meets its contract.
 use borrow.Author.Needs.{needs}
 use Rattle.beacon.proofs.text.Form.is_had.Statement.{statement}
 use Rattle.beacon.proofs.text.Form.is_had.Tie as tie
@@ -18,7 +19,7 @@ returns-2 : tie.Need-returns-2
 returns-2 c = search needs
 
 returns-3 : tie.Need-returns-3
-returns-3 c = search needs
+returns-3 c = simp (c .enum-told3 .given .1)
 
 pub is-had-spec : {M : Type 1} → statement M
 is-had-spec = tie.close (tie.spec enum-told enum-told-2 enum-told-3 returns returns-2 returns-3)
