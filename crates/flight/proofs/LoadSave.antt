@@ -18,14 +18,14 @@ use Rattle.flight.proofs.FieldsLaws.{AllBytes, flag-low}
 use Rattle.flight.proofs.SavingLaws.{length-saved}
 use Rattle.flight.proofs.LoadingLaws.{layout, decoded-saved, saved-decoded}
 
-saved-layout : (s : State) → Eight s → hasLayout (saved s) ≡ true
+saved-layout : (s : State) → inRange s ≡ true → Eight s → hasLayout (saved s) ≡ true
 unfolding hasLayout saved headBytes
-saved-layout s eight = simp (eq-eqb (length (saved s)) imageBytes (length-saved s eight), flag-low (s .antennas))
+saved-layout s e eight = simp (eq-eqb (length (saved s)) imageBytes (length-saved s e eight), flag-low (s .antennas))
 
 -- load (save s) = s
 pub load-save : (s : State) → inRange s ≡ true → Eight s → loaded (saved s) ≡ some s
 unfolding loaded
-load-save s e eight = simp (saved-layout s eight, decoded-saved s e eight, e)
+load-save s e eight = simp (saved-layout s e eight, decoded-saved s e eight, e)
 
 -- what bytes that load are
 module _ (bytes : List ℕ) (s : State) (e : loaded bytes ≡ some s) where

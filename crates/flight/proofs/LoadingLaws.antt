@@ -6,10 +6,10 @@ use native.Mathlib.Numerals.{add-one}
 use native.Mathlib.Nat.{add-assoc, le-of-suc-le-suc, not-suc-le-zero}
 use mathlib.Core.Path.{_≡_, refl, sym, ap, _∙_}
 use mathlib.Core.Bool.{true}
-use mathlib.Core.List.{List, [], _∷_, _++_}
+use mathlib.Core.List.{List, [], _∷_, _++_, append-assoc}
 use lib.Dec.{T, eqb→eq, leb→le}
-use lib.ListN.{length, getD, take, drop, replicate}
-use lib.Seq.{getD-append-add, ext-getD, drop-cons, take-all}
+use lib.ListN.{length, getD, take, drop, replicate, length-append}
+use lib.Seq.{getD-append-add, ext-getD, drop-cons, take-all, take-append-le, take-at}
 use Rattle.basics.specs.Each.{each, eachFrom}
 use Rattle.basics.proofs.ChoiceLaws.{holds, and-left, and-right}
 use Rattle.basics.proofs.EachLaws.{length-each, at-each}
@@ -17,20 +17,22 @@ use Rattle.modules.specs.Groups.{moduleCount}
 use Rattle.modules.specs.Power.{powerInRange}
 use Rattle.modules.specs.Stage.{modulesInRange}
 use Rattle.modules.specs.declared.power.Module.{Module}
+use Rattle.frames.specs.Greeting.{longestGreeting}
 use Rattle.frames.specs.Reading.{byteAt}
 use Rattle.supervisor.specs.Range.{inRange}
 use Rattle.supervisor.specs.declared.state.State.{State}
 use Rattle.supervisor.proofs.RangeLaws.{parts}
 use Rattle.supervisor.proofs.ModuleLaws.{Eight}
-use Rattle.flight.specs.Fields.{pairBytes, pairAt}
+use Rattle.flight.specs.Fields.{pairBytes, pairAt, quadAt}
 use Rattle.flight.specs.Codes.{moduleCode, moduleFrom}
-use Rattle.flight.specs.Saving.{imageBytes, layoutVersion, endsPlace, modulesPlace, endsBytes, modulesBytes, headBytes, saved}
-use Rattle.flight.specs.Loading.{hasLayout, blank, endsIn, modulesIn, decoded}
+use Rattle.flight.specs.Saving.{imageBytes, layoutVersion, messagePlace, textPlace, endsPlace, modulesPlace}
+use Rattle.flight.specs.Saving.{messageBytes, endsBytes, modulesBytes, headBytes, saved}
+use Rattle.flight.specs.Loading.{hasLayout, blank, messageIn, endsIn, modulesIn, decoded}
 use Rattle.flight.proofs.FieldsLaws.{AllBytes, flag-back, pair-back, triple-back, quad-back, flag-stored}
 use Rattle.flight.proofs.FieldsLaws.{pair-small, pair-low, pair-high, triple-low, triple-middle, triple-high}
 use Rattle.flight.proofs.FieldsLaws.{quad-first, quad-second, quad-third, quad-fourth}
 use Rattle.flight.proofs.CodesLaws.{mode-code, mode-back, module-code, module-back}
-use Rattle.flight.proofs.SavingLaws.{mode-in-range}
+use Rattle.flight.proofs.SavingLaws.{mode-in-range, sixteen, frontBytes, length-front, length-ends}
 
 module _ (bytes : List ℕ) where
   length-in : length (modulesIn bytes) ≡ moduleCount
@@ -47,6 +49,9 @@ module _ (bytes : List ℕ) where
 pair-shift : (front bytes : List ℕ) (at : ℕ) → pairAt (length front + at) (front ++ bytes) ≡ pairAt at bytes
 pair-shift front bytes at = simp (add-assoc, getD-append-add)
 
+quad-shift : (front bytes : List ℕ) (at : ℕ) → quadAt (length front + at) (front ++ bytes) ≡ quadAt at bytes
+quad-shift front bytes at = simp (add-assoc, getD-append-add)
+
 module-of : (ms : List Module) (i : ℕ) → i < length ms → T (modulesInRange ms) → moduleFrom (pairAt (2 * i) (modulesBytes ms)) ≡ getD ms i blank
 unfolding modulesBytes modulesInRange
 module-of [] i h r = absurd (not-suc-le-zero h)
@@ -56,20 +61,46 @@ module-of (m ∷ ms) (suc i) h r =
     rw e (ap moduleFrom (pair-shift (pairBytes (moduleCode m)) (modulesBytes ms) (2 * i)))
     ∙ module-of ms i (le-of-suc-le-suc h) (and-right (powerInRange (m .power)) (modulesInRange ms) r)
 
-modules-back : (s : State) → T (modulesInRange (s .modules)) → Eight s → modulesIn (saved s) ≡ s .modules
-unfolding saved headBytes endsBytes
-modules-back s r eight =
-    let n = length-in (saved s) in
-    ext-getD blank (modulesIn (saved s)) (s .modules) (n ∙ sym eight)
-    (λ i h. module-in (saved s) i (omega arith)
-    ∙ ap moduleFrom (pair-shift (headBytes s ++ endsBytes (s .ends)) (modulesBytes (s .modules)) (2 * i))
-    ∙ module-of (s .modules) i (omega arith) r)
+module _ (s : State) (e : inRange s ≡ true) where
+  abbrev front : List ℕ
+  front = frontBytes s ++ endsBytes (s .ends)
 
-pub decoded-saved : (s : State) → inRange s ≡ true → Eight s → decoded (saved s) ≡ s
-unfolding decoded endsIn saved headBytes endsBytes
-decoded-saved s e eight =
-    let modules = modules-back s (parts s (holds (inRange s) e) .modules) eight in
-    simp (modules, pair-back, triple-back, quad-back, flag-back, mode-back (s .watch .mode) (mode-in-range s e))
+  modules-back : Eight s → modulesIn (saved s) ≡ s .modules
+  unfolding saved
+  modules-back eight =
+      let n = length-in (saved s) in
+      ext-getD blank (modulesIn (saved s)) (s .modules) (n ∙ sym eight)
+      (λ i h. module-in (saved s) i (omega arith)
+      ∙ ap (λ at. moduleFrom (pairAt (at + 2 * i) (saved s))) (sym (length-ends s e))
+      ∙ ap moduleFrom (pair-shift front (modulesBytes (s .modules)) (2 * i))
+      ∙ module-of (s .modules) i (omega arith) (parts s (holds (inRange s) e) .modules))
+
+  -- the end whose bytes stand k past the first's
+  end-back : (k : ℕ) → quadAt (endsPlace + k) (saved s) ≡ quadAt k (endsBytes (s .ends) ++ modulesBytes (s .modules))
+  unfolding saved
+  end-back k =
+      ap (λ at. quadAt (at + k) (saved s)) (sym (length-front s e))
+      ∙ ap (quadAt (length (frontBytes s) + k)) (append-assoc (frontBytes s) (endsBytes (s .ends)) (modulesBytes (s .modules)))
+      ∙ quad-shift (frontBytes s) (endsBytes (s .ends) ++ modulesBytes (s .modules)) k
+
+  ends-back : endsIn (saved s) ≡ s .ends
+  unfolding endsIn endsBytes
+  ends-back = simp (end-back 0, end-back 4, end-back 8, end-back 12, quad-back)
+
+  message-back : messageIn (saved s) ≡ s .message
+  unfolding messageIn saved headBytes messageBytes
+  message-back =
+      let text = s .message .text in
+      let ends = endsBytes (s .ends) in
+      let long : longestGreeting ≤ length (text ++ ends) = rw (length-append text ends) (omega (arith, sixteen s e)) in
+      let back : take longestGreeting (drop textPlace (saved s)) ≡ text =
+      take-append-le longestGreeting (text ++ ends) (modulesBytes (s .modules)) long ∙ take-at text ends longestGreeting (sixteen s e) in
+      simp back
+
+  pub decoded-saved : Eight s → decoded (saved s) ≡ s
+  unfolding decoded saved headBytes
+  decoded-saved eight =
+      simp (modules-back eight, ends-back, message-back, pair-back, triple-back, flag-back, mode-back (s .watch .mode) (mode-in-range s e))
 
 -- what the fields of an image say saves to that image
 
@@ -100,7 +131,7 @@ part-listed zero k bytes h = refl
 part-listed (suc n) k bytes h = rw (drop-cons bytes k 0 (omega arith)) (ap (λ l. byteAt k bytes ∷ l) (part-listed n (suc k) bytes (omega arith)))
 
 module _ (bytes : List ℕ) (small : AllBytes bytes) where
-  head-stored : Layout bytes → headBytes (decoded bytes) ≡ listed endsPlace 0 bytes
+  head-stored : Layout bytes → headBytes (decoded bytes) ≡ listed messagePlace 0 bytes
   unfolding headBytes decoded listed
   head-stored l =
       simp (
@@ -113,6 +144,10 @@ module _ (bytes : List ℕ) (small : AllBytes bytes) where
         flag-stored (byteAt 7 bytes) (l .antennas),
         l .version,
       )
+
+  message-stored : Layout bytes → messageBytes (messageIn bytes) ≡ listed 18 messagePlace bytes
+  unfolding messageBytes messageIn listed
+  message-stored l = ap (λ text. byteAt messagePlace bytes ∷ byteAt (messagePlace + 1) bytes ∷ text) (part-listed longestGreeting textPlace bytes (omega (arith, l .size)))
 
   ends-stored : endsBytes (endsIn bytes) ≡ listed 16 endsPlace bytes
   unfolding endsBytes endsIn listed
@@ -135,4 +170,4 @@ module _ (bytes : List ℕ) (small : AllBytes bytes) where
   saved-decoded l =
       let size = l .size in
       let whole : bytes ≡ listed imageBytes 0 bytes = sym (take-all imageBytes bytes (omega arith)) ∙ part-listed imageBytes 0 bytes (omega arith) in
-      rw (head-stored l, ends-stored, modules-stored moduleCount 0) (sym whole)
+      rw (head-stored l, message-stored l, ends-stored, modules-stored moduleCount 0) (sym whole)

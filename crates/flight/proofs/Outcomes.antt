@@ -16,6 +16,8 @@ use Rattle.flight.proofs.calls.ems_beacon_basic as ems-beacon-basic
 use Rattle.flight.proofs.calls.ems_beacon_basic.Reads as ems-beacon-basic-reads
 use Rattle.flight.proofs.calls.ems_beacon_complete as ems-beacon-complete
 use Rattle.flight.proofs.calls.ems_beacon_complete.Reads as ems-beacon-complete-reads
+use Rattle.flight.proofs.calls.ems_beacon_extended as ems-beacon-extended
+use Rattle.flight.proofs.calls.ems_beacon_extended.Reads as ems-beacon-extended-reads
 use Rattle.flight.proofs.calls.ems_key as ems-key
 use Rattle.flight.proofs.calls.ems_key.Reads as ems-key-reads
 use Rattle.flight.proofs.calls.ems_read as ems-read
@@ -49,6 +51,13 @@ ems-beacon-basic-one =
 
 pub ems-beacon-complete-one : OneOutcome ems-beacon-complete.ended ems-beacon-complete-reads.Asked ems-beacon-complete-reads.Learnt
 ems-beacon-complete-one =
+    record {
+      taken = λ κs a. tt;
+      one = λ κs a x y p q i. ((p ∙ sym q) i .result .number, (tt, ((p ∙ sym q) i .room, ((p ∙ sym q) i .result .count, tt))));
+    }
+
+pub ems-beacon-extended-one : OneOutcome ems-beacon-extended.ended ems-beacon-extended-reads.Asked ems-beacon-extended-reads.Learnt
+ems-beacon-extended-one =
     record {
       taken = λ κs a. tt;
       one = λ κs a x y p q i. ((p ∙ sym q) i .result .number, (tt, ((p ∙ sym q) i .room, ((p ∙ sym q) i .result .count, tt))));

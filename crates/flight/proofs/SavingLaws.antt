@@ -6,15 +6,18 @@ use native.Mathlib.Nat.{le-of-suc-le-suc, not-suc-le-zero}
 use native.Mathlib.Numerals.{add-one}
 use mathlib.Core.Path.{_≡_, refl, sym, ap, _∙_}
 use mathlib.Core.Bool.{true}
-use mathlib.Core.List.{List, [], _∷_, _++_, append-nil}
+use mathlib.Core.List.{List, [], _∷_, _++_, append-nil, append-assoc}
 use lib.Dec.{T}
 use lib.ListN.{length, getD, take, drop, length-append, drop-of-length-le}
-use lib.Seq.{sets, take-length, drop-cons}
+use lib.Seq.{sets, sets-eq, take-length, drop-cons, drop-drop}
 use Rattle.basics.proofs.ChoiceLaws.{holds, is-true, and-left, and-right}
 use Rattle.basics.proofs.Stores.{sets-append, sets-front}
+use Rattle.basics.proofs.PartLaws.{partFrom, lentBack, part-from, lent-back}
 use Rattle.modules.specs.Power.{powerInRange}
 use Rattle.modules.specs.Stage.{modulesInRange}
 use Rattle.modules.specs.declared.power.Module.{Module}
+use Rattle.frames.specs.Greeting.{longestGreeting}
+use Rattle.frames.proofs.GreetingLaws.{fair}
 use Rattle.supervisor.specs.Range.{watchInRange, inRange}
 use Rattle.supervisor.specs.declared.state.Mode.{Mode}
 use Rattle.supervisor.specs.declared.state.Mode.the-variants.{DeployWait, Recovery, Safe}
@@ -23,7 +26,8 @@ use Rattle.supervisor.proofs.ModuleLaws.{Eight}
 use Rattle.supervisor.proofs.RangeLaws.{parts, phase-in-range}
 use Rattle.flight.specs.Fields.{pairBytes}
 use Rattle.flight.specs.Codes.{safeCode, modeCode, moduleCode}
-use Rattle.flight.specs.Saving.{imageBytes, endsPlace, modulesPlace, endsBytes, modulesBytes, headBytes, saved}
+use Rattle.flight.specs.Saving.{imageBytes, messagePlace, endsPlace, modulesPlace}
+use Rattle.flight.specs.Saving.{messageBytes, endsBytes, modulesBytes, headBytes, saved}
 use Rattle.flight.proofs.CodesLaws.{modeInRange, mode-small}
 
 -- two bytes a module
@@ -32,9 +36,27 @@ unfolding modulesBytes
 length-modules [] = refl
 length-modules (m ∷ ms) = omega (arith, length-modules ms)
 
-pub length-saved : (s : State) → Eight s → length (saved s) ≡ imageBytes
-unfolding saved headBytes endsBytes
-length-saved s eight = omega (arith, length-append (headBytes s ++ endsBytes (s .ends)) (modulesBytes (s .modules)), length-modules (s .modules))
+-- sixteen bytes of the message's text
+pub sixteen : (s : State) → inRange s ≡ true → length (s .message .text) ≡ longestGreeting
+sixteen s e = fair (s .message .length) (s .message .text) (parts s (holds (inRange s) e) .message) .sixteen
+
+-- all but the ends and the modules
+abbrev pub frontBytes : State → List ℕ
+frontBytes s = headBytes s ++ messageBytes (s .message)
+
+pub length-front : (s : State) → inRange s ≡ true → length (frontBytes s) ≡ endsPlace
+unfolding headBytes messageBytes
+length-front s e = omega (arith, sixteen s e)
+
+pub length-ends : (s : State) → inRange s ≡ true → length (frontBytes s ++ endsBytes (s .ends)) ≡ modulesPlace
+unfolding endsBytes
+length-ends s e = length-append (frontBytes s) (endsBytes (s .ends)) ∙ rw (length-front s e)
+
+pub length-saved : (s : State) → inRange s ≡ true → Eight s → length (saved s) ≡ imageBytes
+unfolding saved
+length-saved s e eight =
+    length-append (frontBytes s ++ endsBytes (s .ends)) (modulesBytes (s .modules))
+    ∙ rw (length-ends s e, length-modules (s .modules), eight)
 
 -- of a state in range, the mode and each module are in range
 
@@ -69,19 +91,36 @@ stored-turn ms i at room d h =
     let rest : drop i ms ≡ getD ms i d ∷ drop (i + 1) ms = rw add-one (drop-cons ms i d h) in
     rw rest (sym (sets-append (pairBytes (moduleCode (getD ms i d))) (modulesBytes (drop (i + 1) ms)) room at))
 
--- the ends and the modules after a head that was copied
+-- a text that is copied into a room from a place on
+pub text-stored :
+    (room text : List ℕ) (at : ℕ) → at + length text ≤ length room →
+    lentBack room at (take (length text) text ++ drop (length text) (partFrom room at)) ≡ sets room at text
+text-stored room text at h =
+    lent-back room at (take (length text) text ++ drop (length text) (partFrom room at))
+    ∙ rw (take-length text, part-from room at, drop-drop (length text) at room)
+    (sym (append-assoc (take at room) text (drop (at + length text) room)) ∙ sym (sets-eq text room at h))
+
+from-start : {n m : ℕ} → n ≡ m → n ≡ 0 + m
+from-start e = omega (arith, e)
+
+-- the message, the ends and the modules after a head that was copied
 pub stored-state :
-    (s : State) (head room : List ℕ) → head ≡ headBytes s → Eight s → length room ≡ imageBytes →
-    sets (sets (take (length head) head ++ drop (length head) room) endsPlace (endsBytes (s .ends))) modulesPlace (modulesBytes (s .modules)) ≡ saved s
-unfolding saved headBytes endsBytes
-stored-state s head room e eight fits =
-    let n = length-saved s eight in
+    (s : State) (head room : List ℕ) → head ≡ headBytes s → inRange s ≡ true → Eight s → length room ≡ imageBytes →
+    sets (sets (sets (take (length head) head ++ drop (length head) room) messagePlace (messageBytes (s .message))) endsPlace (endsBytes (s .ends))) modulesPlace
+    (modulesBytes (s .modules)) ≡ saved s
+unfolding saved headBytes
+stored-state s head room e valid eight fits =
+    let n = length-saved s valid eight in
+    let message = messageBytes (s .message) in
     let ends = endsBytes (s .ends) in
     let modules = modulesBytes (s .modules) in
     rw (take-length head, e)
-    (ap (λ r. sets (sets r endsPlace ends) modulesPlace modules) (sym (sets-front (headBytes s) room (omega arith)))
-    ∙ ap (λ r. sets r modulesPlace modules) (sym (sets-append (headBytes s) ends room 0))
-    ∙ sym (sets-append (headBytes s ++ ends) modules room 0)
+    (ap (λ r. sets (sets (sets r messagePlace message) endsPlace ends) modulesPlace modules) (sym (sets-front (headBytes s) room (omega arith)))
+    ∙ ap (λ r. sets (sets r endsPlace ends) modulesPlace modules) (sym (sets-append (headBytes s) message room 0))
+    ∙ ap (λ at. sets (sets (sets room 0 (frontBytes s)) at ends) modulesPlace modules) (from-start (sym (length-front s valid)))
+    ∙ ap (λ r. sets r modulesPlace modules) (sym (sets-append (frontBytes s) ends room 0))
+    ∙ ap (λ at. sets (sets room 0 (frontBytes s ++ ends)) at modules) (from-start (sym (length-ends s valid)))
+    ∙ sym (sets-append (frontBytes s ++ ends) modules room 0)
     ∙ sets-front (saved s) room (omega arith)
     ∙ ap (λ l. saved s ++ l) (drop-of-length-le room {i = length (saved s)} (omega arith))
     ∙ append-nil (saved s))

@@ -5,6 +5,9 @@ use borrow.Author.Needs.{needs}
 use Rattle.flight.proofs.loading.decode.Statement.{statement}
 use Rattle.flight.proofs.loading.decode.Tie as tie
 
+message-in-requires : tie.Need-message-in-requires
+message-in-requires c κs = search needs
+
 ends-in-requires : tie.Need-ends-in-requires
 ends-in-requires c κs = search needs
 
@@ -32,14 +35,14 @@ add-mode-from c = omega (arith, c .shared-slice-known2 .given 3)
 mode-from-requires : tie.Need-mode-from-requires
 mode-from-requires c κs = search needs
 
-shared-slice-read-t13 : tie.Need-shared-slice-read-t13
-shared-slice-read-t13 c = search needs
+shared-slice-read-t14 : tie.Need-shared-slice-read-t14
+shared-slice-read-t14 c = search needs
 
 pair-at-requires-2 : tie.Need-pair-at-requires-2
 pair-at-requires-2 c κs = search needs
 
-shared-slice-read-t17 : tie.Need-shared-slice-read-t17
-shared-slice-read-t17 c = search needs
+shared-slice-read-t18 : tie.Need-shared-slice-read-t18
+shared-slice-read-t18 c = search needs
 
 pair-at-requires-3 : tie.Need-pair-at-requires-3
 pair-at-requires-3 c κs = search needs
@@ -77,12 +80,14 @@ returns c =
       low .pair-at .ensures,
       low .before .modules-in .ensures,
       low .before .before .ends-in .ensures,
+      low .before .before .before .message-in .ensures,
     )
 
 pub decode-spec : {M : Type 1} → statement M
 decode-spec =
     tie.close
     (tie.spec
+    message-in-requires
     ends-in-requires
     modules-in-requires
     pair-at-requires
@@ -92,9 +97,9 @@ decode-spec =
     mul-mode-from
     add-mode-from
     mode-from-requires
-    shared-slice-read-t13
+    shared-slice-read-t14
     pair-at-requires-2
-    shared-slice-read-t17
+    shared-slice-read-t18
     pair-at-requires-3
     pair-at-requires-4
     pair-at-requires-5
