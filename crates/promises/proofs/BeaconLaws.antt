@@ -16,6 +16,7 @@ use Rattle.supervisor.specs.Tick.{ticked, beforeModules, moduleStage}
 use Rattle.supervisor.specs.Acted.{dueNumber}
 use Rattle.supervisor.specs.Deploy.{phaseTicked}
 use Rattle.supervisor.specs.Report.{beaconByte}
+use Rattle.supervisor.specs.Message.{isToBeSent}
 use Rattle.supervisor.specs.Due.{beaconStage, dueAt}
 use Rattle.supervisor.specs.History.{Call, called, doneTick}
 use Rattle.supervisor.specs.declared.state.Phase.{Phase}
@@ -40,11 +41,11 @@ module _ (shorts : ℕ) (s : State) where
 
   silent-count : dueNumber (beaconStage staged .due) ≡ 0 → beaconStage staged .state .watch .beacon ≡ s .watch .beacon + 1
   unfolding beaconStage
-  silent-count d = count-stands (dueAt (staged .watch .mode) (staged .watch .beacon + 1)) (staged .watch .beacon + 1) d ∙ ap (λ (n : ℕ). n + 1) count-before
+  silent-count d = count-stands (dueAt (staged .watch .mode) (isToBeSent (staged .message)) (staged .watch .beacon + 1)) (staged .watch .beacon + 1) d ∙ ap (λ (n : ℕ). n + 1) count-before
 
   silent-sixty : isSafe (beaconStage staged .state .watch .mode) ≡ true → dueNumber (beaconStage staged .due) ≡ 0 → (s .watch .beacon + 1) % completeTicks ≡ 0 → ⊥
   unfolding beaconStage
-  silent-sixty m d z = none-at-sixty (staged .watch .mode) (staged .watch .beacon + 1) m d (rw count-before z)
+  silent-sixty m d z = none-at-sixty (staged .watch .mode) (isToBeSent (staged .message)) (staged .watch .beacon + 1) m d (rw count-before z)
 
 -- out of DEPLOY_WAIT no second leads into SAFE
 not-safe : (antennas : Bool) (p : Phase) → isSafe (phaseTicked antennas p) ≡ true → ⊥

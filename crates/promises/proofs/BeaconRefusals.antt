@@ -3,6 +3,7 @@
 use Prim.Native.Nat.{ℕ, _≤_}
 use native.Mathlib.Omega.{arith}
 use mathlib.Core.Path.{refl}
+use mathlib.Core.Bool.{not}
 use mathlib.Core.List.{List}
 use lib.Dec.{ltb}
 use lib.ListN.{length}
@@ -10,7 +11,7 @@ use Rattle.basics.specs.Outcome.{Outcome}
 use Rattle.basics.proofs.ChoiceLaws.{either}
 use Rattle.supervisor.specs.Range.{inRange}
 use Rattle.supervisor.specs.declared.state.State.{State}
-use Rattle.beacon.specs.Text.{textOf}
+use Rattle.beacon.specs.Text.{textOf, hasText}
 use Rattle.beacon.specs.Writing.{beaconOf, writtenReply}
 use Rattle.beacon.specs.declared.text.Form.{Form}
 use Rattle.beacon.specs.declared.writing.Written.{Written}
@@ -23,6 +24,6 @@ module _ (room : List ℕ) where
   pub beacon-keeps : (form : Form) (s : State) → Keeps (beaconOf form s room)
   unfolding beaconOf
   beacon-keeps form s =
-      either Keeps (inRange s)
-      (either Keeps (ltb (length room) (length (textOf form s))) (λ t. record { count = refl; room = refl }) (λ t. absurd (omega arith)))
-      (λ t. record { count = refl; room = refl })
+      either Keeps (not (inRange s)) (λ t. record { count = refl; room = refl })
+      (either Keeps (not (hasText form (s .message .length))) (λ t. record { count = refl; room = refl })
+      (either Keeps (ltb (length room) (length (textOf form s))) (λ t. record { count = refl; room = refl }) (λ t. absurd (omega arith))))

@@ -2,11 +2,13 @@
 -- Assumes nothing.
 use Prim.Native.Nat.{ℕ, _*_, _≤_}
 use native.Mathlib.Omega.{arith}
+use mathlib.Core.List.{List}
 use mathlib.Core.Path.{_≡_, refl, sym, ap, _∙_}
 use mathlib.Core.Bool.{Bool, true, false, not, _&&_, true≢false}
 use borrow.Author.Tests.{eq-eqb, lt-ltb}
 use Rattle.basics.proofs.ChoiceLaws.{is-true, decided, within-low}
 use Rattle.modules.specs.Groups.{isMission}
+use Rattle.frames.specs.Greeting.{greetingText}
 use Rattle.frames.specs.Answer.{answerNumber}
 use Rattle.frames.specs.About.{aCommand, about, isTick}
 use Rattle.frames.specs.Reading.{mostMinutes}
@@ -51,9 +53,10 @@ module _ (which minutes : ℕ) where
   abbrev Does : Acted → Type 0
   Does a = answerNumber (a .answer) ≡ 0 → Begun which minutes (a .state)
 
-  taken-begins : (sender : Sender) → FitsCommand sender (Timed which minutes) → (t : State) → Eight t → Does (taken (Timed which minutes) t)
+  taken-begins :
+      (sender : Sender) (text : List ℕ) → FitsCommand sender (Timed which minutes) text → (t : State) → Eight t → Does (taken (Timed which minutes) text t)
   unfolding isIllTimed requestSet
-  taken-begins sender fits t n =
+  taken-begins sender text fits t n =
       let mission : isMission which ≡ true = is-true (isMission which) (fits .mission) in
       let some : 1 ≤ minutes = within-low 1 mostMinutes minutes (fits .minutes) in
       let end : ℕ = 60 * minutes in
@@ -69,21 +72,22 @@ module _ (which minutes : ℕ) where
       })
 
   act-begins :
-      (sender : Sender) (f : Frame) → Fits f → about (Accepted f) ≡ aCommand sender (Timed which minutes) → (s : State) → Eight s → Does (actOf f s)
+      (sender : Sender) (f : Frame) (text : List ℕ) → Fits f text → about (Accepted f) ≡ aCommand sender (Timed which minutes) → (s : State) → Eight s →
+      Does (actOf f text s)
   unfolding actOf
-  act-begins sender (frame.Tick shorts) fits e s n = let z : _≡_ {A = ℕ} 0 1 = cc in absurd (omega arith)
-  act-begins sender (frame.Battery tension) fits e s n = let z : _≡_ {A = ℕ} 0 1 = cc in absurd (omega arith)
-  act-begins sender (frame.Antennas out) fits e s n = let z : _≡_ {A = ℕ} 0 1 = cc in absurd (omega arith)
-  act-begins sender (frame.Command by command) fits e s n =
+  act-begins sender (frame.Tick shorts) text fits e s n = let z : _≡_ {A = ℕ} 0 1 = cc in absurd (omega arith)
+  act-begins sender (frame.Battery tension) text fits e s n = let z : _≡_ {A = ℕ} 0 1 = cc in absurd (omega arith)
+  act-begins sender (frame.Antennas out) text fits e s n = let z : _≡_ {A = ℕ} 0 1 = cc in absurd (omega arith)
+  act-begins sender (frame.Command by command) text fits e s n =
       let same : command ≡ Timed which minutes = cc in
-      by-serial by command s (λ class. Does) (λ z. absurd (omega arith)) (λ z. absurd (omega arith))
-      (rw same (taken-begins by (rw same at fits) (serialUsed by s) n))
+      by-serial by command text s (λ class. Does) (λ z. absurd (omega arith)) (λ z. absurd (omega arith))
+      (rw same (taken-begins by text (rw same at fits) (serialUsed by s) n))
 
   begins-by : (s : State) (c : Call) → Begins which minutes s c → Comes s c → Begun which minutes (called s c .result .state)
   begins-by s c b (stopped answer w) = absurd (omega (arith, within-low 1 7 (answerNumber answer) (w .number), rw (w .leaves) at (b .done)))
   begins-by s c b (ticking shorts w) = absurd (true≢false (ap isTick (rw (w .read) at (b .order))))
   begins-by s c b (other f t w) =
-      rw (w .leaves) (act-begins (b .sender) f (w .fits) (rw (w .read) at (b .order)) s (b .eight) (rw (w .leaves) at (b .done)))
+      rw (w .leaves) (act-begins (b .sender) f (greetingText (c .input)) (w .fits) (rw (w .read) at (b .order)) s (b .eight) (rw (w .leaves) at (b .done)))
 
   pub begins : (s : State) (c : Call) → Begins which minutes s c → Begun which minutes (called s c .result .state)
   begins s c b = begins-by s c b (comes s c)

@@ -74,7 +74,7 @@ left-in-all (c ∷ cs) s = omega (arith, left-in-all cs (called s c .result .sta
 -- outside DEPLOY_WAIT every history stays outside
 pub stays-over : (s : State) (cs : List Call) → inDeployWait s ≡ false → inDeployWait (after s cs) ≡ false
 stays-over s cs h =
-    after-keeps (λ t. inDeployWait t ≡ false) (λ shorts t v e. ticked-flies shorts t e) (λ f fits i t v e. rw (watch-still f fits i t) e) cs s h
+    after-keeps (λ t. inDeployWait t ≡ false) (λ shorts t v e. ticked-flies shorts t e) (λ f text fits i t v e. rw (watch-still f text fits i t) e) cs s h
 
 pub stays-deployed : (s : State) (cs : List Call) → T (deployed s) → T (deployed (after s cs))
 stays-deployed s cs out = rw (stays-over s cs (not-true (inDeployWait s) (is-true (deployed s) out))) tt

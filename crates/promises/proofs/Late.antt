@@ -9,6 +9,7 @@ use lib.Dec.{T, eqb}
 use borrow.Author.Tests.{eqb-true, ne-eqb}
 use Rattle.basics.specs.Choice.{if_then_else_, within}
 use Rattle.basics.proofs.ChoiceLaws.{is-true, within-low, within-high}
+use Rattle.frames.specs.Greeting.{greetingText}
 use Rattle.frames.specs.Answer.{answerNumber}
 use Rattle.frames.specs.Serial.{serialCount, staleFrom, distance, classOf, lastOf}
 use Rattle.frames.specs.About.{serialFrom, about}
@@ -55,7 +56,7 @@ module _ (origin : Origin) where
   -- a tick is no command of any origin
   tick-view : (shorts : ℕ) (s : State) → View origin (frame.Tick shorts) s (ticked shorts s)
   unfolding actOf
-  tick-view shorts s = view origin (frame.Tick shorts) s (ticked shorts s) (act-answers (frame.Tick shorts) s)
+  tick-view shorts s = view origin (frame.Tick shorts) s (ticked shorts s) (act-answers (frame.Tick shorts) [] s)
 
   -- where an origin's last serial stands after a call, modulo 65,536
   abbrev Strides : State → Call → Type 0
@@ -80,7 +81,9 @@ module _ (origin : Origin) where
   strides : (s : State) (c : Call) → Comes s c → Strides s c
   strides s c (stopped answer w) = rw (w .leaves, not-taken (answerNumber answer) (w .number), no-stride (serialFrom origin (aboutOf c)) (lastOf origin (s .serials))) (omega arith)
   strides s c (ticking shorts w) = view-strides (frame.Tick shorts) s c (ticked shorts s) w (tick-view shorts s)
-  strides s c (other f e w) = view-strides f s c (actOf f s) w (view origin f s (actOf f s) (act-answers f s))
+  strides s c (other f e w) =
+      let acted = actOf f (greetingText (c .input)) s in
+      view-strides f s c acted w (view origin f s acted (act-answers f (greetingText (c .input)) s))
 
   -- after many calls
   after-strides : (cs : List Call) (s : State) → lastOf origin (after s cs .serials) % serialCount ≡ (lastOf origin (s .serials) + movedOn origin s cs) % serialCount
@@ -109,7 +112,9 @@ module _ (origin : Origin) where
       T (inRange s) × (lastOf origin (called s c .result .state .serials) ≡ serial)
   taken-last s c serial b t (stopped answer w) = absurd (rw (not-taken (answerNumber answer) (w .number)) at (rw (w .leaves) at t))
   taken-last s c serial b t (ticking shorts w) = (w .valid, view-last (frame.Tick shorts) s c (ticked shorts s) serial b t w (tick-view shorts s))
-  taken-last s c serial b t (other f e w) = (w .valid, view-last f s c (actOf f s) serial b t w (view origin f s (actOf f s) (act-answers f s)))
+  taken-last s c serial b t (other f e w) =
+      let acted = actOf f (greetingText (c .input)) s in
+      (w .valid, view-last f s c acted serial b t w (view origin f s acted (act-answers f (greetingText (c .input)) s)))
 
 -- the verdict is not "neither": 8 or 9
 eight-or-nine : (n : ℕ) (r q : Bool) → eqb n 8 ≡ r → eqb n 9 ≡ q → ((if r then Repeat else if q then Stale else Fresh) ≡ Fresh → ⊥) → T (within 8 9 n)

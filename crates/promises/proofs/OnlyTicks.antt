@@ -1,7 +1,7 @@
 -- Only ticks, proved.
 -- Assumes nothing.
 use Prim.Native.Nat.{ℕ, _*_}
-use mathlib.Core.Path.{_≡_, refl, sym, _∙_}
+use mathlib.Core.Path.{_≡_, refl, sym, ap, _∙_}
 use mathlib.Core.Bool.{Bool, true, false, _&&_, true≢false}
 use mathlib.Core.List.{List}
 use lib.Dec.{T}
@@ -10,11 +10,12 @@ use Rattle.basics.proofs.ChoiceLaws.{either}
 use Rattle.modules.specs.declared.ends.Ends.{Ends}
 use Rattle.modules.specs.declared.power.Module.{Module}
 use Rattle.frames.specs.Answer.{answerNumber}
-use Rattle.frames.specs.About.{about, isTick}
+use Rattle.frames.specs.Greeting.{greetingText}
+use Rattle.frames.specs.About.{About, about, isTick}
 use Rattle.frames.specs.declared.answer.Answer.the-variants.{NotNow}
 use Rattle.frames.specs.declared.sender.Sender.{Sender}
 use Rattle.frames.specs.declared.command.Command.{Command}
-use Rattle.frames.specs.declared.command.Command.the-variants.{Order, Timed, Thresholds}
+use Rattle.frames.specs.declared.command.Command.the-variants.{Order, Timed, Thresholds, Greeting}
 use Rattle.frames.specs.declared.frame.Frame.{Frame}
 use Rattle.frames.specs.declared.reading.Reading.the-variants.{Accepted}
 use Rattle.frames.specs.declared.frame.Frame.the-variants as frame
@@ -27,7 +28,7 @@ use Rattle.supervisor.specs.Ending.{ended}
 use Rattle.supervisor.specs.Control.{controlled}
 use Rattle.supervisor.specs.Due.{beaconStage}
 use Rattle.supervisor.specs.Tick.{ticked, beforeModules, moduleStage}
-use Rattle.supervisor.specs.History.{Call, called, isDone, doneTick}
+use Rattle.supervisor.specs.History.{Call, aboutOf, called, answered, isDone, doneTick}
 use Rattle.supervisor.specs.declared.acted.Acted.{Acted}
 use Rattle.supervisor.specs.declared.state.State.{State}
 use Rattle.supervisor.proofs.ActLaws.{act-still, watch-still}
@@ -35,8 +36,8 @@ use Rattle.supervisor.proofs.BeforeModulesLaws.{before-battery}
 use Rattle.supervisor.proofs.CommandLaws.{by-serial}
 use Rattle.supervisor.proofs.ControlLaws.{Controls, level, upward, downward, controls}
 use Rattle.supervisor.proofs.HistoryLaws.{Works, Comes, stopped, ticking, other, comes}
-use Rattle.supervisor.proofs.TickLaws.{Ticks, waits, runs, ticks, ticked-serials}
-use Rattle.promises.specs.OnlyTicks.{OnlyTicks, OthersLeave, TicksLeave, RestLeaves, isOrder, doneOrder, any}
+use Rattle.supervisor.proofs.TickLaws.{Ticks, waits, runs, ticks, ticked-serials, staged-message}
+use Rattle.promises.specs.OnlyTicks.{OnlyTicks, OthersLeave, TicksLeave, RestLeaves, isOrder, any, isGreeting, doneGreeting}
 use Rattle.promises.proofs.EachModule.{asked-power}
 
 -- a call is a done tick, or it is none
@@ -54,11 +55,11 @@ turn s c = turn-by s c (comes s c)
 
 module _ {Part : Type 0} (part : State → Part) where
   -- what every frame other than a tick leaves
-  module _ (frame-leaves : (f : Frame) → Fits f → isTick (about (Accepted f)) ≡ false → (s : State) → part (actOf f s .state) ≡ part s) where
+  module _ (frame-leaves : (f : Frame) (text : List ℕ) → Fits f text → isTick (about (Accepted f)) ≡ false → (s : State) → part (actOf f text s .state) ≡ part s) where
     by-others : (s : State) (c : Call) → doneTick s c ≡ false → Comes s c → part (called s c .result .state) ≡ part s
     by-others s c e (stopped answer w) = rw (w .leaves)
     by-others s c e (ticking shorts w) = absurd (true≢false (sym (w .tick) ∙ e))
-    by-others s c e (other f t w) = rw (w .leaves) (frame-leaves f (w .fits) t s)
+    by-others s c e (other f t w) = rw (w .leaves) (frame-leaves f (greetingText (c .input)) (w .fits) t s)
 
     others-leave : OthersLeave Part part
     others-leave s c e = by-others s c e (comes s c)
@@ -73,8 +74,10 @@ module _ {Part : Type 0} (part : State → Part) where
     ticks-leave s c d = by-ticks s c d (turn s c)
 
 -- a frame other than a tick switches nothing
-pub power-still : (i : ℕ) (f : Frame) → Fits f → isTick (about (Accepted f)) ≡ false → (s : State) → moduleAt i (actOf f s .state) .power ≡ moduleAt i s .power
-power-still i f fits e s =
+pub power-still :
+    (i : ℕ) (f : Frame) (text : List ℕ) → Fits f text → isTick (about (Accepted f)) ≡ false → (s : State) →
+    moduleAt i (actOf f text s .state) .power ≡ moduleAt i s .power
+power-still i f text fits e s =
     act-still (λ t. moduleAt i t .power ≡ moduleAt i s .power)
     (record {
       tension = λ n r t h. h;
@@ -82,8 +85,9 @@ power-still i f fits e s =
       serial = λ o t h. h;
       request = λ which on end short t e h. asked-power t i which on end ∙ h;
       thresholds = λ a d r t h. h;
+      message = λ r n x g t h. h;
     })
-    f fits e s refl
+    f text fits e s refl
 
 -- a tick, in DEPLOY_WAIT or by its stages
 battery-by : (shorts : ℕ) (s : State) → Ticks shorts s → ticked shorts s .state .battery ≡ s .battery
@@ -101,41 +105,99 @@ unfolding beaconStage moduleStage beforeModules ended
 antennas-by shorts s (waits phase e w) = rw w
 antennas-by shorts s (runs e w) = rw w (controlled-antennas (ended s) (controls (ended s)))
 
+message-by : (shorts : ℕ) (s : State) → Ticks shorts s → (ticked shorts s .state .message .length ≡ s .message .length) × (ticked shorts s .state .message .text ≡ s .message .text)
+unfolding beaconStage
+message-by shorts s (waits phase e w) = rw w (refl, refl)
+message-by shorts s (runs e w) = rw w (ap (λ m. m .length) (staged-message shorts s), ap (λ m. m .text) (staged-message shorts s))
+
+-- a frame that passes a test may change a part of the state, if it is done; no other frame but a tick does
+module _ {Part : Type 0} (part : State → Part) (test : About → Bool) where
+  abbrev Leaves : Frame → State → Acted → Type 0
+  Leaves f s a = test (about (Accepted f)) && isDone (answerNumber (a .answer)) ≡ false → part (a .state) ≡ part s
+
+  module _ (act-leaves : (f : Frame) (text : List ℕ) → isTick (about (Accepted f)) ≡ false → (s : State) → Leaves f s (actOf f text s)) where
+    by-rest :
+        (s : State) (c : Call) → doneTick s c ≡ false → test (aboutOf c) && isDone (answered s c) ≡ false → Comes s c →
+        part (called s c .result .state) ≡ part s
+    by-rest s c d o (stopped answer w) = rw (w .leaves)
+    by-rest s c d o (ticking shorts w) = absurd (true≢false (sym (w .tick) ∙ d))
+    by-rest s c d o (other f t w) = rw (w .leaves) (act-leaves f (greetingText (c .input)) t s (rw (w .read, w .leaves) at o))
+
+    rest-leave :
+        (s : State) (c : Call) → doneTick s c ≡ false → test (aboutOf c) && isDone (answered s c) ≡ false → part (called s c .result .state) ≡ part s
+    rest-leave s c d o = by-rest s c d o (comes s c)
+
 -- what hangs on ends and modules alone is left by what is neither a tick nor a done order
 module _ {Part : Type 0} (look : Ends → List Module → Part) where
   abbrev part : State → Part
   part s = look (s .ends) (s .modules)
 
-  abbrev Leaves : Frame → State → Acted → Type 0
-  Leaves f s a = isOrder any (about (Accepted f)) && isDone (answerNumber (a .answer)) ≡ false → part (a .state) ≡ part s
+  abbrev Unordered : Frame → State → Acted → Type 0
+  Unordered = Leaves part (isOrder any)
 
   order-leaves :
       (f : Frame) → isOrder any (about (Accepted f)) ≡ true → (which : ℕ) (on : Bool) (end : ℕ) (s t : State) → part t ≡ part s →
-      Leaves f s (orderTaken which on end t)
+      Unordered f s (orderTaken which on end t)
   order-leaves f order which on end s t same =
-      either (Leaves f s) (isIllTimed which on (t .watch .mode)) {x = silent NotNow t} {y = done (requestSet which on end t)} (λ e. same)
+      either (Unordered f s) (isIllTimed which on (t .watch .mode)) {x = silent NotNow t} {y = done (requestSet which on end t)} (λ e. same)
       (λ e. absurd (true≢false (rw order at e)))
 
-  taken-leaves : (sender : Sender) (command : Command) (s t : State) → part t ≡ part s → Leaves (frame.Command sender command) s (taken command t)
-  taken-leaves sender (Order which on) s t same = order-leaves (frame.Command sender (Order which on)) refl which on 0 s t same
-  taken-leaves sender (Timed which minutes) s t same = order-leaves (frame.Command sender (Timed which minutes)) refl which true (minuteSeconds * minutes) s t same
-  taken-leaves sender (Thresholds ascend descend) s t same = λ e. same
+  taken-leaves :
+      (sender : Sender) (command : Command) (text : List ℕ) (s t : State) → part t ≡ part s →
+      Unordered (frame.Command sender command) s (taken command text t)
+  taken-leaves sender (Order which on) text s t same = order-leaves (frame.Command sender (Order which on)) refl which on 0 s t same
+  taken-leaves sender (Timed which minutes) text s t same = order-leaves (frame.Command sender (Timed which minutes)) refl which true (minuteSeconds * minutes) s t same
+  taken-leaves sender (Thresholds ascend descend) text s t same = λ e. same
+  taken-leaves sender (Greeting repeats length) text s t same = λ e. same
 
-  act-leaves : (f : Frame) → isTick (about (Accepted f)) ≡ false → (s : State) → Leaves f s (actOf f s)
+  act-leaves : (f : Frame) (text : List ℕ) → isTick (about (Accepted f)) ≡ false → (s : State) → Unordered f s (actOf f text s)
   unfolding actOf
-  act-leaves (frame.Tick shorts) t s = absurd (true≢false t)
-  act-leaves (frame.Battery tension) t s = λ e. refl
-  act-leaves (frame.Antennas deployed) t s = λ e. refl
-  act-leaves (frame.Command sender command) t s =
-      by-serial sender command s (λ class. Leaves (frame.Command sender command) s) (λ e. refl) (λ e. refl) (taken-leaves sender command s (serialUsed sender s) refl)
-
-  by-rest : (s : State) (c : Call) → doneTick s c ≡ false → doneOrder any s c ≡ false → Comes s c → part (called s c .result .state) ≡ part s
-  by-rest s c d o (stopped answer w) = rw (w .leaves)
-  by-rest s c d o (ticking shorts w) = absurd (true≢false (sym (w .tick) ∙ d))
-  by-rest s c d o (other f t w) = rw (w .leaves) (act-leaves f t s (rw (w .read, w .leaves) at o))
+  act-leaves (frame.Tick shorts) text t s = absurd (true≢false t)
+  act-leaves (frame.Battery tension) text t s = λ e. refl
+  act-leaves (frame.Antennas deployed) text t s = λ e. refl
+  act-leaves (frame.Command sender command) text t s =
+      by-serial sender command text s (λ class. Unordered (frame.Command sender command) s) (λ e. refl) (λ e. refl)
+      (taken-leaves sender command text s (serialUsed sender s) refl)
 
   rest-leaves : RestLeaves Part part
-  rest-leaves s c d o = by-rest s c d o (comes s c)
+  rest-leaves = rest-leave part (isOrder any) act-leaves
+
+-- the message is left by what is neither a tick nor a done greeting
+abbrev Ungreeted : Frame → State → Acted → Type 0
+Ungreeted = Leaves (λ s. s .message) isGreeting
+
+order-ungreeted :
+    (f : Frame) (which : ℕ) (on : Bool) (end : ℕ) (s t : State) → t .message ≡ s .message → Ungreeted f s (orderTaken which on end t)
+unfolding requestSet
+order-ungreeted f which on end s t same =
+    either (Ungreeted f s) (isIllTimed which on (t .watch .mode)) {x = silent NotNow t} {y = done (requestSet which on end t)} (λ e. same) (λ e. same)
+
+taken-ungreeted :
+    (sender : Sender) (command : Command) (text : List ℕ) (s t : State) → t .message ≡ s .message →
+    Ungreeted (frame.Command sender command) s (taken command text t)
+taken-ungreeted sender (Order which on) text s t same = order-ungreeted (frame.Command sender (Order which on)) which on 0 s t same
+taken-ungreeted sender (Timed which minutes) text s t same =
+    order-ungreeted (frame.Command sender (Timed which minutes)) which true (minuteSeconds * minutes) s t same
+taken-ungreeted sender (Thresholds ascend descend) text s t same = λ e. same
+taken-ungreeted sender (Greeting repeats length) text s t same = λ e. absurd (true≢false e)
+
+act-ungreeted : (f : Frame) (text : List ℕ) → isTick (about (Accepted f)) ≡ false → (s : State) → Ungreeted f s (actOf f text s)
+unfolding actOf
+act-ungreeted (frame.Tick shorts) text t s = absurd (true≢false t)
+act-ungreeted (frame.Battery tension) text t s = λ e. refl
+act-ungreeted (frame.Antennas deployed) text t s = λ e. refl
+act-ungreeted (frame.Command sender command) text t s =
+    by-serial sender command text s (λ class. Ungreeted (frame.Command sender command) s) (λ e. refl) (λ e. refl)
+    (taken-ungreeted sender command text s (serialUsed sender s) refl)
+
+pub message-leaves : (s : State) (c : Call) → doneTick s c ≡ false → doneGreeting s c ≡ false → called s c .result .state .message ≡ s .message
+message-leaves = rest-leave (λ s. s .message) isGreeting act-ungreeted
+
+text-leaves :
+    (s : State) (c : Call) → doneGreeting s c ≡ false → Turn s c →
+    (called s c .result .state .message .length ≡ s .message .length) × (called s c .result .state .message .text ≡ s .message .text)
+text-leaves s c g (moves shorts w) = rw (w .leaves) (message-by shorts s (ticks shorts s))
+text-leaves s c g (still e) = (ap (λ m. m .length) (message-leaves s c e g), ap (λ m. m .text) (message-leaves s c e g))
 
 pub only-ticks : OnlyTicks
 only-ticks =
@@ -147,4 +209,7 @@ only-ticks =
       antennas = ticks-leave (λ s. s .antennas) (λ shorts s. antennas-by shorts s (ticks shorts s));
       requested = λ i. rest-leaves (λ ends modules. getD modules i offModule .requested);
       ends = rest-leaves (λ ends modules. ends);
+      length = λ s c g. text-leaves s c g (turn s c) .0;
+      text = λ s c g. text-leaves s c g (turn s c) .1;
+      repeats = λ s c d g. ap (λ m. m .repeats) (message-leaves s c d g);
     }

@@ -2,6 +2,7 @@
 -- Assumes nothing.
 use Prim.Native.Nat.{ℕ, _*_}
 use native.Mathlib.Omega.{arith}
+use mathlib.Core.List.{List}
 use mathlib.Core.Path.{_≡_, refl}
 use mathlib.Core.Bool.{Bool, true, false, not, _&&_, true≢false, false≢true}
 use lib.Dec.{T}
@@ -9,12 +10,13 @@ use borrow.Author.Tests.{eq-eqb, lt-ltb}
 use Rattle.basics.specs.Choice.{within}
 use Rattle.basics.proofs.ChoiceLaws.{decided, within-low, within-high, within-of}
 use Rattle.modules.specs.Groups.{isMission}
+use Rattle.frames.specs.Greeting.{greetingText}
 use Rattle.frames.specs.Answer.{answerNumber}
 use Rattle.frames.specs.About.{about, isTick}
 use Rattle.frames.specs.Reading.{mostMinutes}
 use Rattle.frames.specs.declared.answer.Answer.the-variants.{NotNow}
 use Rattle.frames.specs.declared.command.Command.{Command}
-use Rattle.frames.specs.declared.command.Command.the-variants.{Order, Timed, Thresholds}
+use Rattle.frames.specs.declared.command.Command.the-variants.{Order, Timed, Thresholds, Greeting}
 use Rattle.frames.specs.declared.frame.Frame.{Frame}
 use Rattle.frames.specs.declared.reading.Reading.the-variants.{Accepted}
 use Rattle.frames.specs.declared.sender.Sender.{Sender}
@@ -70,25 +72,30 @@ module _ (sender : Sender) (command : Command) (which : ℕ) (on : Bool) (end : 
       (λ e. record { silent = refl; old = λ t. absurd t; ten = λ z. refl; ill = λ z. ill-order on (isMission which) (isSafe (s .watch .mode)) refl refl refl e })
       (λ e. record { silent = refl; old = λ t. absurd t; ten = not-ten 0 tt; ill = not-ten 0 tt })
 
-taken-turns : (sender : Sender) (command : Command) → FitsCommand sender command → (s : State) → Turns sender command s (taken command (serialUsed sender s))
-taken-turns sender (Order which on) fits s = order-turns sender (Order which on) which on 0 (λ e. rw (eq-eqb which which refl) e) s
-taken-turns sender (Timed which minutes) fits s =
+taken-turns :
+    (sender : Sender) (command : Command) (text : List ℕ) → FitsCommand sender command text → (s : State) →
+    Turns sender command s (taken command text (serialUsed sender s))
+taken-turns sender (Order which on) text fits s = order-turns sender (Order which on) which on 0 (λ e. rw (eq-eqb which which refl) e) s
+taken-turns sender (Timed which minutes) text fits s =
     order-turns sender (Timed which minutes) which true (minuteSeconds * minutes)
     (λ e. rw (eq-eqb which which refl) (lt-ltb 0 (60 * minutes) (omega (arith, within-low 1 mostMinutes minutes (fits .minutes))))) s
-taken-turns sender (Thresholds ascend descend) fits s = record { silent = refl; old = λ t. absurd t; ten = not-ten 0 tt; ill = not-ten 0 tt }
+taken-turns sender (Thresholds ascend descend) text fits s = record { silent = refl; old = λ t. absurd t; ten = not-ten 0 tt; ill = not-ten 0 tt }
+taken-turns sender (Greeting repeats length) text fits s = record { silent = refl; old = λ t. absurd t; ten = not-ten 0 tt; ill = not-ten 0 tt }
 
-command-turns : (sender : Sender) (command : Command) → FitsCommand sender command → (s : State) → Turns sender command s (bySerial sender command s)
-command-turns sender command fits s =
-    by-serial sender command s (λ class. Turns sender command s)
+command-turns :
+    (sender : Sender) (command : Command) (text : List ℕ) → FitsCommand sender command text → (s : State) →
+    Turns sender command s (bySerial sender command text s)
+command-turns sender command text fits s =
+    by-serial sender command text s (λ class. Turns sender command s)
     (record { silent = refl; old = λ t. refl; ten = not-ten 8 tt; ill = not-ten 8 tt })
-    (record { silent = refl; old = λ t. refl; ten = not-ten 9 tt; ill = not-ten 9 tt }) (taken-turns sender command fits s)
+    (record { silent = refl; old = λ t. refl; ten = not-ten 9 tt; ill = not-ten 9 tt }) (taken-turns sender command text fits s)
 
 -- what is answered 8, 9 or 10 is a command
 abbrev Commanded : State → Call → Type 0
-Commanded s c = record { sender : Sender; command : Command; works : Works s c (frame.Command sender command) (bySerial sender command s) }
+Commanded s c = record { sender : Sender; command : Command; works : Works s c (frame.Command sender command) (bySerial sender command (greetingText (c .input)) s) }
 
 module _ (s : State) (c : Call) where
-  by-frame : (f : Frame) → isTick (about (Accepted f)) ≡ false → Works s c f (actOf f s) → T (within 8 10 (answered s c)) → Commanded s c
+  by-frame : (f : Frame) → isTick (about (Accepted f)) ≡ false → Works s c f (actOf f (greetingText (c .input)) s) → T (within 8 10 (answered s c)) → Commanded s c
   unfolding actOf
   by-frame (frame.Tick shorts) e w h = absurd (true≢false e)
   by-frame (frame.Battery tension) e w h = absurd (rw (w .leaves) at h)
@@ -103,14 +110,14 @@ module _ (s : State) (c : Call) where
   untouched : Comes s c → T (within 1 7 (answered s c)) → Untouched s c
   untouched (stopped answer w) h = record { state = rw (w .leaves); room = rw (w .leaves) }
   untouched (ticking shorts w) h = absurd (rw (w .leaves, ticked-done shorts s) at h)
-  untouched (other f e w) h = absurd (rw (unrefused f s (actOf f s) (act-answers f s)) at (rw (w .leaves) at h))
+  untouched (other f e w) h = absurd (rw (unrefused f s (actOf f (greetingText (c .input)) s) (act-answers f (greetingText (c .input)) s)) at (rw (w .leaves) at h))
 
   module _ (k : Commanded s c) where
     old : T (within 8 9 (answered s c)) → TurnedDown nothing s c
     unfolding reportOf
     old h =
-        let t = command-turns (k .sender) (k .command) (k .works .fits) s in
-        let same : bySerial (k .sender) (k .command) s .state ≡ s = t .old (rw (k .works .leaves) at h) in
+        let t = command-turns (k .sender) (k .command) (greetingText (c .input)) (k .works .fits) s in
+        let same : bySerial (k .sender) (k .command) (greetingText (c .input)) s .state ≡ s = t .old (rw (k .works .leaves) at h) in
         record {
           sender = k .sender;
           command = k .command;
@@ -122,8 +129,8 @@ module _ (s : State) (c : Call) where
     ten : answered s c ≡ 10 → TurnedDown serialUsed s c
     unfolding reportOf
     ten h =
-        let t = command-turns (k .sender) (k .command) (k .works .fits) s in
-        let moved : bySerial (k .sender) (k .command) s .state ≡ serialUsed (k .sender) s = t .ten (rw (k .works .leaves) at h) in
+        let t = command-turns (k .sender) (k .command) (greetingText (c .input)) (k .works .fits) s in
+        let moved : bySerial (k .sender) (k .command) (greetingText (c .input)) s .state ≡ serialUsed (k .sender) s = t .ten (rw (k .works .leaves) at h) in
         record {
           sender = k .sender;
           command = k .command;
@@ -134,7 +141,7 @@ module _ (s : State) (c : Call) where
 
     ill-timed : answered s c ≡ 10 → IllTimed outsideSafe s c
     ill-timed h =
-        let i = command-turns (k .sender) (k .command) (k .works .fits) s .ill (rw (k .works .leaves) at h) in
+        let i = command-turns (k .sender) (k .command) (greetingText (c .input)) (k .works .fits) s .ill (rw (k .works .leaves) at h) in
         record { which = i .which; mission = i .mission; on = rw (k .works .read) (i .on); mode = i .mode }
 
   old-answer : T (within 8 9 (answered s c)) → T (within 8 10 (answered s c))

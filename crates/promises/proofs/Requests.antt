@@ -2,6 +2,7 @@
 -- Assumes nothing.
 use Prim.Native.Nat.{ℕ, _-_, _*_, _<_}
 use native.Mathlib.Omega.{arith}
+use mathlib.Core.List.{List}
 use mathlib.Core.Path.{_≡_, refl, sym, ap, _∙_}
 use mathlib.Core.Bool.{Bool, true, false, true≢false}
 use lib.Dec.{eqb}
@@ -11,6 +12,7 @@ use Rattle.basics.proofs.ChoiceLaws.{is-true, either, within-low}
 use Rattle.modules.specs.Groups.{coreFour, missionFour, isMission, moduleCount}
 use Rattle.modules.specs.Ends.{noEnds}
 use Rattle.modules.proofs.EndsLaws.{core-none, none-at}
+use Rattle.frames.specs.Greeting.{greetingText}
 use Rattle.frames.specs.Answer.{answerNumber}
 use Rattle.frames.specs.About.{isTick, about}
 use Rattle.frames.specs.Reading.{mostMinutes}
@@ -19,7 +21,7 @@ use Rattle.frames.specs.declared.frame.Frame.{Frame}
 use Rattle.frames.specs.declared.reading.Reading.the-variants.{Accepted}
 use Rattle.frames.specs.declared.sender.Sender.{Sender}
 use Rattle.frames.specs.declared.command.Command.{Command}
-use Rattle.frames.specs.declared.command.Command.the-variants.{Order, Timed, Thresholds}
+use Rattle.frames.specs.declared.command.Command.the-variants.{Order, Timed, Thresholds, Greeting}
 use Rattle.frames.specs.declared.frame.Frame.the-variants as frame
 use Rattle.frames.proofs.ReadingLaws.{Fits, FitsCommand}
 use Rattle.supervisor.specs.State.{withControl, withEnds, moduleAt, endAt}
@@ -86,27 +88,30 @@ module _ (i : ℕ) (low : i < moduleCount) where
 
   -- a command that is taken
   taken-told :
-      (sender : Sender) (command : Command) → FitsCommand sender command → (word : Word) (t : State) → Eight t → Held i t word →
-      Told (frame.Command sender command) word (taken command t)
-  taken-told sender (Order which on) fits word t n h =
+      (sender : Sender) (command : Command) (text : List ℕ) → FitsCommand sender command text → (word : Word) (t : State) → Eight t → Held i t word →
+      Told (frame.Command sender command) word (taken command text t)
+  taken-told sender (Order which on) text fits word t n h =
       either (Told (frame.Command sender (Order which on)) word) (isIllTimed which on (t .watch .mode))
       {x = silent NotNow t} {y = done (requestSet which on 0 t)} h
       (order-held which on 0 (plain on) word refl refl (λ core. refl) t n h (eqb i which) refl)
-  taken-told sender (Timed which minutes) fits word t n h =
+  taken-told sender (Timed which minutes) text fits word t n h =
       let end : ℕ = 60 * minutes in
       either (Told (frame.Command sender (Timed which minutes)) word) (isIllTimed which true (t .watch .mode))
       {x = silent NotNow t} {y = done (requestSet which true end t)} h
       (order-held which true end (timed minutes 0) word (lt-ltb 0 end (omega (arith, within-low 1 mostMinutes minutes (fits .minutes)))) (omega arith)
       (λ core. absurd (true≢false (sym (is-true (isMission which) (fits .mission)) ∙ core))) t n h (eqb i which) refl)
-  taken-told sender (Thresholds ascend descend) fits word t n h = h
+  taken-told sender (Thresholds ascend descend) text fits word t n h = h
+  taken-told sender (Greeting repeats length) text fits word t n h = h
 
-  act-told : (f : Frame) → Fits f → isTick (about (Accepted f)) ≡ false → (word : Word) (s : State) → Eight s → Held i s word → Told f word (actOf f s)
+  act-told :
+      (f : Frame) (text : List ℕ) → Fits f text → isTick (about (Accepted f)) ≡ false → (word : Word) (s : State) → Eight s → Held i s word →
+      Told f word (actOf f text s)
   unfolding actOf
-  act-told (frame.Tick shorts) fits e word s n h = absurd (true≢false e)
-  act-told (frame.Battery tension) fits e word s n h = h
-  act-told (frame.Antennas deployed) fits e word s n h = h
-  act-told (frame.Command sender command) fits e word s n h =
-      by-serial sender command s (λ class. Told (frame.Command sender command) word) h h (taken-told sender command fits word (serialUsed sender s) n h)
+  act-told (frame.Tick shorts) text fits e word s n h = absurd (true≢false e)
+  act-told (frame.Battery tension) text fits e word s n h = h
+  act-told (frame.Antennas deployed) text fits e word s n h = h
+  act-told (frame.Command sender command) text fits e word s n h =
+      by-serial sender command text s (λ class. Told (frame.Command sender command) word) h h (taken-told sender command text fits word (serialUsed sender s) n h)
 
   -- a tick: a second of the word, and what a crossing says
   ended-held : (word : Word) (s : State) → Eight s → Held i s word → Held i (ended s) (aged word)
@@ -166,9 +171,9 @@ module _ (i : ℕ) (low : i < moduleCount) where
         rw (w .tick, w .leaves, ne-eqb (answerNumber answer) 0 nonzero, no-crossing (isMission i) (s .watch .mode) word) held
     by-comes c (ticking shorts w) = rw (w .tick, w .leaves, w .read, ticked-done shorts s) (tick-held shorts (ticks shorts s))
     by-comes c (other f t w) =
-        rw (w .tick, t, w .leaves, w .read, watch-still f (w .fits) t s)
-        (rw (no-crossing (isMission i) (s .watch .mode) (if isDone (answerNumber (actOf f s .answer)) then orders i (about (Accepted f)) word else word))
-        (act-told f (w .fits) t word s eight held))
+        rw (w .tick, t, w .leaves, w .read, watch-still f (greetingText (c .input)) (w .fits) t s)
+        (rw (no-crossing (isMission i) (s .watch .mode) (if isDone (answerNumber (actOf f (greetingText (c .input)) s .answer)) then orders i (about (Accepted f)) word else word))
+        (act-told f (greetingText (c .input)) (w .fits) t word s eight held))
 
     -- what a call says is held after it
     pub called-held : (c : Call) → Held i (called s c .result .state) (said crossing i s c word)

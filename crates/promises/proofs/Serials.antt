@@ -6,6 +6,7 @@ use mathlib.Core.Path.{_≡_, refl, sym, ap, _∙_}
 use mathlib.Core.List.{List, [], _∷_, _++_}
 use mathlib.Core.Logic.{⊎-elim}
 use lib.Dec.{T}
+use Rattle.frames.specs.Greeting.{greetingText}
 use Rattle.frames.specs.Answer.{answerNumber}
 use Rattle.frames.specs.Serial.{classOf, lastOf}
 use Rattle.frames.specs.About.{serialFrom, about}
@@ -67,21 +68,21 @@ module _ (origin : Origin) where
 
   -- one call, with room
   read-last :
-      (r : Reading) (s : State) (room : List ℕ) →
-      lastOf origin (stepRead r s room .result .state .serials) ≡ lastAfter (lastOf origin (s .serials)) (serialFrom origin (about r))
-  read-last (Refused answer) s room = refl
-  read-last (Accepted f) s room = view-last f s (actOf f s) (view origin f s (actOf f s) (act-answers f s))
+      (text : List ℕ) (r : Reading) (s : State) (room : List ℕ) →
+      lastOf origin (stepRead r text s room .result .state .serials) ≡ lastAfter (lastOf origin (s .serials)) (serialFrom origin (about r))
+  read-last text (Refused answer) s room = refl
+  read-last text (Accepted f) s room = view-last f s (actOf f text s) (view origin f s (actOf f text s) (act-answers f text s))
 
   read-tells :
-      (serial : ℕ) (r : Reading) (s : State) (room : List ℕ) → serialFrom origin (about r) ≡ serial ∷ [] →
-      Tells (answerNumber (stepRead r s room .result .answer)) (classOf serial (lastOf origin (s .serials)))
-  read-tells serial (Refused answer) s room h = let z : _≡_ {A = ℕ} 0 1 = cc in absurd (omega arith)
-  read-tells serial (Accepted f) s room h = view-tells serial f s (actOf f s) (view origin f s (actOf f s) (act-answers f s)) h
+      (text : List ℕ) (serial : ℕ) (r : Reading) (s : State) (room : List ℕ) → serialFrom origin (about r) ≡ serial ∷ [] →
+      Tells (answerNumber (stepRead r text s room .result .answer)) (classOf serial (lastOf origin (s .serials)))
+  read-tells text serial (Refused answer) s room h = let z : _≡_ {A = ℕ} 0 1 = cc in absurd (omega arith)
+  read-tells text serial (Accepted f) s room h = view-tells serial f s (actOf f text s) (view origin f s (actOf f text s) (act-answers f text s)) h
 
   pub call-tells :
       (serial : ℕ) (c : Call) → HasRoom c → serialFrom origin (aboutOf c) ≡ serial ∷ [] → (s : State) → T (inRange s) →
       Tells (answered s c) (classOf serial (lastOf origin (s .serials)))
-  call-tells serial c room b s v = rw (called-read s c v room) (read-tells serial (readFrame (c .input)) s (c .room) b)
+  call-tells serial c room b s v = rw (called-read s c v room) (read-tells (greetingText (c .input)) serial (readFrame (c .input)) s (c .room) b)
 
   -- many calls
   after-last :
@@ -90,7 +91,7 @@ module _ (origin : Origin) where
   after-last [] r s v = refl
   after-last (c ∷ cs) r s v =
       after-last cs (r .1) (called s c .result .state) (called-in-range s c v)
-      ∙ ap (λ (n : ℕ). lastAfter n (serialsOf origin cs)) (rw (called-read s c v (r .0)) (read-last (readFrame (c .input)) s (c .room)))
+      ∙ ap (λ (n : ℕ). lastAfter n (serialsOf origin cs)) (rw (called-read s c v (r .0)) (read-last (greetingText (c .input)) (readFrame (c .input)) s (c .room)))
       ∙ sym (lastAfter-append (lastOf origin (s .serials)) (serialFrom origin (aboutOf c)) (serialsOf origin cs))
 
   -- the answer, by the frame's serial and those of the origin's earlier frames

@@ -13,6 +13,7 @@ use Rattle.basics.proofs.TablesLaws.{upto}
 use Rattle.modules.specs.Groups.{isMission, moduleCount}
 use Rattle.modules.specs.Power.{isOn}
 use Rattle.modules.specs.Stage.{requestedBy}
+use Rattle.frames.specs.Greeting.{greetingText}
 use Rattle.frames.specs.Reading.{readFrame}
 use Rattle.frames.specs.About.{about}
 use Rattle.frames.specs.declared.reading.Reading.{Reading}
@@ -36,32 +37,35 @@ use Rattle.promises.proofs.TwoPower.{isSturdy, Bright, oneMore, lit-lat
 
 module _ (i : ℕ) (mission : isMission i ≡ true) where
   -- one reading, the same on both
-  reading-beside : (r : Reading) → Sound r → (room room′ : List ℕ) (a b : State) → Beside i a b → Beside i (stepRead r a room .result .state) (stepRead r b room′ .result .state)
-  reading-beside (Refused answer) sound room room′ a b h = h
-  reading-beside (Accepted f) sound room room′ a b h = act-beside i mission f sound a b h
+  reading-beside :
+      (text : List ℕ) (r : Reading) → Sound text r → (room room′ : List ℕ) (a b : State) → Beside i a b →
+      Beside i (stepRead r text a room .result .state) (stepRead r text b room′ .result .state)
+  reading-beside text (Refused answer) sound room room′ a b h = h
+  reading-beside text (Accepted f) sound room room′ a b h = act-beside i mission f text sound a b h
 
   module _ (n : ℕ) where
     reading-lit :
-        (r : Reading) → Sound r → n + oneMore (shorted i (about r)) ≤ shortsBorne → (room room′ : List ℕ) (a b : State) → Beside i a b → Bright i mission n a b →
-        Bright i mission (n + oneMore (shorted i (about r))) (stepRead r a room .result .state) (stepRead r b room′ .result .state)
-    reading-lit (Refused answer) sound few room room′ a b h l = lit-later n (n + 0) (omega arith) (moduleAt i a .power) (moduleAt i b .power) l
-    reading-lit (Accepted f) sound few room room′ a b h l = act-lit i mission n f sound few a b h l
+        (text : List ℕ) (r : Reading) → Sound text r → n + oneMore (shorted i (about r)) ≤ shortsBorne → (room room′ : List ℕ) (a b : State) → Beside i a b →
+        Bright i mission n a b →
+        Bright i mission (n + oneMore (shorted i (about r))) (stepRead r text a room .result .state) (stepRead r text b room′ .result .state)
+    reading-lit text (Refused answer) sound few room room′ a b h l = lit-later n (n + 0) (omega arith) (moduleAt i a .power) (moduleAt i b .power) l
+    reading-lit text (Accepted f) sound few room room′ a b h l = act-lit i mission n f text sound few a b h l
 
   -- two inputs, as good on the second
   good-beside :
       {x y : List ℕ} → AsGood inReach x y → (room room′ : List ℕ) (a b : State) → Beside i a b →
-      Beside i (stepRead (readFrame x) a room .result .state) (stepRead (readFrame y) b room′ .result .state)
+      Beside i (stepRead (readFrame x) (greetingText x) a room .result .state) (stepRead (readFrame y) (greetingText y) b room′ .result .state)
   unfolding actOf
-  good-beside (same {bytes = x}) room room′ a b h = reading-beside (readFrame x) (read-sound x) room room′ a b h
+  good-beside (same {bytes = x}) room room′ a b h = reading-beside (greetingText x) (readFrame x) (read-sound x) room room′ a b h
   good-beside (higher high low high′ low′ r r′ more) room room′ a b h =
       rw (battery-read high low r, battery-read high′ low′ r′) (tension-beside i mission (word high low) (word high′ low′) more a b h)
 
   good-lit :
       (n : ℕ) {x y : List ℕ} → AsGood inReach x y → n + oneMore (shorted i (about (readFrame x))) ≤ shortsBorne → (room room′ : List ℕ) (a b : State) → Beside i a b →
       Bright i mission n a b →
-      Bright i mission (n + oneMore (shorted i (about (readFrame x)))) (stepRead (readFrame x) a room .result .state) (stepRead (readFrame y) b room′ .result .state)
+      Bright i mission (n + oneMore (shorted i (about (readFrame x)))) (stepRead (readFrame x) (greetingText x) a room .result .state) (stepRead (readFrame y) (greetingText y) b room′ .result .state)
   unfolding actOf
-  good-lit n (same {bytes = x}) few room room′ a b h l = reading-lit n (readFrame x) (read-sound x) few room room′ a b h l
+  good-lit n (same {bytes = x}) few room room′ a b h l = reading-lit n (greetingText x) (readFrame x) (read-sound x) few room room′ a b h l
   good-lit n (higher high low high′ low′ r r′ more) few room room′ a b h l =
       rw (battery-read high low r, battery-read high′ low′ r′) (lit-later n (n + 0) (omega arith) (moduleAt i a .power) (moduleAt i b .power) l)
 

@@ -2,6 +2,7 @@
 -- Assumes nothing.
 use Prim.Native.Nat.{ℕ, _*_, _≤_}
 use native.Mathlib.Nat.{le-refl}
+use mathlib.Core.List.{List}
 use mathlib.Core.Path.{_≡_, refl, sym, ap, _∙_}
 use mathlib.Core.Bool.{Bool, true, false, not, _&&_, true≢false, false≢true}
 use lib.Dec.{T, eqb, leb, leb→le}
@@ -15,7 +16,7 @@ use Rattle.frames.specs.declared.answer.Answer.the-variants.{NotNow}
 use Rattle.frames.specs.declared.frame.Frame.{Frame}
 use Rattle.frames.specs.declared.sender.Sender.{Sender}
 use Rattle.frames.specs.declared.command.Command.{Command}
-use Rattle.frames.specs.declared.command.Command.the-variants.{Order, Timed, Thresholds}
+use Rattle.frames.specs.declared.command.Command.the-variants.{Order, Timed, Thresholds, Greeting}
 use Rattle.frames.specs.declared.frame.Frame.the-variants as frame
 use Rattle.frames.proofs.ReadingLaws.{Fits, FitsCommand}
 use Rattle.supervisor.specs.State.{withTension, isSafe, moduleAt, endAt}
@@ -145,21 +146,22 @@ module _ (i : ℕ) (mission : isMission i ≡ true) where
 
   -- a command that is taken on both
   taken-beside :
-      (sender : Sender) (command : Command) → FitsCommand sender command → (a b : State) → Beside i a b →
-      Beside i (taken command a .state) (taken command b .state)
-  taken-beside sender (Order which on) fits a b h = order-beside which on 0 a b h
-  taken-beside sender (Timed which minutes) fits a b h = order-beside which true (minuteSeconds * minutes) a b h
-  taken-beside sender (Thresholds ascend descend) fits a b h =
+      (sender : Sender) (command : Command) (text : List ℕ) → FitsCommand sender command text → (a b : State) → Beside i a b →
+      Beside i (taken command text a .state) (taken command text b .state)
+  taken-beside sender (Order which on) text fits a b h = order-beside which on 0 a b h
+  taken-beside sender (Timed which minutes) text fits a b h = order-beside which true (minuteSeconds * minutes) a b h
+  taken-beside sender (Greeting repeats length) text fits a b h = record { flown = h .flown; shared = h .shared }
+  taken-beside sender (Thresholds ascend descend) text fits a b h =
       thresholds-beside ascend descend (leb→le descend ascend (and-right (isReading ascend && isReading descend) (leb descend ascend) (fits .fair))) a b h
 
   -- a serial has the same class on both
   serial-beside :
-      (sender : Sender) (command : Command) → FitsCommand sender command → (a b : State) → Beside i a b →
-      Beside i (bySerial sender command a .state) (bySerial sender command b .state)
-  serial-beside sender command fits a b h =
-      by-serials sender command a b (λ class x y. Beside i (x .state) (y .state))
+      (sender : Sender) (command : Command) (text : List ℕ) → FitsCommand sender command text → (a b : State) → Beside i a b →
+      Beside i (bySerial sender command text a .state) (bySerial sender command text b .state)
+  serial-beside sender command text fits a b h =
+      by-serials sender command text a b (λ class x y. Beside i (x .state) (y .state))
       (ap (λ s. classOf (sender .serial) (lastOf (sender .origin) s)) (h .shared .serials)) h h
-      (taken-beside sender command fits (serialUsed sender a) (serialUsed sender b)
+      (taken-beside sender command text fits (serialUsed sender a) (serialUsed sender b)
       (record {
         flown = h .flown;
         shared = record {
@@ -169,10 +171,10 @@ module _ (i : ℕ) (mission : isMission i ≡ true) where
         };
       }))
 
-  pub act-beside : (f : Frame) → Fits f → (a b : State) → Beside i a b → Beside i (actOf f a .state) (actOf f b .state)
+  pub act-beside : (f : Frame) (text : List ℕ) → Fits f text → (a b : State) → Beside i a b → Beside i (actOf f text a .state) (actOf f text b .state)
   unfolding actOf
-  act-beside (frame.Tick shorts) fits a b h = ticked-beside i mission shorts a b h
-  act-beside (frame.Battery tension) fits a b h = tension-beside tension tension (le-refl tension) a b h
-  act-beside (frame.Antennas deployed) fits a b h =
+  act-beside (frame.Tick shorts) text fits a b h = ticked-beside i mission shorts a b h
+  act-beside (frame.Battery tension) text fits a b h = tension-beside tension tension (le-refl tension) a b h
+  act-beside (frame.Antennas deployed) text fits a b h =
       record { flown = h .flown; shared = record { antennas = refl; battery = h .shared .battery; serials = h .shared .serials } }
-  act-beside (frame.Command sender command) fits a b h = serial-beside sender command fits a b h
+  act-beside (frame.Command sender command) text fits a b h = serial-beside sender command text fits a b h

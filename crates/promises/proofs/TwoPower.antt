@@ -2,6 +2,7 @@
 -- Assumes nothing.
 use Prim.Native.Nat.{ℕ, _+_, _-_, _≤_, _<_}
 use native.Mathlib.Omega.{arith}
+use mathlib.Core.List.{List}
 use mathlib.Core.Path.{_≡_, refl}
 use mathlib.Core.Bool.{Bool, true, false, _&&_}
 use lib.Dec.{T, leb, leb→le, le→leb}
@@ -118,15 +119,17 @@ module _ (i : ℕ) (mission : isMission i ≡ true) where
 
   module _ (n : ℕ) where
     -- a frame other than a tick switches nothing
-    still-lit : (f : Frame) → Fits f → isTick (about (Accepted f)) ≡ false → (a b : State) → Bright n a b → Bright (n + 0) (actOf f a .state) (actOf f b .state)
-    still-lit f fits e a b l =
-        rw (power-still i f fits e a, power-still i f fits e b) (lit-later n (n + 0) (omega arith) (moduleAt i a .power) (moduleAt i b .power) l)
+    still-lit :
+        (f : Frame) (text : List ℕ) → Fits f text → isTick (about (Accepted f)) ≡ false → (a b : State) → Bright n a b →
+        Bright (n + 0) (actOf f text a .state) (actOf f text b .state)
+    still-lit f text fits e a b l =
+        rw (power-still i f text fits e a, power-still i f text fits e b) (lit-later n (n + 0) (omega arith) (moduleAt i a .power) (moduleAt i b .power) l)
 
     pub act-lit :
-        (f : Frame) → Fits f → n + oneMore (shorted i (about (Accepted f))) ≤ shortsBorne → (a b : State) → Beside i a b → Bright n a b →
-        Bright (n + oneMore (shorted i (about (Accepted f)))) (actOf f a .state) (actOf f b .state)
+        (f : Frame) (text : List ℕ) → Fits f text → n + oneMore (shorted i (about (Accepted f))) ≤ shortsBorne → (a b : State) → Beside i a b → Bright n a b →
+        Bright (n + oneMore (shorted i (about (Accepted f)))) (actOf f text a .state) (actOf f text b .state)
     unfolding actOf ticked
-    act-lit (frame.Tick shorts) fits few a b h l = in-modes n shorts few (a .watch .mode) (b .watch .mode) (h .flown .modes) a b h l
-    act-lit (frame.Battery tension) fits few a b h l = still-lit (frame.Battery tension) fits refl a b l
-    act-lit (frame.Antennas deployed) fits few a b h l = still-lit (frame.Antennas deployed) fits refl a b l
-    act-lit (frame.Command sender command) fits few a b h l = still-lit (frame.Command sender command) fits refl a b l
+    act-lit (frame.Tick shorts) text fits few a b h l = in-modes n shorts few (a .watch .mode) (b .watch .mode) (h .flown .modes) a b h l
+    act-lit (frame.Battery tension) text fits few a b h l = still-lit (frame.Battery tension) text fits refl a b l
+    act-lit (frame.Antennas deployed) text fits few a b h l = still-lit (frame.Antennas deployed) text fits refl a b l
+    act-lit (frame.Command sender command) text fits few a b h l = still-lit (frame.Command sender command) text fits refl a b l

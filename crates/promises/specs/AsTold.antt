@@ -10,7 +10,7 @@ use Rattle.modules.specs.Groups.{moduleCount, isMission}
 use Rattle.modules.specs.Power.{isOn}
 use Rattle.frames.specs.About.{About, aTick, aCommand, neither}
 use Rattle.frames.specs.declared.command.Command.{Command}
-use Rattle.frames.specs.declared.command.Command.the-variants.{Order, Timed, Thresholds}
+use Rattle.frames.specs.declared.command.Command.the-variants.{Order, Timed, Thresholds, Greeting}
 use Rattle.supervisor.specs.State.{isRecovery, isSafe, moduleAt}
 use Rattle.supervisor.specs.Fresh.{freshState}
 use Rattle.supervisor.specs.History.{Call, aboutOf, called, answered, isDone, after, doneTick}
@@ -36,6 +36,7 @@ abbrev pub commands : ℕ → Command → (word : Word) → Word
 commands i (Order which on) word = if eqb i which then plain on else word
 commands i (Timed which minutes) word = if eqb i which then timed minutes 0 else word
 commands i (Thresholds ascend descend) word = word
+commands i (Greeting repeats length) word = word
 
 -- so does whatever is no command
 abbrev pub orders : ℕ → About → (word : Word) → Word

@@ -1,15 +1,17 @@
 -- Only ticks: a call that is no done tick leaves the mode, both counts and every module's power; a tick leaves serials,
--- tension, thresholds and antennas; and what is neither a done tick nor a done order leaves every request and end.
+-- tension, thresholds and antennas; what is neither a done tick nor a done order leaves every request and end; and what is
+-- no done greeting leaves the message, of which a tick may take a repeat.
 -- Assumes nothing.
 use Prim.Native.Nat.{ℕ}
 use mathlib.Core.Path.{_≡_}
 use mathlib.Core.Bool.{Bool, true, false, _&&_}
+use mathlib.Core.List.{List}
 use lib.Dec.{T}
 use Rattle.modules.specs.declared.ends.Ends.{Ends}
 use Rattle.modules.specs.declared.power.Power.{Power}
 use Rattle.frames.specs.About.{About, aTick, aCommand, neither}
 use Rattle.frames.specs.declared.command.Command.{Command}
-use Rattle.frames.specs.declared.command.Command.the-variants.{Order, Timed, Thresholds}
+use Rattle.frames.specs.declared.command.Command.the-variants.{Order, Timed, Thresholds, Greeting}
 use Rattle.frames.specs.declared.serial.Serials.{Serials}
 use Rattle.supervisor.specs.State.{moduleAt}
 use Rattle.supervisor.specs.History.{Call, aboutOf, called, answered, isDone, doneTick}
@@ -30,6 +32,7 @@ abbrev pub orderCommand : (modules : ℕ → Bool) → Command → Bool
 orderCommand modules (Order which on) = modules which
 orderCommand modules (Timed which minutes) = modules which
 orderCommand modules (Thresholds ascend descend) = false
+orderCommand modules (Greeting repeats length) = false
 
 -- so is a frame, of either origin
 abbrev pub isOrder : (modules : ℕ → Bool) → About → Bool
@@ -51,6 +54,28 @@ RestLeaves Part part =
     (s : State) (c : Call) → doneTick s c ≡ false → doneOrder any s c ≡ false →
     part (called s c .result .state) ≡ part s
 
+-- a command is a greeting
+abbrev pub greetingCommand : Command → Bool
+greetingCommand (Order which on) = false
+greetingCommand (Timed which minutes) = false
+greetingCommand (Thresholds ascend descend) = false
+greetingCommand (Greeting repeats length) = true
+
+-- so is a frame
+abbrev pub isGreeting : About → Bool
+isGreeting (aTick shorts) = false
+isGreeting (aCommand sender command) = greetingCommand command
+isGreeting neither = false
+
+-- a done greeting: the input is one, and the answer 0
+abbrev pub doneGreeting : State → Call → Bool
+doneGreeting s c = isGreeting (aboutOf c) && isDone (answered s c)
+
+-- a call that is no done greeting leaves it as it was
+abbrev pub UngreetedLeave : (Part : Type 0) → (State → Part) → Type 0
+UngreetedLeave Part part =
+    (s : State) (c : Call) → doneGreeting s c ≡ false → part (called s c .result .state) ≡ part s
+
 -- who changes what
 pub record OnlyTicks : Type 0 where
   -- the mode and both counts
@@ -67,3 +92,11 @@ pub record OnlyTicks : Type 0 where
   pub requested : (i : ℕ) → RestLeaves Bool (λ s. moduleAt i s .requested)
   -- the ends of the mission four
   pub ends : RestLeaves Ends (λ s. s .ends)
+  -- how long the message is
+  pub length : UngreetedLeave ℕ (λ s. s .message .length)
+  -- its text
+  pub text : UngreetedLeave (List ℕ) (λ s. s .message .text)
+  -- how often it is still to be sent
+  pub repeats :
+      (s : State) (c : Call) → doneTick s c ≡ false → doneGreeting s c ≡ false →
+      called s c .result .state .message .repeats ≡ s .message .repeats

@@ -13,13 +13,18 @@ use Rattle.supervisor.specs.declared.state.Phase.{Phase}
 use Rattle.supervisor.specs.declared.state.Mode.{Mode}
 use Rattle.supervisor.specs.declared.state.Mode.the-variants.{DeployWait, Recovery, Safe}
 use Rattle.supervisor.specs.declared.state.State.{State}
-use Rattle.supervisor.proofs.BeforeModulesLaws.{before-serials, before-beacon, before-flies, before-eight}
+use Rattle.supervisor.proofs.BeforeModulesLaws.{before-serials, before-beacon, before-message, before-flies, before-eight}
 use Rattle.supervisor.proofs.ModuleLaws.{Eight, stage-eight}
 
 -- what the beacon stage finds: the beacon count as before the tick
 pub staged-beacon : (shorts : ℕ) (s : State) → moduleStage shorts (beforeModules s) .watch .beacon ≡ s .watch .beacon
 unfolding moduleStage
 staged-beacon shorts s = before-beacon s
+
+-- and the message
+pub staged-message : (shorts : ℕ) (s : State) → moduleStage shorts (beforeModules s) .message ≡ s .message
+unfolding moduleStage
+staged-message shorts s = before-message s
 
 pub data Ticks (shorts : ℕ) (s : State) : Type 0 where
   waits : (phase : Phase) → s .watch .mode ≡ DeployWait phase → ticked shorts s ≡ done (withMode (phaseTicked (s .antennas) phase) s) → Ticks shorts s

@@ -25,6 +25,10 @@ reportOf frame acted =
     bytesOf (headOf frame) (answerNumber (acted .answer)) (modeNumber (acted .state .watch .mode))
     (masksOf (acted .state .modules)) (dueNumber (acted .due))
 
--- the place of the beacon in a report
+-- the place of the mode in a report
+abbrev pub modeByte : ℕ
+modeByte = 6
+
+-- of the beacon
 abbrev pub beaconByte : ℕ
 beaconByte = 10
