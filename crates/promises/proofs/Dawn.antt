@@ -16,7 +16,7 @@ use Rattle.modules.specs.Power.{isOn}
 use Rattle.frames.specs.Answer.{answerNumber}
 use Rattle.frames.specs.Kind.{reportBytes}
 use Rattle.frames.specs.About.{About, aTick, aCommand, neither}
-use Rattle.frames.specs.declared.command.Command.the-variants.{Order, Timed, Thresholds}
+use Rattle.frames.specs.declared.command.Command.the-variants.{Order, Timed, Thresholds, Greeting}
 use Rattle.frames.specs.declared.sender.Origin.{Origin}
 use Rattle.supervisor.specs.State.{isRecovery, isSafe, moduleAt}
 use Rattle.supervisor.specs.Fresh.{freshState}
@@ -58,6 +58,7 @@ off-says i (aTick shorts) word e = absurd (true≢false e)
 off-says i (aCommand sender (Order which on)) word e = off-new (eqb i which) (plain on) word e
 off-says i (aCommand sender (Timed which minutes)) word e = off-new (eqb i which) (timed minutes 0) word e
 off-says i (aCommand sender (Thresholds ascend descend)) word e = absurd (true≢false e)
+off-says i (aCommand sender (Greeting repeats length)) word e = absurd (true≢false e)
 off-says i neither word e = absurd (true≢false e)
 
 -- what is said after an "off" does not hang on how that was said
@@ -70,6 +71,7 @@ same-says i (aTick shorts) word e = e
 same-says i (aCommand sender (Order which on)) word e = same-new (eqb i which) (plain on) word e
 same-says i (aCommand sender (Timed which minutes)) word e = same-new (eqb i which) (timed minutes 0) word e
 same-says i (aCommand sender (Thresholds ascend descend)) word e = e
+same-says i (aCommand sender (Greeting repeats length)) word e = e
 same-says i neither word e = e
 
 module _ (which : ℕ) (mission : isMission which ≡ true) where

@@ -12,7 +12,7 @@ use Rattle.basics.proofs.ChoiceLaws.{is-true, holds, and-left, and-right, decid
 use Rattle.modules.specs.Groups.{isMission, moduleCount}
 use Rattle.modules.specs.Power.{isOn}
 use Rattle.frames.specs.About.{About, aTick, aCommand, neither}
-use Rattle.frames.specs.declared.command.Command.the-variants.{Order, Timed, Thresholds}
+use Rattle.frames.specs.declared.command.Command.the-variants.{Order, Timed, Thresholds, Greeting}
 use Rattle.supervisor.specs.State.{moduleAt}
 use Rattle.supervisor.specs.Acted.{silent, done}
 use Rattle.supervisor.specs.History.{Call, called, answered, isDone, after, aboutOf, doneTick}
@@ -35,6 +35,7 @@ module _ (which minutes : ℕ) where
   no-order (aCommand sender (Order one on)) word e = rw e
   no-order (aCommand sender (Timed one length)) word e = rw e
   no-order (aCommand sender (Thresholds ascend descend)) word e = refl
+  no-order (aCommand sender (Greeting repeats length)) word e = refl
   no-order neither word e = refl
 
   not-done : (order done : Bool) → T (not (order && done)) → done ≡ true → order ≡ false

@@ -27,6 +27,7 @@ pub mod Late
 pub mod Dawn
 pub mod BeaconLaws
 pub mod NeverSilent
+pub mod Greeted
 pub mod OnTheGround
 pub mod Spelling
 pub mod Numbers

@@ -5,8 +5,8 @@ use native.Mathlib.Omega.{arith}
 use mathlib.Core.Path.{_≡_, refl, sym, ap, _∙_}
 use mathlib.Core.Bool.{Bool, false}
 use mathlib.Core.List.{List}
-use lib.Dec.{ltb, eqb}
-use lib.ListN.{length, getD}
+use lib.Dec.{ltb, eqb, lit≤}
+use lib.ListN.{length, getD, take, drop}
 use borrow.Author.Tests.{le-ltb, lt-ltb, ltb-true, ltb-false}
 use Rattle.basics.specs.Choice.{if_then_else_}
 use Rattle.basics.specs.Bytes.{hexDigit}
@@ -20,36 +20,47 @@ use Rattle.supervisor.specs.State.{modeNumber}
 use Rattle.supervisor.specs.declared.state.Mode.{Mode}
 use Rattle.supervisor.specs.declared.state.Mode.the-variants.{DeployWait, Recovery, Safe}
 use Rattle.supervisor.specs.declared.state.State.{State}
+use Rattle.supervisor.proofs.RangeLaws.{parts}
+use Rattle.frames.specs.Greeting.{longestGreeting}
+use Rattle.frames.proofs.GreetingLaws.{Fair}
+use Rattle.frames.proofs.GreetingLaws as greetings
+use Rattle.morse.specs.Units.{unitsOf}
 use Rattle.morse.specs.Texts.{faultOf}
 use Rattle.morse.specs.Keying.{keyOf, keyUnits}
 use Rattle.hearing.specs.Reading.{readText}
 use Rattle.morse.specs.declared.texts.Fault.the-variants.{Nothing}
 use Rattle.hearing.proofs.ReadBack.{same-keying}
-use Rattle.beacon.specs.Text.{basicText, completeText, textOf, modeLetter, figure}
+use Rattle.beacon.specs.Text.{basicText, completeText, extendedText, textOf, hasText, formBytes, modeLetter, figure}
 use Rattle.beacon.specs.Writing.{beaconOf}
 use Rattle.beacon.specs.declared.text.Form.{Form}
-use Rattle.beacon.specs.declared.text.Form.the-variants.{Complete}
+use Rattle.beacon.specs.declared.text.Form.the-variants.{Basic, Complete, Extended}
 use Rattle.beacon.proofs.Keyable.{keyable}
 use Rattle.beacon.proofs.TextLaws.{form-most, text-length}
-use Rattle.promises.specs.OnTheGround.{OnTheGround, Whole, HeardWith, sound}
+use Rattle.promises.specs.OnTheGround.{OnTheGround, Whole, Has, HeardWith, sound, messageText}
 
 -- a text of any form can be keyed
-fair : (form : Form) (s : State) → Whole s → faultOf (textOf form s) ≡ Nothing
-fair form s w = keyable s (is-true (inRange s) (w .valid)) (w .eight) form
+fair : (form : Form) (s : State) → Whole s → Has form s → faultOf (textOf form s) ≡ Nothing
+fair form s w had = keyable s (is-true (inRange s) (w .valid)) (w .eight) form had
 
-text-fits : (form : Form) (s : State) (room : List ℕ) → 16 ≤ length room → ltb (length room) (length (textOf form s)) ≡ false
-text-fits form s room h = le-ltb (length room) (length (textOf form s)) (omega (arith, form-most form, text-length s form))
+-- the message is in its limits
+limits : (s : State) → Whole s → Fair (s .message .length) (s .message .text)
+limits s w = greetings.fair (s .message .length) (s .message .text) (parts s (w .valid) .message)
 
-heard : HeardWith 16
-unfolding beaconOf keyOf keyUnits readText
-heard form s w page air ground p q r =
-    record {
-      text = textOf form s;
-      wrote = rw (is-true (inRange s) (w .valid), text-fits form s page p);
-      units = sound form s;
-      keyed = rw (fair form s w, le-ltb (length air) (length (sound form s)) q);
-      heard = λ after reads. reads .told (textOf form s) (record { passes = fair form s w; same = refl }) ∙ rw (text-fits form s ground r);
-    }
+module _ (form : Form) (bytes : ℕ) (enough : (n : ℕ) → n ≤ longestGreeting → formBytes form n ≤ bytes) where
+  text-fits : (s : State) → Whole s → (room : List ℕ) → bytes ≤ length room → ltb (length room) (length (textOf form s)) ≡ false
+  text-fits s w room h =
+      le-ltb (length room) (length (textOf form s)) (omega (arith, enough (s .message .length) (limits s w .most), text-length s (limits s w) form))
+
+  heard : HeardWith form bytes
+  unfolding beaconOf keyOf keyUnits readText
+  heard s w had page air ground p q r =
+      record {
+        text = textOf form s;
+        wrote = rw (is-true (inRange s) (w .valid), is-true (hasText form (s .message .length)) had, text-fits s w page p);
+        units = sound form s;
+        keyed = rw (fair form s w had, le-ltb (length air) (length (sound form s)) q);
+        heard = λ after reads. reads .told (textOf form s) (record { passes = fair form s w had; same = refl }) ∙ rw (text-fits s w ground r);
+      }
 
 -- back from a letter to its mode, from a hex digit to its number
 modeOf : ℕ → ℕ
@@ -102,7 +113,7 @@ four-digits m n e f g h =
 -- two states whose complete beacons sound alike
 module _ (s t : State) (w : Whole s) (v : Whole t) (alike : sound Complete s ≡ sound Complete t) where
   same-byte : (i : ℕ) → getD (completeText s) i 0 ≡ getD (completeText t) i 0
-  same-byte i = ap (λ (bytes : List ℕ). getD bytes i 0) (same-keying (completeText s) (completeText t) (fair Complete s w) (fair Complete t v) alike)
+  same-byte i = ap (λ (bytes : List ℕ). getD bytes i 0) (same-keying (completeText s) (completeText t) (fair Complete s w tt) (fair Complete t v tt) alike)
 
   same-mode : modeNumber (s .watch .mode) ≡ modeNumber (t .watch .mode)
   unfolding completeText basicText
@@ -120,5 +131,30 @@ module _ (s t : State) (w : Whole s) (v : Whole t) (alike : sound Complete s ≡
   unfolding completeText basicText masksOf
   same-failed = two-digits _ _ (mask-byte (λ m. isFailed (m .power)) s w) (mask-byte (λ m. isFailed (m .power)) t v) (same-byte 14) (same-byte 15)
 
+-- two states whose extended beacons sound alike
+module _ (s t : State) (w : Whole s) (v : Whole t) (had : Has Extended s) (had′ : Has Extended t) (alike : sound Extended s ≡ sound Extended t) where
+  same-text : extendedText s ≡ extendedText t
+  same-text = same-keying (extendedText s) (extendedText t) (fair Extended s w had) (fair Extended t v had′) alike
+
+  -- what stands past the space, and what before it
+  same-message : messageText s ≡ messageText t
+  unfolding extendedText completeText basicText
+  same-message = ap (drop 17) same-text
+
+  same-complete : completeText s ≡ completeText t
+  unfolding extendedText completeText basicText
+  same-complete = ap (take 16) same-text
+
 pub on-the-ground : OnTheGround
-on-the-ground = record { heard = heard; mode = same-mode; tension = same-tension; on = same-on; failed = same-failed }
+on-the-ground =
+    record {
+      basic = heard Basic 10 (λ n h. lit≤ tt);
+      complete = heard Complete 16 (λ n h. lit≤ tt);
+      extended = heard Extended 33 (form-most Extended);
+      mode = λ s t w v had had′ e. same-mode s t w v e;
+      tension = λ s t w v had had′ e. same-tension s t w v e;
+      on = λ s t w v had had′ e. same-on s t w v e;
+      failed = λ s t w v had had′ e. same-failed s t w v e;
+      message = same-message;
+      more = λ look tells s t w v had had′ e. tells s t w v tt tt (ap unitsOf (same-complete s t w v had had′ e));
+    }

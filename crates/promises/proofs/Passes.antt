@@ -13,6 +13,7 @@ use Rattle.basics.specs.Outcome.{Outcome}
 use Rattle.basics.proofs.ChoiceLaws.{is-true}
 use Rattle.frames.specs.Answer.{isReported}
 use Rattle.frames.specs.Kind.{reportBytes}
+use Rattle.frames.specs.Greeting.{greetingText}
 use Rattle.frames.specs.Reading.{readFrame}
 use Rattle.frames.proofs.ReadingLaws.{isAccepted, read-sound, battery-read}
 use Rattle.supervisor.specs.Range.{inRange}
@@ -63,7 +64,7 @@ order-reported (frame ∷ frames) s room v h =
     let left : List ℕ = drop reportBytes (called s c .room) in
     let fits : reportBytes * length frames ≤ length left = rw (step-written s frame room .past, length-drop reportBytes room) (omega arith) in
     continued-reported (isAccepted (readFrame frame)) (called s c) (inOrder (called s c .result .state) frames left) (acceptedIn (singles frames))
-    (rw (called-read s c v (omega arith)) (read-reported (readFrame frame) (read-sound frame) s room))
+    (rw (called-read s c v (omega arith)) (read-reported (readFrame frame) (greetingText frame) (read-sound frame) s room))
     (order-reported frames (called s c .result .state) left (called-in-range s c v) fits)
 
 passed-reported : (s : State) (p : Pass) → T (inRange s) → RoomBut 0 p → passed s p .result .reported ≡ acceptedIn (singles (framesIn (p .input)))

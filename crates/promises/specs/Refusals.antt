@@ -40,8 +40,8 @@ reportOn sender command answer s room =
     bytesOf (headOf (frame.Command sender command)) answer (modeNumber (s .watch .mode)) (masksOf (s .modules)) 0
     ++ drop 11 room
 
--- the frame is a command, an order, plain or timed, or thresholds; nothing was moved but what `moves` says, and its
--- report is there
+-- the frame is a command, an order, plain or timed, thresholds or a greeting; nothing was moved but what `moves` says,
+-- and its report is there
 pub record TurnedDown (moves : Sender → State → State) (s : State) (c : Call) : Type 0 where
   pub sender : Sender
   pub command : Command

@@ -1,9 +1,9 @@
 -- Frames, flights made of them, and the calls that send a flight.
 -- Assumes nothing.
-use Prim.Native.Nat.{ℕ, _/_, _%_}
+use Prim.Native.Nat.{ℕ, _-_, _/_, _%_}
 use lib.Dec.{lit≤}
 use mathlib.Core.List.{List, [], _∷_, _++_, map}
-use lib.ListN.{replicate}
+use lib.ListN.{length, replicate}
 use Rattle.supervisor.specs.History.{Call, Roomy}
 
 -- a second without shorts
@@ -46,6 +46,15 @@ cameraOn serial = order serial camera 1
 -- ground's order for the camera to run for so many minutes
 abbrev pub cameraFor : (serial minutes : ℕ) → List ℕ
 cameraFor serial minutes = 6 ∷ 1 ∷ serial / 256 ∷ serial % 256 ∷ camera ∷ minutes / 256 ∷ minutes % 256 ∷ []
+
+-- ground's greeting: a text for so many beacons
+abbrev pub greeting : (serial repeats : ℕ) (text : List ℕ) → List ℕ
+greeting serial repeats text =
+    7 ∷ 1 ∷ serial / 256 ∷ serial % 256 ∷ repeats ∷ length text ∷ (text ++ replicate (16 - length text) 0)
+
+-- `HI`
+abbrev pub hi : List ℕ
+hi = 72 ∷ 73 ∷ []
 
 -- so many seconds without shorts
 abbrev pub seconds : ℕ → List (List ℕ)

@@ -1,4 +1,4 @@
--- Only ticks, a hair more: requests are changed by others than ticks, and by ticks too; so are ends.
+-- Only ticks, a hair more: requests are changed by others than ticks, and by ticks too; so are ends, and a message's repeats.
 -- Assumes nothing.
 use Prim.Native.Nat.{ℕ}
 use native.Mathlib.Omega.{arith}
@@ -10,7 +10,8 @@ use Rattle.supervisor.specs.State.{moduleAt, endAt}
 use Rattle.supervisor.specs.History.{after}
 use Rattle.supervisor.proofs.Rules.{rules}
 use Rattle.promises.specs.OnlyTicks.{OthersLeave, TicksLeave}
-use Rattle.promises.proofs.Edge.Flights.{quiet, comm2, camera, comm2Off, cameraFor, toSafe, aboutToCross, send, sent}
+use Rattle.promises.proofs.Edge.Flights.{quiet, comm2, camera, comm2Off, cameraFor, greeting, hi}
+use Rattle.promises.proofs.Edge.Flights.{seconds, toSafe, aboutToCross, send, sent}
 
 -- the fresh board and an "off" for COMM2: its request goes at once
 pub not-requests-by-others : OthersLeave Bool (λ s. moduleAt comm2 s .requested) → ⊥
@@ -33,3 +34,16 @@ minuteBegun = toSafe ++ (cameraFor 1 1 ∷ [])
 pub not-ends-by-ticks : TicksLeave ℕ (λ s. endAt camera s) → ⊥
 unfolding rules
 not-ends-by-ticks says = let e : _≡_ {A = ℕ} 59 60 = says (after freshState (sent minuteBegun)) (send quiet) tt in omega arith
+
+-- a greeting sets how often it is to be sent
+pub not-repeats-by-others : OthersLeave ℕ (λ s. s .message .repeats) → ⊥
+unfolding rules
+not-repeats-by-others says = let e : _≡_ {A = ℕ} 1 0 = says freshState (send (greeting 1 1 hi)) refl in omega arith
+
+-- in SAFE, with a beacon due in the next tick, that takes one
+abbrev pub aboutToGreet : List (List ℕ)
+aboutToGreet = toSafe ++ (greeting 1 1 hi ∷ seconds 29)
+
+pub not-repeats-by-ticks : TicksLeave ℕ (λ s. s .message .repeats) → ⊥
+unfolding rules
+not-repeats-by-ticks says = let e : _≡_ {A = ℕ} 0 1 = says (after freshState (sent aboutToGreet)) (send quiet) tt in omega arith
