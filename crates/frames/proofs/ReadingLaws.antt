@@ -16,7 +16,7 @@ use Rattle.frames.specs.Kind.{greetingBytes}
 use Rattle.frames.specs.Kind.{totalOf, tickKind, batteryKind, antennasKind, orderKind, thresholdsKind, timedKind, greetingKind}
 use Rattle.frames.specs.Sender.{groundOrigin, payloadOrigin, isOrigin, originFrom}
 use Rattle.frames.specs.Reading.{byteAt, wordAt, lastModule, isReading, areThresholds, areMinutes, isForeign}
-use Rattle.frames.specs.Reading.{fieldsOf, readFrame}
+use Rattle.frames.specs.Reading.{senderFrom, ofGround, fieldsOf, readFrame}
 use Rattle.frames.specs.Reading.{batteryFields, antennasFields, orderFields, timedFields, thresholdsFields, greetingFields}
 use Rattle.frames.specs.Greeting.{isGreeting, greetingText}
 use Rattle.frames.specs.declared.sender.Sender.{Sender}
@@ -27,6 +27,20 @@ use Rattle.frames.specs.declared.frame.Frame.{Frame}
 use Rattle.frames.specs.declared.frame.Frame.the-variants as frame
 use Rattle.frames.specs.declared.reading.Reading.{Reading}
 use Rattle.frames.specs.declared.reading.Reading.the-variants.{Refused, Accepted}
+
+-- past the last kind there is no total
+pub no-total : (kind : ℕ) → greetingKind < kind → 0 ≡ totalOf kind
+unfolding totalOf
+no-total kind h =
+    rw (
+      ne-eqb kind tickKind (omega arith),
+      ne-eqb kind batteryKind (omega arith),
+      ne-eqb kind antennasKind (omega arith),
+      ne-eqb kind orderKind (omega arith),
+      ne-eqb kind thresholdsKind (omega arith),
+      ne-eqb kind timedKind (omega arith),
+      ne-eqb kind greetingKind (omega arith),
+    )
 
 -- a kind that has a total and is none of the first six is the seventh
 pub last-total :
@@ -124,35 +138,32 @@ origin-ground byte h e =
     omega (arith, within-low groundOrigin payloadOrigin byte h, within-high groundOrigin payloadOrigin byte h, eqb-false byte payloadOrigin e) in
     simp (eq-eqb byte groundOrigin low)
 
--- what is ground's, and fair
-record Grounded (test : Bool) (bytes : List ℕ) : Type 0 where
-  fair : T test
-  ground : originFrom (byteAt 1 bytes) ≡ Ground
-
-grounded : (fair : Bool) (bytes : List ℕ) → isOrigin (byteAt 1 bytes) && fair ≡ true → eqb (byteAt 1 bytes) payloadOrigin ≡ false → Grounded fair bytes
-grounded fair bytes e p =
-    let origin : Bool = isOrigin (byteAt 1 bytes) in
-    record {
-      fair = and-right origin fair (holds (origin && fair) e);
-      ground = origin-ground (byteAt 1 bytes) (and-left origin fair (holds (origin && fair) e)) p;
-    }
+-- what is ground's alone, if it fits from there
+ground-sound :
+    (text bytes : List ℕ) (command : Command) → T (isOrigin (byteAt 1 bytes)) →
+    (originFrom (byteAt 1 bytes) ≡ Ground → FitsCommand (senderFrom bytes) command text) → SoundPast text (ofGround command bytes)
+unfolding ofGround
+ground-sound text bytes command h fits =
+    decided (SoundPast text) (eqb (byteAt 1 bytes) payloadOrigin) (λ p. tt) (λ p. fits (origin-ground (byteAt 1 bytes) h p))
 
 thresholds-sound : (text bytes : List ℕ) → SoundPast text (thresholdsFields bytes)
 unfolding thresholdsFields
 thresholds-sound text bytes =
+    let origin : Bool = isOrigin (byteAt 1 bytes) in
     let fair : Bool = areThresholds (wordAt 4 bytes) (wordAt 6 bytes) in
-    decided (SoundPast text) (isOrigin (byteAt 1 bytes) && fair)
-    (λ e. decided (SoundPast text) (eqb (byteAt 1 bytes) payloadOrigin) (λ p. tt)
-    (λ p. let g = grounded fair bytes e p in record { fair = g .fair; ground = g .ground }))
+    decided (SoundPast text) (origin && fair)
+    (λ e. ground-sound text bytes (Thresholds (wordAt 4 bytes) (wordAt 6 bytes)) (and-left origin fair (holds (origin && fair) e))
+    (λ ground. record { fair = and-right origin fair (holds (origin && fair) e); ground = ground }))
     (λ e. tt)
 
 greeting-sound : (bytes : List ℕ) → SoundPast (greetingText bytes) (greetingFields bytes)
 unfolding greetingFields
 greeting-sound bytes =
+    let origin : Bool = isOrigin (byteAt 1 bytes) in
     let fair : Bool = isGreeting (byteAt 5 bytes) (greetingText bytes) in
-    decided (SoundPast (greetingText bytes)) (isOrigin (byteAt 1 bytes) && fair)
-    (λ e. decided (SoundPast (greetingText bytes)) (eqb (byteAt 1 bytes) payloadOrigin) (λ p. tt)
-    (λ p. let g = grounded fair bytes e p in record { fair = g .fair; ground = g .ground }))
+    decided (SoundPast (greetingText bytes)) (origin && fair)
+    (λ e. ground-sound (greetingText bytes) bytes (Greeting (byteAt 4 bytes) (byteAt 5 bytes)) (and-left origin fair (holds (origin && fair) e))
+    (λ ground. record { fair = and-right origin fair (holds (origin && fair) e); ground = ground }))
     (λ e. tt)
 
 module _ (bytes : List ℕ) where

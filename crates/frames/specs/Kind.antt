@@ -1,8 +1,12 @@
 -- The kinds of frames: their numbers, and their total lengths.
 -- Assumes nothing.
-use Prim.Native.Nat.{ℕ}
-use lib.Dec.{eqb}
+use Prim.Native.Nat.{ℕ, _+_}
+use mathlib.Core.Bool.{Bool}
+use mathlib.Core.List.{List}
+use lib.Dec.{T, eqb}
+use lib.ListN.{getD}
 use Rattle.basics.specs.Choice.{if_then_else_}
+use Rattle.basics.specs.Tables.{allBelow}
 
 -- 01 tick: mask of shorts seen in this second
 abbrev pub tickKind : ℕ
@@ -54,3 +58,11 @@ totalOf kind =
     if eqb kind thresholdsKind then 8 else
     if eqb kind timedKind then 7 else
     if eqb kind greetingKind then greetingBytes else 0
+
+-- the rule of the code's table at a number: it is that number's total
+abbrev pub isTotal : List ℕ → ℕ → Bool
+isTotal table kind = eqb (getD table kind 0) (totalOf kind)
+
+-- it has the totals up to the last kind's
+abbrev pub HasTotals : List ℕ → Type 0
+HasTotals table = T (allBelow (isTotal table) (greetingKind + 1))

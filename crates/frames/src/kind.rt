@@ -1,6 +1,6 @@
 // The kinds of frames: their numbers, and their total lengths.
 ghost use mathlib.Core.Path.{_≡_};
-ghost use Rattle.frames.specs.Kind.{totalOf};
+ghost use Rattle.frames.specs.Kind.{totalOf, HasTotals};
 
 // The mask of shorts seen in a second.
 pub const TICK: u8 = 1;
@@ -32,18 +32,36 @@ pub const REPORT: u8 = 0x81;
 // The bytes of a report.
 pub const REPORT_BYTES: usize = 11;
 
-// The total length of a frame of this kind; 0 where the kind is unknown.
+// How many numbers there are up to the last kind that is read.
+const NUMBERS: usize = 8;
+
+// The total of each number; 0 where it is no kind.
+const TOTALS: [u8; NUMBERS] = [
+    0, // none
+    2, // tick
+    3, // battery
+    2, // antennas
+    6, // order
+    8, // thresholds
+    7, // timed order
+    22, // greeting
+];
+
+// The table: each entry is the total of its number.
+fn totals() -> [u8; NUMBERS]
+    ensures { λ r. ⌜ HasTotals r ⌝ }
+{
+    TOTALS
+}
+
+// The total length of a frame of this kind; 0 where the kind is unknown. By place in a table of bytes: a match that gives
+// lengths costs eight bytes of constants a kind.
 pub fn total(kind: u8) -> usize
     ensures { λ r. ⌜ r ≡ totalOf kind ⌝ }
 {
-    match kind {
-        TICK => 2,
-        BATTERY => 3,
-        ANTENNAS => 2,
-        ORDER => 6,
-        THRESHOLDS => 8,
-        TIMED => 7,
-        GREETING => GREETING_BYTES,
-        _ => 0,
+    if GREETING < kind {
+        return 0;
     }
+    let table = totals();
+    table[kind as usize] as usize
 }

@@ -5,7 +5,7 @@ ghost use lib.ListN.{length};
 ghost use Rattle.basics.specs.Choice.{word};
 ghost use Rattle.frames.specs.Reading.{isReading, areThresholds, areMinutes, isForeign, senderFrom};
 ghost use Rattle.frames.specs.Reading.{batteryFields, antennasFields, orderFields, timedFields};
-ghost use Rattle.frames.specs.Reading.{thresholdsFields, greetingFields, readFrame};
+ghost use Rattle.frames.specs.Reading.{ofGround, thresholdsFields, greetingFields, readFrame};
 use crate::answer::Answer;
 use crate::command::Command;
 use crate::frame::Frame;
@@ -161,6 +161,20 @@ fn timed(bytes: &[u8]) -> Reading
     }
 }
 
+// A command that is ground's alone.
+fn of_ground(bytes: &[u8], command: Command) -> Reading
+    requires { ⌜ 4 ≤ length (now bytes) ⌝ }
+    ensures { λ r. ⌜ r ≡ ofGround command (now (bytes .entry)) ⌝ }
+{
+    if bytes[1] == PAYLOAD {
+        return Reading::Refused(Answer::NotPermitted);
+    }
+    Reading::Accepted(Frame::Command {
+        sender: sender_from(bytes),
+        command,
+    })
+}
+
 // Thresholds, which the payload may not set.
 fn thresholds(bytes: &[u8]) -> Reading
     requires { ⌜ length (now bytes) ≡ 8 ⌝ }
@@ -170,14 +184,7 @@ fn thresholds(bytes: &[u8]) -> Reading
     let ascend = word(bytes[4], bytes[5]);
     let descend = word(bytes[6], bytes[7]);
     if is_origin(origin) & are_thresholds(ascend, descend) {
-        if origin == PAYLOAD {
-            Reading::Refused(Answer::NotPermitted)
-        } else {
-            Reading::Accepted(Frame::Command {
-                sender: sender_from(bytes),
-                command: Command::Thresholds { ascend, descend },
-            })
-        }
+        of_ground(bytes, Command::Thresholds { ascend, descend })
     } else {
         Reading::Refused(Answer::BadField)
     }
@@ -192,14 +199,7 @@ fn greeting(bytes: &[u8]) -> Reading
     let repeats = bytes[4];
     let length = bytes[5];
     if is_origin(origin) & is_greeting(length, text_of(bytes)) {
-        if origin == PAYLOAD {
-            Reading::Refused(Answer::NotPermitted)
-        } else {
-            Reading::Accepted(Frame::Command {
-                sender: sender_from(bytes),
-                command: Command::Greeting { repeats, length },
-            })
-        }
+        of_ground(bytes, Command::Greeting { repeats, length })
     } else {
         Reading::Refused(Answer::BadField)
     }

@@ -10,7 +10,7 @@ use Rattle.morse.specs.Texts.{faultOf}
 use Rattle.frames.specs.Kind.{totalOf}
 use Rattle.frames.specs.Serial.{classOf}
 use Rattle.frames.specs.Reading.{batteryFields, antennasFields, orderFields, timedFields, thresholdsFields}
-use Rattle.frames.specs.Reading.{greetingFields, readFrame}
+use Rattle.frames.specs.Reading.{ofGround, greetingFields, readFrame}
 use Rattle.frames.specs.Greeting.{isGreeting, greetingText}
 use Rattle.supervisor.specs.Range.{inRange}
 use Rattle.supervisor.specs.Fresh.{freshState}
@@ -30,7 +30,7 @@ modules = tt
 
 -- of the frames
 frames : Unit {0}
-unfolding alphabet signOf faultOf isGreeting greetingText totalOf classOf batteryFields antennasFields orderFields timedFields thresholdsFields greetingFields readFrame
+unfolding alphabet signOf faultOf isGreeting greetingText totalOf classOf batteryFields antennasFields orderFields timedFields ofGround thresholdsFields greetingFields readFrame
 frames = tt
 
 -- all

@@ -1,6 +1,5 @@
 -- `greeting` meets its contract.
 -- Assumes nothing.
-use borrow.Author.Tests.{eq-eqb, ne-eqb}
 use Rattle.frames.specs.Reading.{greetingFields}
 use borrow.Author.Needs.{needs}
 use Rattle.frames.proofs.reading.greeting.Statement.{statement}
@@ -24,25 +23,16 @@ text-of-requires c κs = search needs
 is-greeting-requires : tie.Need-is-greeting-requires
 is-greeting-requires c κs = search needs
 
-sender-from-requires : tie.Need-sender-from-requires
-sender-from-requires c κs = search needs
+of-ground-requires : tie.Need-of-ground-requires
+of-ground-requires c κs = search needs
 
 returns : tie.Need-returns
 unfolding greetingFields
-returns c = simp (rw (c .before .before .is-greeting .ensures, c .before .before .before .text-of .ensures, c .before .before .before .before .is-origin .ensures) at (c .before .if1 .taken), eq-eqb _ _ (c .if2 .taken))
+returns c = simp (rw (c .before .before .is-greeting .ensures, c .before .before .before .text-of .ensures, c .before .before .before .before .is-origin .ensures) at (c .before .if1 .taken), c .of-ground .ensures)
 
 returns-2 : tie.Need-returns-2
 unfolding greetingFields
-returns-2 c =
-    simp (
-      rw (c .before .before .before .is-greeting .ensures, c .before .before .before .before .text-of .ensures, c .before .before .before .before .before .is-origin .ensures) at (c .before .before .if1 .taken),
-      ne-eqb _ _ (c .before .if2 .left),
-      c .sender-from .ensures,
-    )
-
-returns-3 : tie.Need-returns-3
-unfolding greetingFields
-returns-3 c = simp (rw (c .before .is-greeting .ensures, c .before .before .text-of .ensures, c .before .before .before .is-origin .ensures) at (c .if1 .left))
+returns-2 c = simp (rw (c .before .is-greeting .ensures, c .before .before .text-of .ensures, c .before .before .before .is-origin .ensures) at (c .if1 .left))
 
 pub greeting-spec : {M : Type 1} → statement M
 greeting-spec =
@@ -54,7 +44,6 @@ greeting-spec =
     is-origin-requires
     text-of-requires
     is-greeting-requires
-    sender-from-requires
+    of-ground-requires
     returns
-    returns-2
-    returns-3)
+    returns-2)

@@ -1,6 +1,5 @@
 -- `thresholds` meets its contract.
 -- Assumes nothing.
-use borrow.Author.Tests.{eq-eqb, ne-eqb}
 use Rattle.frames.specs.Reading.{thresholdsFields}
 use borrow.Author.Needs.{needs}
 use Rattle.frames.proofs.reading.thresholds.Statement.{statement}
@@ -33,8 +32,8 @@ is-origin-requires c κs = search needs
 are-thresholds-requires : tie.Need-are-thresholds-requires
 are-thresholds-requires c κs = search needs
 
-sender-from-requires : tie.Need-sender-from-requires
-sender-from-requires c κs = search needs
+of-ground-requires : tie.Need-of-ground-requires
+of-ground-requires c κs = search needs
 
 returns : tie.Need-returns
 unfolding thresholdsFields
@@ -46,28 +45,14 @@ returns c =
         c .before .before .before .before .word2 .ensures,
         c .before .before .before .before .before .before .before .word .ensures,
       ) at (c .before .if1 .taken),
-      eq-eqb _ _ (c .if2 .taken),
+      c .of-ground .ensures,
+      c .before .before .before .before .word2 .ensures,
+      c .before .before .before .before .before .before .before .word .ensures,
     )
 
 returns-2 : tie.Need-returns-2
 unfolding thresholdsFields
 returns-2 c =
-    simp (
-      rw (
-        c .before .before .before .are-thresholds .ensures,
-        c .before .before .before .before .is-origin .ensures,
-        c .before .before .before .before .before .word2 .ensures,
-        c .before .before .before .before .before .before .before .before .word .ensures,
-      ) at (c .before .before .if1 .taken),
-      ne-eqb _ _ (c .before .if2 .left),
-      c .sender-from .ensures,
-      c .before .before .before .before .before .word2 .ensures,
-      c .before .before .before .before .before .before .before .before .word .ensures,
-    )
-
-returns-3 : tie.Need-returns-3
-unfolding thresholdsFields
-returns-3 c =
     simp (rw (
       c .before .are-thresholds .ensures,
       c .before .before .is-origin .ensures,
@@ -88,7 +73,6 @@ thresholds-spec =
     word-requires-2
     is-origin-requires
     are-thresholds-requires
-    sender-from-requires
+    of-ground-requires
     returns
-    returns-2
-    returns-3)
+    returns-2)
