@@ -14,9 +14,9 @@ use Rattle.frames.specs.Sender.{payloadOrigin, isOrigin, originFrom}
 use Rattle.frames.specs.declared.answer.Answer.the-variants.{NoInput, UnknownKind, BadLength}
 use Rattle.frames.specs.declared.answer.Answer.the-variants.{BadField, NotPermitted}
 use Rattle.frames.specs.declared.sender.Sender.{Sender}
-use Rattle.frames.specs.declared.command.Command.{Command}
+use Rattle.frames.specs.declared.command.Command as commands
 use Rattle.frames.specs.declared.command.Command.the-variants.{Order, Timed, Thresholds, Greeting}
-use Rattle.frames.specs.declared.frame.Frame.the-variants as frame
+use Rattle.frames.specs.declared.frame.Frame.the-variants.{Tick, Battery, Antennas, Command}
 use Rattle.frames.specs.declared.reading.Reading.{Reading}
 use Rattle.frames.specs.declared.reading.Reading.the-variants.{Refused, Accepted}
 
@@ -64,17 +64,17 @@ isForeign origin which = eqb origin payloadOrigin && not (eqb which payloadModul
 
 -- a tick's mask may hold any value
 abbrev pub tickFields : List ℕ → Reading
-tickFields bytes = Accepted (frame.Tick (byteAt 1 bytes))
+tickFields bytes = Accepted (Tick (byteAt 1 bytes))
 
 -- a reading in range
 unfoldable pub batteryFields : List ℕ → Reading
 batteryFields bytes =
-    if isReading (wordAt 1 bytes) then Accepted (frame.Battery (wordAt 1 bytes)) else Refused BadField
+    if isReading (wordAt 1 bytes) then Accepted (Battery (wordAt 1 bytes)) else Refused BadField
 
 -- 0 folded, 1 deployed
 unfoldable pub antennasFields : List ℕ → Reading
 antennasFields bytes =
-    if leb (byteAt 1 bytes) 1 then Accepted (frame.Antennas (eqb (byteAt 1 bytes) 1)) else Refused BadField
+    if leb (byteAt 1 bytes) 1 then Accepted (Antennas (eqb (byteAt 1 bytes) 1)) else Refused BadField
 
 -- a command begins with origin, serial (2)
 abbrev pub senderFrom : List ℕ → Sender
@@ -85,14 +85,14 @@ unfoldable pub orderFields : List ℕ → Reading
 orderFields bytes =
     if isOrigin (byteAt 1 bytes) && leb (byteAt 4 bytes) lastModule && leb (byteAt 5 bytes) 1 then
     (if isForeign (byteAt 1 bytes) (byteAt 4 bytes) then Refused NotPermitted else
-    Accepted (frame.Command (senderFrom bytes) (Order (byteAt 4 bytes) (eqb (byteAt 5 bytes) 1))))
+    Accepted (Command (senderFrom bytes) (Order (byteAt 4 bytes) (eqb (byteAt 5 bytes) 1))))
     else Refused BadField
 
 -- what is ground's alone: never from origin 2
-unfoldable pub ofGround : Command → List ℕ → Reading
+unfoldable pub ofGround : commands.Command → List ℕ → Reading
 ofGround command bytes =
     if eqb (byteAt 1 bytes) payloadOrigin then Refused NotPermitted
-    else Accepted (frame.Command (senderFrom bytes) command)
+    else Accepted (Command (senderFrom bytes) command)
 
 -- then ascend (2), descend (2); ground's alone
 unfoldable pub thresholdsFields : List ℕ → Reading
@@ -106,7 +106,7 @@ unfoldable pub timedFields : List ℕ → Reading
 timedFields bytes =
     if isOrigin (byteAt 1 bytes) && isMission (byteAt 4 bytes) && areMinutes (wordAt 5 bytes) then
     (if isForeign (byteAt 1 bytes) (byteAt 4 bytes) then Refused NotPermitted else
-    Accepted (frame.Command (senderFrom bytes) (Timed (byteAt 4 bytes) (wordAt 5 bytes))))
+    Accepted (Command (senderFrom bytes) (Timed (byteAt 4 bytes) (wordAt 5 bytes))))
     else Refused BadField
 
 -- then repeats 0 to 255, length, sixteen text bytes; ground's alone

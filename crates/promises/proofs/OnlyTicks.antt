@@ -37,7 +37,7 @@ use Rattle.supervisor.proofs.CommandLaws.{by-serial}
 use Rattle.supervisor.proofs.ControlLaws.{Controls, level, upward, downward, controls}
 use Rattle.supervisor.proofs.HistoryLaws.{Works, Comes, stopped, ticking, other, comes}
 use Rattle.supervisor.proofs.TickLaws.{Ticks, waits, runs, ticks, ticked-serials, staged-message}
-use Rattle.promises.specs.OnlyTicks.{OnlyTicks, OthersLeave, TicksLeave, RestLeaves, isOrder, any, isGreeting, doneGreeting}
+use Rattle.promises.specs.OnlyTicks.{OnlyTicks, OthersLeave, TicksLeave, RestLeaves, isOrder, any, isGreetingFrame, doneGreeting}
 use Rattle.promises.proofs.EachModule.{asked-power}
 
 -- a call is a done tick, or it is none
@@ -164,7 +164,7 @@ module _ {Part : Type 0} (look : Ends → List Module → Part) where
 
 -- the message is left by what is neither a tick nor a done greeting
 abbrev Ungreeted : Frame → State → Acted → Type 0
-Ungreeted = Leaves (λ s. s .message) isGreeting
+Ungreeted = Leaves (λ s. s .message) isGreetingFrame
 
 order-ungreeted :
     (f : Frame) (which : ℕ) (on : Bool) (end : ℕ) (s t : State) → t .message ≡ s .message → Ungreeted f s (orderTaken which on end t)
@@ -191,7 +191,7 @@ act-ungreeted (frame.Command sender command) text t s =
     (taken-ungreeted sender command text s (serialUsed sender s) refl)
 
 pub message-leaves : (s : State) (c : Call) → doneTick s c ≡ false → doneGreeting s c ≡ false → called s c .result .state .message ≡ s .message
-message-leaves = rest-leave (λ s. s .message) isGreeting act-ungreeted
+message-leaves = rest-leave (λ s. s .message) isGreetingFrame act-ungreeted
 
 text-leaves :
     (s : State) (c : Call) → doneGreeting s c ≡ false → Turn s c →

@@ -62,14 +62,14 @@ greetingCommand (Thresholds ascend descend) = false
 greetingCommand (Greeting repeats length) = true
 
 -- so is a frame
-abbrev pub isGreeting : About → Bool
-isGreeting (aTick shorts) = false
-isGreeting (aCommand sender command) = greetingCommand command
-isGreeting neither = false
+abbrev pub isGreetingFrame : About → Bool
+isGreetingFrame (aTick shorts) = false
+isGreetingFrame (aCommand sender command) = greetingCommand command
+isGreetingFrame neither = false
 
 -- a done greeting: the input is one, and the answer 0
 abbrev pub doneGreeting : State → Call → Bool
-doneGreeting s c = isGreeting (aboutOf c) && isDone (answered s c)
+doneGreeting s c = isGreetingFrame (aboutOf c) && isDone (answered s c)
 
 -- a call that is no done greeting leaves it as it was
 abbrev pub UngreetedLeave : (Part : Type 0) → (State → Part) → Type 0

@@ -125,7 +125,7 @@ module _
     (P : State → Type 0)
     (tick-keeps : (shorts : ℕ) (s : State) → T (inRange s) → P s → P (ticked shorts s .state))
     (frame-keeps :
-      (f : Frame) (text : List ℕ) → Fits f text → isTick (about (Accepted f)) ≡ false → (s : State) → T (inRange s) → P s → P (actOf f text s .state)) where
+    (f : Frame) (text : List ℕ) → Fits f text → isTick (about (Accepted f)) ≡ false → (s : State) → T (inRange s) → P s → P (actOf f text s .state)) where
   keeps-by : (s : State) (c : Call) → P s → Comes s c → P (called s c .result .state)
   keeps-by s c p (stopped answer w) = rw (w .leaves) p
   keeps-by s c p (ticking shorts w) = rw (w .leaves) (tick-keeps shorts s (w .valid) p)

@@ -75,12 +75,7 @@ impl State {
     }
 
     // 8 or 9 by the serial; a fresh one is used up, and the command is taken.
-    pub(crate) fn command(
-        mut self,
-        sender: Sender,
-        command: Command,
-        text: [u8; LONGEST],
-    ) -> Acted
+    pub(crate) fn command(mut self, sender: Sender, command: Command, text: [u8; LONGEST]) -> Acted
         ensures { λ r. ⌜ r ≡ bySerial sender command text self ⌝ }
     {
         let origin = sender.origin;
