@@ -7,7 +7,7 @@ use mathlib.Core.Bool.{Bool, true, false, _&&_, _||_, true≢false}
 use mathlib.Core.List.{List, [], _∷_, _++_}
 use lib.Dec.{eqb, ltb}
 use lib.ListN.{getD}
-use borrow.Author.Tests.{eqb-true, eqb-false, eq-eqb, ne-eqb, ltb-true, ltb-false}
+use borrow.Author.Tests.{eqb-true, ne-eqb, ltb-true, ltb-false}
 use Rattle.basics.specs.Choice.{if_then_else_}
 use Rattle.basics.proofs.ChoiceLaws.{decided, within-low}
 use Rattle.frames.specs.Answer.{answerNumber}
@@ -26,16 +26,15 @@ use Rattle.supervisor.specs.Message.{messageFrom, isToBeSent}
 use Rattle.supervisor.specs.Due.{dueAt, repeatsAfter, beaconStage}
 use Rattle.supervisor.specs.Tick.{beforeModules, moduleStage, ticked}
 use Rattle.supervisor.specs.Report.{modeByte, beaconByte}
-use Rattle.supervisor.specs.Command.{taken, serialUsed}
 use Rattle.supervisor.specs.Act.{actOf}
-use Rattle.supervisor.specs.History.{Call, called, doneTick}
+use Rattle.supervisor.specs.History.{Call, called}
 use Rattle.supervisor.specs.declared.state.Mode.{Mode}
 use Rattle.supervisor.specs.declared.state.Mode.the-variants.{DeployWait, Recovery, Safe}
 use Rattle.supervisor.specs.declared.state.Message.{Message}
 use Rattle.supervisor.specs.declared.state.State.{State}
 use Rattle.supervisor.specs.declared.acted.Acted.{Acted}
 use Rattle.supervisor.specs.declared.acted.Due.{Due}
-use Rattle.supervisor.specs.declared.acted.Due.the-variants.{Nothing, Basic, Complete, Extended}
+use Rattle.supervisor.specs.declared.acted.Due.the-variants.{Complete, Extended}
 use Rattle.supervisor.proofs.CommandLaws.{by-serial}
 use Rattle.supervisor.proofs.HistoryLaws.{Works, Comes, stopped, ticking, other, comes}
 use Rattle.supervisor.proofs.ReportLaws.{report-due, report-mode}

@@ -5,7 +5,6 @@ use mathlib.Core.Bool.{_||_}
 use mathlib.Core.List.{List}
 use lib.Dec.{T, eqb}
 use Rattle.basics.proofs.ChoiceLaws.{either}
-use Rattle.morse.specs.Signs.{alphabet, signOf}
 use Rattle.morse.specs.Texts.{faultOf}
 use Rattle.frames.specs.Greeting.{isGreeting}
 use Rattle.supervisor.specs.State.{noMessage}

@@ -12,7 +12,7 @@ use crate::state::State;
 use frames::answer::Answer;
 
 impl Mode {
-    // The beacon that is due in this mode at this count, whether or not a message is to be sent.
+    // The beacon that is due in this mode at this count; whether a message is to be sent decides between two.
     fn due(self, greets: bool, count: u16) -> Due
         ensures { λ r. ⌜ r ≡ dueAt self greets count ⌝ }
     {
