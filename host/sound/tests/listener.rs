@@ -2,7 +2,10 @@
 //! written down again by two programs that nobody here wrote, Debian's
 //! `multimon-ng` and `morse2ascii`.
 
-use ems::{answer, Craft, BEACON_BASIC_BYTES, BEACON_COMPLETE_BYTES, REPORT_BYTES, UNITS_BYTES};
+use ems::{
+    answer, Craft, BEACON_BASIC_BYTES, BEACON_COMPLETE_BYTES, BEACON_EXTENDED_BYTES, REPORT_BYTES,
+    UNITS_BYTES,
+};
 use std::io::{self, Write};
 use std::{env, fs, path::Path, process::Command};
 
@@ -47,7 +50,11 @@ fn send(craft: &mut Craft, frame: &[u8], times: usize) {
     }
 }
 
-/// Both beacons of boards in every mode, with modules on and failed.
+/// A greeting from ground, for one beacon: sixteen characters.
+const GREETING: &[u8] = b"\x07\x01\x00\x01\x01\x10HELLO FROM 4B 73";
+
+/// Both beacons of boards in every mode, with modules on and failed; and an
+/// extended one, as long as it can be.
 fn beacons() -> Vec<Vec<u8>> {
     let mut craft = Craft::fresh();
     let mut texts = said(&craft);
@@ -58,7 +65,14 @@ fn beacons() -> Vec<Vec<u8>> {
     send(&mut craft, &[0x02, 0x21, 0x34], 1);
     send(&mut craft, &[0x01, 0x26], 60);
     texts.extend(said(&craft));
-    for text in [b"EMS R 7000 27 00", b"EMS S 8500 01 26"] {
+    send(&mut craft, GREETING, 1);
+    texts.push(greeted(&craft));
+    let known: [&[u8]; 3] = [
+        b"EMS R 7000 27 00",
+        b"EMS S 8500 01 26",
+        b"EMS S 8500 01 26 HELLO FROM 4B 73",
+    ];
+    for text in known {
         assert!(texts.iter().any(|own| own == text));
     }
     texts
@@ -71,6 +85,13 @@ fn said(craft: &Craft) -> Vec<Vec<u8>> {
     assert_eq!(craft.beacon_basic(&mut basic), done(&basic));
     assert_eq!(craft.beacon_complete(&mut complete), done(&complete));
     vec![basic, complete]
+}
+
+fn greeted(craft: &Craft) -> Vec<u8> {
+    let mut extended = vec![0; BEACON_EXTENDED_BYTES];
+    let done = (answer::DONE, extended.len());
+    assert_eq!(craft.beacon_extended(&mut extended), done);
+    extended
 }
 
 /// Has a listener write down every beacon and every sign, at every speed.
