@@ -20,9 +20,8 @@ use Rattle.frames.specs.Reading.{lowestReading, highestReading, isReading, areT
 use Rattle.morse.specs.Signs.{alphabet, signOf, signed}
 use Rattle.morse.specs.Texts.{isSpace, faultOf}
 use Rattle.morse.specs.declared.texts.Fault.the-variants.{Nothing}
-use Rattle.morse.proofs.TextsLaws as texts
-use Rattle.morse.proofs.TextsLaws.{fairly, joined}
-use Rattle.frames.proofs.GreetingLaws as greetings
+use Rattle.morse.proofs.TextsLaws.{fair, fairly, joined}
+use Rattle.supervisor.proofs.MessageLaws.{message-fair}
 use Rattle.supervisor.specs.Range.{batteryInRange, inRange}
 use Rattle.supervisor.specs.declared.state.Battery.{Battery}
 use Rattle.supervisor.proofs.RangeLaws.{parts}
@@ -119,13 +118,13 @@ module _ (s : State) (e : inRange s ≡ true) (eight : Eight s) where
   extended : T (ltb 0 (s .message .length)) → faultOf (extendedText s) ≡ Nothing
   unfolding extendedText
   extended kept =
-      let fair = greetings.fair (s .message .length) (s .message .text) (parts s (holds (inRange s) e) .message) in
+      let limits = message-fair s (holds (inRange s) e) in
       let message = take (s .message .length) (s .message .text) in
-      let long : length message ≡ s .message .length = length-take-le (s .message .length) (s .message .text) (omega (arith, fair .sixteen, fair .most)) in
+      let long : length message ≡ s .message .length = length-take-le (s .message .length) (s .message .text) (omega (arith, limits .sixteen, limits .most)) in
       fairly (completeText s ++ (space ∷ message))
-      (joined (completeText s) message (texts.fair (completeText s) (both .1)) (texts.fair message (fair .keyable))
+      (joined (completeText s) message (fair (completeText s) (both .1)) (fair message (limits .keyable))
       (omega (arith, complete-length s)) (omega (arith, long, ltb→lt 0 (s .message .length) kept))
-      (omega (arith, complete-length s, long, fair .most)))
+      (omega (arith, complete-length s, long, limits .most)))
 
   pub keyable : (form : Form) → T (hasText form (s .message .length)) → faultOf (textOf form s) ≡ Nothing
   keyable Basic had = both .0

@@ -17,13 +17,13 @@ use Rattle.modules.specs.Power.{powerInRange}
 use Rattle.modules.specs.Stage.{modulesInRange}
 use Rattle.modules.specs.declared.power.Module.{Module}
 use Rattle.frames.specs.Greeting.{longestGreeting}
-use Rattle.frames.proofs.GreetingLaws.{fair}
 use Rattle.supervisor.specs.Range.{watchInRange, inRange}
 use Rattle.supervisor.specs.declared.state.Mode.{Mode}
 use Rattle.supervisor.specs.declared.state.Mode.the-variants.{DeployWait, Recovery, Safe}
 use Rattle.supervisor.specs.declared.state.State.{State}
 use Rattle.supervisor.proofs.ModuleLaws.{Eight}
 use Rattle.supervisor.proofs.RangeLaws.{parts, phase-in-range}
+use Rattle.supervisor.proofs.MessageLaws.{message-fair}
 use Rattle.flight.specs.Fields.{pairBytes}
 use Rattle.flight.specs.Codes.{safeCode, modeCode, moduleCode}
 use Rattle.flight.specs.Saving.{imageBytes, messagePlace, endsPlace, modulesPlace}
@@ -38,7 +38,7 @@ length-modules (m ∷ ms) = omega (arith, length-modules ms)
 
 -- sixteen bytes of the message's text
 pub sixteen : (s : State) → inRange s ≡ true → length (s .message .text) ≡ longestGreeting
-sixteen s e = fair (s .message .length) (s .message .text) (parts s (holds (inRange s) e) .message) .sixteen
+sixteen s e = message-fair s (holds (inRange s) e) .sixteen
 
 -- all but the ends and the modules
 abbrev pub frontBytes : State → List ℕ

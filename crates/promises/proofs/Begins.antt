@@ -24,7 +24,7 @@ use Rattle.supervisor.specs.State.{isDeployWait, isSafe, inDeployWait}
 use Rattle.supervisor.specs.Acted.{silent, done}
 use Rattle.supervisor.specs.Act.{actOf}
 use Rattle.supervisor.specs.Command.{isIllTimed, requestSet, taken, serialUsed}
-use Rattle.supervisor.specs.History.{Call, called, answered}
+use Rattle.supervisor.specs.History.{Call, called}
 use Rattle.supervisor.specs.declared.acted.Acted.{Acted}
 use Rattle.supervisor.specs.declared.state.Mode.{Mode}
 use Rattle.supervisor.specs.declared.state.Mode.the-variants.{DeployWait, Recovery, Safe}

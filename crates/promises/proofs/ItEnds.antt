@@ -17,7 +17,7 @@ use Rattle.supervisor.specs.State.{moduleAt}
 use Rattle.supervisor.specs.Acted.{silent, done}
 use Rattle.supervisor.specs.History.{Call, called, answered, isDone, after, aboutOf, doneTick}
 use Rattle.supervisor.specs.declared.state.State.{State}
-use Rattle.supervisor.proofs.HistoryLaws.{comes, called-eight}
+use Rattle.supervisor.proofs.HistoryLaws.{called-eight}
 use Rattle.supervisor.proofs.ModuleLaws.{Eight, mission-low}
 use Rattle.promises.specs.AsTold.{Word, timed, orders, runningTick, ordered, later, crossing, said, lastWord}
 use Rattle.promises.specs.Deployment.{deployed}

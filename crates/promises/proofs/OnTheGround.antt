@@ -20,10 +20,8 @@ use Rattle.supervisor.specs.State.{modeNumber}
 use Rattle.supervisor.specs.declared.state.Mode.{Mode}
 use Rattle.supervisor.specs.declared.state.Mode.the-variants.{DeployWait, Recovery, Safe}
 use Rattle.supervisor.specs.declared.state.State.{State}
-use Rattle.supervisor.proofs.RangeLaws.{parts}
+use Rattle.supervisor.proofs.MessageLaws.{message-fair}
 use Rattle.frames.specs.Greeting.{longestGreeting}
-use Rattle.frames.proofs.GreetingLaws.{Fair}
-use Rattle.frames.proofs.GreetingLaws as greetings
 use Rattle.morse.specs.Units.{unitsOf}
 use Rattle.morse.specs.Texts.{faultOf}
 use Rattle.morse.specs.Keying.{keyOf, keyUnits}
@@ -42,14 +40,10 @@ use Rattle.promises.specs.OnTheGround.{OnTheGround, Whole, Has, HeardWit
 fair : (form : Form) (s : State) → Whole s → Has form s → faultOf (textOf form s) ≡ Nothing
 fair form s w had = keyable s (is-true (inRange s) (w .valid)) (w .eight) form had
 
--- the message is in its limits
-limits : (s : State) → Whole s → Fair (s .message .length) (s .message .text)
-limits s w = greetings.fair (s .message .length) (s .message .text) (parts s (w .valid) .message)
-
 module _ (form : Form) (bytes : ℕ) (enough : (n : ℕ) → n ≤ longestGreeting → formBytes form n ≤ bytes) where
   text-fits : (s : State) → Whole s → (room : List ℕ) → bytes ≤ length room → ltb (length room) (length (textOf form s)) ≡ false
   text-fits s w room h =
-      le-ltb (length room) (length (textOf form s)) (omega (arith, enough (s .message .length) (limits s w .most), text-length s (limits s w) form))
+      le-ltb (length room) (length (textOf form s)) (omega (arith, enough (s .message .length) (message-fair s (w .valid) .most), text-length s (message-fair s (w .valid)) form))
 
   heard : HeardWith form bytes
   unfolding beaconOf keyOf keyUnits readText

@@ -1,5 +1,5 @@
-pub mod MessageLaws
 pub mod RangeLaws
+pub mod MessageLaws
 pub mod ControlLaws
 pub mod ModuleLaws
 pub mod FreshLaws

@@ -6,10 +6,8 @@ use native.Mathlib.Omega.{arith}
 use lib.ListN.{take}
 use borrow.Author.Tests.{not-true, not-false}
 use Rattle.basics.proofs.ChoiceLaws.{holds}
-use Rattle.frames.proofs.GreetingLaws.{Fair, fair}
 use Rattle.supervisor.specs.Range.{inRange}
-use Rattle.supervisor.specs.declared.state.State.{State}
-use Rattle.supervisor.proofs.RangeLaws.{parts}
+use Rattle.supervisor.proofs.MessageLaws.{message-fair}
 use Rattle.beacon.specs.Text.{fullText, hasText, formBytes}
 use Rattle.beacon.proofs.TextLaws.{form-most, text-length, text-front}
 use Rattle.beacon.proofs.WritingLaws.{beacon-outside, beacon-silent, beacon-short, beacon-copied}
@@ -26,10 +24,6 @@ returns c = beacon-outside _ _ _ (sym (c .before .in-range .ensures) ∙ not-tru
 -- check 1 passed
 valid : (c : tie.Else1) → inRange (c .before .before .before .args .state) ≡ true
 valid c = sym (c .before .in-range .ensures) ∙ not-false _ (c .if1 .left)
-
--- so the message is in its limits
-message-fair : (s : State) → inRange s ≡ true → Fair (s .message .length) (s .message .text)
-message-fair s e = fair (s .message .length) (s .message .text) (parts s (holds (inRange s) e) .message)
 
 is-had-requires : tie.Need-is-had-requires
 is-had-requires c κs = search needs
@@ -51,7 +45,7 @@ returns-3 c =
     let test = c .before .before in
     let a = test .before .before .before .before .before .args in
     let e = valid (test .before .before) in
-    beacon-short _ _ _ e (told test) (omega (arith, text-length (a .state) (message-fair (a .state) e) (a .form), c .before .bytes .ensures))
+    beacon-short _ _ _ e (told test) (omega (arith, text-length (a .state) (message-fair (a .state) (holds _ e)) (a .form), c .before .bytes .ensures))
 
 full-text-requires : tie.Need-full-text-requires
 full-text-requires c κs = search needs
@@ -67,7 +61,7 @@ part-copy-end c =
     let sized = c .before .before .before in
     let a = sized .before .before .before .before .before .before .args in
     let e = valid (sized .before .before .before) in
-    omega (arith, form-most (a .form) (a .state .message .length) (message-fair (a .state) e .most), sized .bytes .ensures)
+    omega (arith, form-most (a .form) (a .state .message .length) (message-fair (a .state) (holds _ e) .most), sized .bytes .ensures)
 
 copy-requires : tie.Need-copy-requires
 copy-requires c κs = search needs
@@ -83,7 +77,7 @@ returns-4 c =
     let test = sized .before in
     let a = test .before .before .before .before .before .args in
     let e = valid (test .before .before) in
-    let f = message-fair (a .state) e in
+    let f = message-fair (a .state) (holds _ e) in
     let n : sized .bytes .result - 0 ≡ formBytes (a .form) (a .state .message .length) = omega (arith, sized .bytes .ensures) in
     let src =
     ap (take (sized .bytes .result - 0)) (all .full-text .ensures)
