@@ -1,16 +1,16 @@
 /* ems.h: the power-board supervisor, as C and C++ call it.
  *
  * The library is libflight.a, built by `rt staticlib flight`. Every call is
- * proved to do exactly what its contract says, for all bytes it is given. It
- * allocates nothing, keeps nothing between calls, and always returns.
+ * proved to do exactly what its contract says, for all bytes and numbers it is
+ * given. It allocates nothing, keeps nothing between calls, and always returns.
  *
  * What the proof takes from you, and cannot check:
  *   - every pointer is non-null, also where its length is 0;
  *   - every length is true: that many bytes may be read there (and written,
  *     where the pointer isn't const);
  *   - no two buffers of one call overlap, and `count` or `reported` lies outside
- *     of all;
- *   - one caller at a time for any one buffer.
+ *     of all; nor do `set_point` and `step`;
+ *   - one caller at a time for any one buffer, and for any one such number.
  *
  * What no call catches: an image whose write was interrupted halfway and that
  * happens to be a state in range, and a bit flip that stays within the ranges.
@@ -96,6 +96,12 @@ extern "C" {
 #define EMS_TEXT_BYTES 64
 #define EMS_UNITS_BYTES 1405
 
+/* The greatest voltage of a panel's reading, and the greatest set point; the greatest
+ * current of a reading; the longest step of the set point, either way, in millivolts. */
+#define EMS_MOST_MILLIVOLTS 20000
+#define EMS_MOST_MILLIAMPERES 5000
+#define EMS_LONGEST_STEP 500
+
 /* What a call answers. The checks run in the order that the call's comment gives,
  * which is that of their numbers but for 15 and 21, both before 14; the first that
  * applies is given. */
@@ -122,6 +128,7 @@ enum ems_answer {
     EMS_BAD_SPACE = 13,     /* a space first, last or doubled */
     EMS_NO_ROOM = 14,       /* the room is shorter than the result */
     EMS_NOT_A_KEYING = 15,  /* the units are not exactly the keying of a text */
+    EMS_OUT_OF_RANGE = 16,  /* a reading, the set point or the step is out of range */
     EMS_NO_MESSAGE = 21     /* no message is kept for the extended beacon */
 };
 
@@ -205,6 +212,27 @@ uint8_t ems_key(const uint8_t *text, size_t text_len,
  * EMS_DONE. No units are the empty text. Bytes past the text stay. */
 uint8_t ems_read(const uint8_t *units, size_t units_len,
                  uint8_t *text, size_t text_len, size_t *count);
+
+/* Moves a panel's set point towards the voltage at which the panel gives most. It has
+ * nothing to do with an image.
+ *
+ * Volts are in millivolts, 0 to EMS_MOST_MILLIVOLTS, and so is the set point; amps in
+ * milliamperes, 0 to EMS_MOST_MILLIAMPERES; the step in millivolts, 1 to
+ * EMS_LONGEST_STEP or as much below 0. Power is volts times amps. Where it is less
+ * after the last move than before it, the step turns: it gets the other sign. Then
+ * the set point moves by the step; a move below 0 or past EMS_MOST_MILLIVOLTS stops
+ * there and turns the step, one that just gets there does not. A step keeps its size.
+ *
+ * How to use it, over and over: measure the panel, hold it at the set point, measure
+ * it again, and call with the readings before and after; the one after is the next
+ * call's before. At the first call both may be the same reading: the step then keeps
+ * its sign.
+ *
+ * EMS_DONE, and `*set_point` and `*step` are the next ones; or EMS_OUT_OF_RANGE, and
+ * both stay as they are. */
+uint8_t ems_track(uint32_t volts_before, uint32_t amps_before,
+                  uint32_t volts_after, uint32_t amps_after,
+                  uint32_t *set_point, int32_t *step);
 
 #ifdef __cplusplus
 }

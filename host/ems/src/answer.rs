@@ -34,6 +34,8 @@ pub const BAD_SPACE: u8 = 13;
 pub const NO_ROOM: u8 = 14;
 /// The units are not exactly the keying of a text.
 pub const NOT_A_KEYING: u8 = 15;
+/// A panel's reading, the set point or the step is out of range.
+pub const OUT_OF_RANGE: u8 = 16;
 /// No message is kept for the extended beacon.
 pub const NO_MESSAGE: u8 = 21;
 

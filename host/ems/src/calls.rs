@@ -1,5 +1,5 @@
-//! The calls of `include/ems.h` over slices. All `unsafe` of the workspace is
-//! in this file, in one shape.
+//! The calls of `include/ems.h` over slices, and over numbers that are borrowed. All
+//! `unsafe` of the workspace is in this file, in one shape.
 //!
 //! Why it is sound: the library reads and writes within the lengths it is given
 //! and nowhere else (proved), keeps no pointer and no state between calls, and
@@ -7,8 +7,10 @@
 //! slice is empty. A slice's length is true. A `&mut` slice overlaps nothing
 //! else that is borrowed, and `count` or `reported` is a local of the wrapper.
 //! And nobody else writes to what is borrowed while the call runs, which is what
-//! a borrow means. Any bytes are legal arguments, so nothing has to be checked
-//! first.
+//! a borrow means. Of a `&mut` number all of this holds too. Any bytes and numbers are
+//! legal arguments, so nothing has to be checked first.
+
+use crate::Reading;
 
 mod c {
     extern "C" {
@@ -64,6 +66,14 @@ mod c {
             text: *mut u8,
             text_len: usize,
             count: *mut usize,
+        ) -> u8;
+        pub fn ems_track(
+            volts_before: u32,
+            amps_before: u32,
+            volts_after: u32,
+            amps_after: u32,
+            set_point: *mut u32,
+            step: *mut i32,
         ) -> u8;
     }
 }
@@ -158,4 +168,41 @@ pub fn key(text: &[u8], units: &mut [u8]) -> (u8, usize) {
 /// Reads units back to the text that they are the keying of; answer and length.
 pub fn read(units: &[u8], text: &mut [u8]) -> (u8, usize) {
     counted(c::ems_read, units, text)
+}
+
+/// Moves a panel's set point towards the voltage at which the panel gives most, by its
+/// readings before and after the last move: 0, or 16 with set point and step as they
+/// were.
+///
+/// ```
+/// use ems::{answer, track, Reading};
+///
+/// // A panel that gives most at 12,000 millivolts.
+/// let measured = |millivolts: u32| Reading {
+///     millivolts,
+///     milliamperes: 14_000_u32.saturating_sub(millivolts).min(2_000),
+/// };
+/// let (mut set_point, mut step) = (9_000, 250);
+/// // There was no move before the first: both readings are the same one.
+/// let mut before = measured(set_point);
+/// for _ in 0..100 {
+///     let after = measured(set_point);
+///     let answer = track(before, after, &mut set_point, &mut step);
+///     assert_eq!(answer, answer::DONE);
+///     before = after;
+/// }
+/// assert!(set_point.abs_diff(12_000) <= 2 * step.unsigned_abs());
+/// ```
+pub fn track(before: Reading, after: Reading, set_point: &mut u32, step: &mut i32) -> u8 {
+    // SAFETY: the pointers are those of two numbers borrowed mutably.
+    unsafe {
+        c::ems_track(
+            before.millivolts,
+            before.milliamperes,
+            after.millivolts,
+            after.milliamperes,
+            set_point,
+            step,
+        )
+    }
 }

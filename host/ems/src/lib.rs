@@ -6,7 +6,10 @@
 //!
 //! [`Report`] is what comes back, and [`Passed`] of a whole pass; [`Mode`],
 //! [`Module`] and [`Beacon`] name a report's numbers. Answers are the numbers of
-//! document 01, named in [`answer`].
+//! documents 01 and 02, named in [`answer`].
+//!
+//! [`track`] is the panel tracker, which goes by a panel's [`Reading`]s and has nothing
+//! to do with a board's state.
 //!
 //! ```
 //! use ems::{answer, Craft, Mode, Module, Passed};
@@ -32,13 +35,15 @@ mod craft;
 mod mode;
 mod module;
 mod passed;
+mod reading;
 mod report;
 
-pub use calls::{key, read};
+pub use calls::{key, read, track};
 pub use craft::Craft;
 pub use mode::Mode;
 pub use module::Module;
 pub use passed::Passed;
+pub use reading::{Reading, LONGEST_STEP, MOST_MILLIAMPERES, MOST_MILLIVOLTS};
 pub use report::{Beacon, Report, REPORT_KIND};
 
 /// The bytes of an image; `EMS_IMAGE_BYTES` of the header.
