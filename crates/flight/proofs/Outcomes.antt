@@ -22,6 +22,8 @@ use Rattle.flight.proofs.calls.ems_key as ems-key
 use Rattle.flight.proofs.calls.ems_key.Reads as ems-key-reads
 use Rattle.flight.proofs.calls.ems_read as ems-read
 use Rattle.flight.proofs.calls.ems_read.Reads as ems-read-reads
+use Rattle.flight.proofs.calls.ems_track as ems-track
+use Rattle.flight.proofs.calls.ems_track.Reads as ems-track-reads
 
 pub ems-fresh-one : OneOutcome ems-fresh.ended ems-fresh-reads.Asked ems-fresh-reads.Learnt
 ems-fresh-one = record { taken = λ κs a. tt; one = λ κs a x y p q i. ((p ∙ sym q) i .answer, ((p ∙ sym q) i .image, tt)) }
@@ -80,4 +82,11 @@ ems-read-one =
           let e : outcome (reply (x .0) (x .1 .1 .1 .0)) (x .1 .1 .0) ≡ outcome (reply (y .0) (y .1 .1 .1 .0)) (y .1 .1 .0) =
           p .same ∙ ap (replied readReply) heard ∙ sym (q .same) in
           λ i. (e i .result .number, (tt, (e i .room, (e i .result .count, tt))));
+    }
+
+pub ems-track-one : OneOutcome ems-track.ended ems-track-reads.Asked ems-track-reads.Learnt
+ems-track-one =
+    record {
+      taken = λ κs a. tt;
+      one = λ κs a x y p q i. let both = (p ∙ sym q) i in (both .number, (tt, (tt, (tt, (tt, (both .point, (both .step, tt)))))));
     }

@@ -5,6 +5,7 @@ use mathlib.Core.Path.{_≡_}
 use mathlib.Core.List.{List}
 use mathlib.Core.Option.{Option, none, some}
 use lib.Dec.{eqb}
+use lib.IntN.{ℤ}
 use lib.ListN.{length}
 use Rattle.basics.specs.Choice.{if_then_else_}
 use Rattle.basics.specs.Outcome.{Outcome, outcome, Reply, reply}
@@ -22,6 +23,8 @@ use Rattle.beacon.specs.Writing.{beaconOf}
 use Rattle.beacon.specs.declared.text.Form.{Form}
 use Rattle.beacon.specs.declared.writing.Written.{Written}
 use Rattle.beacon.specs.declared.writing.Written.the-variants.{BadState}
+use Rattle.tracker.specs.Tracker.{trackNumber, trackOf}
+use Rattle.tracker.specs.declared.Tracked.{Tracked}
 use Rattle.flight.specs.Saving.{imageBytes, saved}
 use Rattle.flight.specs.Loading.{loaded}
 
@@ -90,3 +93,26 @@ pub record ReadReplied (units room : List ℕ) (after : Outcome Reply) : Type 0 
   pub heard : Outcome Heard
   pub read : Read units room heard
   pub same : after ≡ replied readReply heard
+
+-- the tracker: the number of its answer, and the later set point and step
+pub record Tracks : Type 0 where
+  pub number : ℕ
+  pub point : ℕ
+  pub step : ℤ
+
+-- from its three parts
+abbrev pub tracks : (number point : ℕ) (step : ℤ) → Tracks
+tracks number point step = record { number = number; point = point; step = step }
+
+-- what a call of it hands back, by its number
+abbrev pub trackedTo : Tracked → Tracks
+trackedTo t = tracks (trackNumber (t .answer)) (t .point) (t .step)
+
+-- a call of it, the readings as four numbers
+unfoldable pub tracksOf : (voltsBefore ampsBefore voltsAfter ampsAfter point : ℕ) (step : ℤ) → Tracks
+tracksOf voltsBefore ampsBefore voltsAfter ampsAfter point step =
+    trackedTo
+    (trackOf
+    (record { millivolts = voltsBefore; milliamperes = ampsBefore })
+    (record { millivolts = voltsAfter; milliamperes = ampsAfter })
+    point step)

@@ -6,7 +6,7 @@ ghost use Rattle.morse.specs.Keying.{keyReply, keyOf};
 ghost use Rattle.beacon.specs.Writing.{writtenReply};
 ghost use Rattle.beacon.specs.declared.text.Form.the-variants as form;
 ghost use Rattle.flight.specs.Calls.{imaged, freshImage, stepImage, passImage};
-ghost use Rattle.flight.specs.Calls.{beaconImage, replied, ReadReplied};
+ghost use Rattle.flight.specs.Calls.{beaconImage, replied, ReadReplied, tracks, tracksOf};
 use crate::loading::decode;
 use crate::loading::has_layout;
 use crate::saving::IMAGE_BYTES;
@@ -15,6 +15,7 @@ use beacon::text::Form;
 use beacon::writing::Written;
 use frames::answer::Answer;
 use supervisor::fresh::fresh;
+use tracker::Reading;
 
 // Writes the image of the fresh start.
 #[no_mangle]
@@ -136,4 +137,32 @@ pub extern "C" fn ems_read(units: &[u8], text: &mut [u8], count: &mut usize) -> 
     let heard = hearing::read(units, text);
     *count = heard.count();
     heard.number()
+}
+
+// One call of the panel tracker: the set point moves, and the step is told; refused, both stay.
+#[no_mangle]
+pub extern "C" fn ems_track(
+    volts_before: u32,
+    amps_before: u32,
+    volts_after: u32,
+    amps_after: u32,
+    set_point: &mut u32,
+    step: &mut i32,
+) -> u8
+    ensures { λ r. ⌜ tracks r (now (set_point .exit)) (now (step .exit))
+        ≡ tracksOf volts_before amps_before volts_after amps_after (now (set_point .entry)) (now (step .entry)) ⌝ }
+{
+    let before = Reading {
+        millivolts: volts_before,
+        milliamperes: amps_before,
+    };
+    let after = Reading {
+        millivolts: volts_after,
+        milliamperes: amps_after,
+    };
+    let tracked = tracker::track(before, after, *set_point, *step);
+    let answer = tracked.answer;
+    *set_point = tracked.point;
+    *step = tracked.step;
+    answer.number()
 }

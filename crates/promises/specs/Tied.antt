@@ -13,6 +13,7 @@ use Rattle.pass.specs.Flight.{passed}
 use Rattle.morse.specs.Keying.{keyOf}
 use Rattle.hearing.specs.Reading.{Read}
 use Rattle.beacon.specs.Writing.{beaconOf}
+use Rattle.tracker.specs.Tracker.{trackOf}
 use Rattle.supervisor.proofs.step.step as step
 use Rattle.supervisor.proofs.step.step.Reads as step-reads
 use Rattle.pass.proofs.pass as pass
@@ -23,13 +24,17 @@ use Rattle.hearing.proofs.reading.read as read
 use Rattle.hearing.proofs.reading.read.Reads as read-reads
 use Rattle.beacon.proofs.writing.write as write
 use Rattle.beacon.proofs.writing.write.Reads as write-reads
-use Rattle.flight.specs.Calls.{imaged, freshImage, stepImage, passImage}
+use Rattle.tracker.proofs.track as track
+use Rattle.tracker.proofs.track.Reads as track-reads
+use Rattle.flight.specs.Calls.{imaged, freshImage, stepImage, passImage, tracks, tracksOf}
 use Rattle.flight.proofs.calls.ems_fresh as ems-fresh
 use Rattle.flight.proofs.calls.ems_fresh.Reads as ems-fresh-reads
 use Rattle.flight.proofs.calls.ems_step as ems-step
 use Rattle.flight.proofs.calls.ems_step.Reads as ems-step-reads
 use Rattle.flight.proofs.calls.ems_pass as ems-pass
 use Rattle.flight.proofs.calls.ems_pass.Reads as ems-pass-reads
+use Rattle.flight.proofs.calls.ems_track as ems-track
+use Rattle.flight.proofs.calls.ems_track.Reads as ems-track-reads
 
 -- a function's contract says of what a call leaves, its result and the last value of what it was lent, just what a
 -- definition says
@@ -62,6 +67,10 @@ pub record Tied : Type 0 where
   pub write :
       Says write.ended write-reads.Learnt
       (λ κs a x. outcome (x .0) (x .1 .1 .1 .0) ≡ beaconOf (a .1 .0) (a .0) (a .1 .1 .0 .now))
+  -- track(before, after, point, step)
+  pub track :
+      Says track.ended track-reads.Learnt
+      (λ κs a x. x .0 ≡ trackOf (a .0) (a .1 .0) (a .1 .1 .0) (a .1 .1 .1 .0))
   -- ems_fresh(image), ems_step(image, frame, room) and ems_pass(image, frames, room, reported), which C calls
   pub ems-fresh :
       Says ems-fresh.ended ems-fresh-reads.Learnt (λ κs a x. imaged (x .0) (x .1 .0) ≡ freshImage (a .0 .now))
@@ -74,3 +83,11 @@ pub record Tied : Type 0 where
       (λ κs a x.
       outcome (imaged (reply (x .0) (x .1 .1 .1 .1 .0)) (x .1 .0)) (x .1 .1 .1 .0)
       ≡ passImage (a .0 .now) (a .1 .0 .now) (a .1 .1 .0 .now))
+  -- ems_track(volts_before, amps_before, volts_after, amps_after, set_point, step)
+  pub ems-track :
+      Says ems-track.ended ems-track-reads.Learnt
+      (λ κs a x.
+      let lent = a .1 .1 .1 .1 in
+      let last = x .1 .1 .1 .1 .1 in
+      tracks (x .0) (last .0) (last .1 .0)
+      ≡ tracksOf (a .0) (a .1 .0) (a .1 .1 .0) (a .1 .1 .1 .0) (lent .0 .now) (lent .1 .0 .now))
