@@ -4,11 +4,11 @@ use std::{fmt, io};
 
 /// Wrong usage, or a file that can't be read or written.
 pub const USAGE: u8 = 1;
-/// The board, the keyer or the reader refused what it was given.
+/// The board, the keyer, the reader or the tracker refused what it was given.
 pub const REFUSED: u8 = 2;
-/// `compare`: the two flights are not those that the promise speaks of.
+/// `compare`, `track`: the flights, or the walk, are not what the promise speaks of.
 pub const PREMISES: u8 = 3;
-/// `compare`: they are, and what is promised doesn't hold.
+/// `compare`, `track`: they are, and what is promised doesn't hold.
 pub const CONCLUSIONS: u8 = 4;
 
 /// Why a command ended, and with which status.

@@ -11,6 +11,7 @@ mod failure;
 mod few;
 mod flight;
 mod image;
+mod mistake;
 mod morse;
 mod output;
 mod pass;
@@ -24,6 +25,8 @@ mod story;
 mod stream;
 mod tables;
 mod telling;
+mod text;
+mod track;
 mod words;
 
 use args::{Command, Line};
@@ -62,6 +65,7 @@ fn run(command: &Command) -> Result<(), Failure> {
         Command::Read(read) => commands::read::run(read),
         Command::Compare(compare) => commands::compare::run(compare),
         Command::Image(image) => commands::image::run(image),
+        Command::Track(track) => commands::track::run(track),
     }
 }
 

@@ -2,7 +2,7 @@
 
 use crate::args::{As, Flight};
 use crate::closed;
-use crate::failure::{Failure, USAGE};
+use crate::failure::Failure;
 use crate::script::{Script, Sending};
 use crate::words::{thousands, visible};
 use std::fmt;
@@ -101,10 +101,7 @@ impl Opened {
     /// The frames that a script sends.
     fn script(self) -> Result<Source, Failure> {
         let (name, content) = self.whole()?;
-        let script = Script::read(content).map_err(|mistakes| Failure {
-            status: USAGE,
-            messages: mistakes.show(&name),
-        })?;
+        let script = Script::read(content).map_err(|mistakes| mistakes.failure(&name))?;
         let length = Some(script.length);
         let sent = Sending::new(script);
         Ok(Source {

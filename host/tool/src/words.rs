@@ -16,6 +16,17 @@ pub fn thousands(number: u64) -> String {
     text
 }
 
+/// A number that is not negative, with so many places at most: `1894.41` as `1,894.41`.
+pub fn rounded(number: f64, places: usize) -> String {
+    let text = format!("{number:.places$}");
+    let (whole, decimals) = text.split_once('.').unwrap_or((&text, ""));
+    let whole = whole.parse().map_or_else(|_| whole.to_string(), thousands);
+    match decimals.trim_end_matches('0') {
+        "" => whole,
+        decimals => format!("{whole}.{decimals}"),
+    }
+}
+
 /// `a, b and c`.
 pub fn list(items: &[String]) -> String {
     match items {
@@ -102,6 +113,10 @@ mod tests {
     fn numbers_have_thousands_and_things_their_plural() {
         assert_eq!(thousands(999), "999");
         assert_eq!(thousands(1_234_567), "1,234,567");
+        assert_eq!(rounded(1_894.41, 3), "1,894.41");
+        assert_eq!(rounded(2.0, 2), "2");
+        assert_eq!(rounded(99.96, 1), "100");
+        assert_eq!(rounded(1_500.0, 0), "1,500");
         assert_eq!(count(1, "try"), "1 try");
         assert_eq!(count(1_290, "try"), "1,290 tries");
         assert_eq!(count(0, "frame"), "0 frames");

@@ -102,6 +102,11 @@ fn commands_of_pass_scripts_give_what_stands_there() {
 }
 
 #[test]
+fn commands_of_the_panel_tracker_give_what_stands_there() {
+    assert!(run_document("docs/PANEL-TRACKER.md") >= 6);
+}
+
+#[test]
 fn commands_of_the_icd_give_what_stands_there() {
     assert!(run_document("docs/ICD.md") >= 11);
 }
@@ -272,13 +277,19 @@ fn the_stack_that_the_icd_gives_is_enough() {
 fn every_word_can_be_looked_up() {
     let help: Vec<String> = [
         "--help", "log", "frames", "uplink", "show", "plot", "beacon", "key", "read", "compare",
-        "image",
+        "image", "track",
     ]
     .iter()
     .map(|command| run(&[command, "--help"]).status(0).text().to_string())
     .collect();
     let text = |document: &str| fs::read_to_string(root().join(document)).expect("the document");
-    let documents = ["docs/ICD.md", "docs/PASS-SCRIPTS.md", "include/ems.h"].map(text);
+    let documents = [
+        "docs/ICD.md",
+        "docs/PANEL-TRACKER.md",
+        "docs/PASS-SCRIPTS.md",
+        "include/ems.h",
+    ]
+    .map(text);
     for said in documents.iter().chain(&help) {
         let words = said
             .to_lowercase()

@@ -38,6 +38,60 @@ fn each_picture_in_the_docs_is_what_is_drawn() {
     }
 }
 
+/// The panels' curves, each with its picture's title, and the status that the walk from
+/// 3,000 mV on ends with.
+const PANELS: [(&str, &str, i32); 2] = [
+    ("panel", "The tracker on a panel in full sun", 0),
+    ("shaded-panel", "The tracker on a panel with a shadow", 3),
+];
+
+/// Walks on a panel's curve, with further arguments.
+fn tracked(name: &str, more: &[&str]) -> common::Ran {
+    let curve = format!("examples/{name}.csv");
+    let args = [
+        "track", &curve, "--start", "3000", "--step", "100", "--calls", "200",
+    ];
+    run(&[&args[..], more].concat())
+}
+
+#[test]
+fn each_panel_is_tracked_as_expected() {
+    for (name, title, status) in PANELS {
+        let ran = tracked(name, &[]).status(status);
+        is_file(&format!("host/tool/tests/expected/{name}.txt"), &ran.out);
+        let ran = tracked(name, &["--title", title, "-o", "-"]).status(status);
+        assert!(ran.out.len() < 30_000, "{name}: {} bytes", ran.out.len());
+        is_file(&format!("docs/{name}.svg"), &ran.out);
+    }
+}
+
+/// What is said of `panel.csv`: the walk crosses the peak, and what is promised holds of
+/// it.
+#[test]
+fn a_panel_in_full_sun_is_one_that_the_promise_speaks_of() {
+    tracked("panel", &[])
+        .status(0)
+        .prints("Call 14 is the first to cross it, from 4,300 mV to 4,400 mV.\n")
+        .prints("is between 4,200 mV and 4,500 mV: at most 160 mV from the peak, 1.6 steps.\n")
+        .prints("of the peak: holds.\n");
+}
+
+/// What is said of `shaded-panel.csv`: the walk stays on the lower of two peaks; from
+/// where the higher one is, on that.
+#[test]
+fn a_panel_with_a_shadow_has_two_peaks() {
+    tracked("shaded-panel", &[])
+        .status(3)
+        .prints("The curve's peak is at 1,798 mV: 773.31 mW.\n")
+        .prints(" Nor with 50,000 more.\n")
+        .prints("\nSo nothing is promised.\n")
+        .says("fall strictly past the peak, and from 3,000 mV to 3,100 mV they don't: 420 mW, then 434 mW");
+    run(&["track", "examples/shaded-panel.csv", "--start", "1500"])
+        .status(0)
+        .prints("is between 1,700 mV and 1,900 mV: ")
+        .prints("of the peak: holds.\n");
+}
+
 #[test]
 fn the_sister_craft_are_compared_as_expected() {
     let (a, b) = (

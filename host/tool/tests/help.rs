@@ -4,8 +4,8 @@ mod common;
 
 use common::run;
 
-const COMMANDS: [&str; 10] = [
-    "log", "frames", "uplink", "show", "plot", "beacon", "key", "read", "compare", "image",
+const COMMANDS: [&str; 11] = [
+    "log", "frames", "uplink", "show", "plot", "beacon", "key", "read", "compare", "image", "track",
 ];
 
 #[test]
@@ -34,6 +34,19 @@ fn help_says_how_a_greeting_is_read() {
         .prints("if a greeting is kept")
         .prints("with none kept, the status\nis 2.\n")
         .prints("\n  ems beacon --all examples/school.pass\n");
+}
+
+#[test]
+fn help_says_what_a_curve_is_and_what_is_promised() {
+    run(&["track", "--help"])
+        .status(0)
+        .prints("the head line millivolts,milliamperes and rows")
+        .prints("at the last no current flows any more")
+        .prints("never\nmore than two steps from the peak")
+        .prints("3 the premises don't hold")
+        .prints(
+            "\n  ems track examples/panel.csv --start 3000 --step 100 --calls 200 -o track.svg\n",
+        );
 }
 
 #[test]

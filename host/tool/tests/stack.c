@@ -62,6 +62,19 @@ static void key(void) {
 
 static void read_back(void) { ems_read(units, count, text, sizeof text, &count); }
 
+/* A set point that goes on, turns, stops at both ends, and is refused. */
+static void track(void) {
+    static uint32_t set_point = 19900;
+    static int32_t step = 70;
+    int calls;
+    for (calls = 0; calls < 4; calls++)
+        ems_track(4300, 440, 4400, 430, &set_point, &step);
+    set_point = 60;
+    ems_track(4400, 430, 4500, 413, &set_point, &step);
+    ems_track(4400, 430, 4500, 413, &set_point, &step);
+    ems_track(4400, 430, 4500, 5001, &set_point, &step);
+}
+
 /* The bytes of the stack that a call has painted over. */
 static size_t taken(void (*call)(void)) {
     size_t left = 0;
@@ -93,5 +106,6 @@ int main(void) {
     measure("ems_beacon_extended", extended);
     measure("ems_key", key);
     measure("ems_read", read_back);
+    measure("ems_track", track);
     return 0;
 }

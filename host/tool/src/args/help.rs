@@ -12,7 +12,8 @@ Example:
   ems log --explain examples/dawn.pass
 
 Exit status: 0 done; 1 wrong usage, or a file that can't be read or written, or is no
-image; 2 a frame, a text or units were refused; `compare` has 3 and 4 too.";
+image or curve; 2 a frame, a text, units or a call were refused; `compare` and `track`
+have 3 and 4 too.";
 
 pub const LOG: &str = "\
 Ends at the first frame that is refused with 4 to 7, with status 2 and the reason on
@@ -112,3 +113,27 @@ Examples:
   ems image --after examples/dawn.pass
   ems image saved.bin
   ems image --hex - < dump.txt";
+
+pub const TRACK: &str = "\
+The curve is a CSV file: the head line millivolts,milliamperes and rows of these in the
+order of their voltage. The first is at 0 mV; at the last no current flows any more, and
+past it none does. Between two rows the current is on a straight line. Currents may have
+decimals, and the meter reads whole milliamperes. From # to the end of a line is a
+comment.
+
+The promise: where the readings rise strictly up to one peak and fall strictly past it,
+and the peak is two steps or more from 0 mV and from 20,000 mV, the set point is never
+more than two steps from the peak once a move has come from one side of it, or from it,
+to the other side, or to it. The readings are looked at where the walk came by.
+
+Every move is a call of ems_track. At the first one nothing has moved yet: both readings
+are the start's.
+
+Exit status: 0 premises and conclusion hold, or the walk has not come to the peak yet;
+3 the premises don't hold; 4 they do and the conclusion doesn't (never seen: it is
+proved); 2 a call was refused.
+
+Examples:
+  ems track examples/panel.csv --start 3000 --step 100 --calls 200 -o track.svg
+  ems track examples/panel.csv --start 4900 --step -20
+  ems track examples/shaded-panel.csv --start 3000 --table";

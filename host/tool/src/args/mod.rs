@@ -47,6 +47,9 @@ pub enum Command {
     /// A board's image in words: what a caller keeps over a reset
     #[command(after_help = help::IMAGE)]
     Image(Image),
+    /// The panel tracker on a panel's curve: where the set point goes, and stays
+    #[command(after_help = help::TRACK)]
+    Track(Track),
 }
 
 /// A flight: what is sent to a board from the fresh start on.
@@ -221,4 +224,34 @@ pub struct Image {
     /// Flies on after a frame that is refused with 6 or 7
     #[arg(long, requires = "after")]
     pub keep_going: bool,
+}
+
+#[derive(Args, Debug)]
+pub struct Track {
+    /// The panel's curve, rows of millivolts and milliamperes; `-` is standard input
+    pub curve: PathBuf,
+    /// The set point before the first call, in millivolts
+    #[arg(long, value_name = "MV")]
+    pub start: u32,
+    /// The step of the first call in millivolts: with a minus it goes down
+    #[arg(
+        long,
+        value_name = "MV",
+        default_value_t = 100,
+        allow_negative_numbers = true
+    )]
+    pub step: i32,
+    /// How many calls are made, 1 to 1,000,000
+    #[arg(long, value_name = "N", default_value_t = 200,
+          value_parser = clap::value_parser!(u32).range(1..=1_000_000))]
+    pub calls: u32,
+    /// Where the picture goes; `-` is standard output, and then nothing else goes there
+    #[arg(short, long, value_name = "FILE")]
+    pub output: Option<PathBuf>,
+    /// The picture's title [default: the curve's file name]
+    #[arg(long, value_name = "TEXT", requires = "output")]
+    pub title: Option<String>,
+    /// A row of CSV for the start and for each call, instead of words
+    #[arg(long)]
+    pub table: bool,
 }

@@ -11,4 +11,5 @@ pub mod log;
 pub mod plot;
 pub mod read;
 pub mod show;
+pub mod track;
 pub mod uplink;

@@ -6,6 +6,7 @@ use crate::flight::Flight;
 use crate::output::{self, Output};
 use crate::plot::{draw, Record, View};
 use std::io::Write;
+use std::path::Path;
 
 pub fn run(plot: &Plot) -> Result<(), Failure> {
     output::spare(&plot.flight.file, &plot.output)?;
@@ -16,17 +17,16 @@ pub fn run(plot: &Plot) -> Result<(), Failure> {
     }
     let view = View::of(&record, plot.from, plot.to).map_err(Failure::usage)?;
     let mut output = Output::at(&plot.output)?;
-    output.write_all(draw(&view, &title(plot, &flight)).as_bytes())?;
+    let title = title(plot.title.as_deref(), &plot.flight.file, flight.name());
+    output.write_all(draw(&view, &title).as_bytes())?;
     output.flush()?;
     flight.end()
 }
 
-/// The title that was given, or the file's name.
-fn title(plot: &Plot, flight: &Flight) -> String {
-    let file = plot.flight.file.file_name();
-    let name = file
-        .filter(|name| *name != "-")
-        .map(|name| name.to_string_lossy().into_owned());
-    let given = plot.title.clone().or(name);
-    given.unwrap_or_else(|| flight.name().to_string())
+/// The title that was given, or the file's name; standard input has one of its own.
+pub fn title(given: Option<&str>, file: &Path, name: &str) -> String {
+    let file = file.file_name().filter(|name| *name != "-");
+    let file = file.map(|name| name.to_string_lossy().into_owned());
+    let given = given.map(str::to_string).or(file);
+    given.unwrap_or_else(|| name.to_string())
 }

@@ -16,15 +16,20 @@ const AFTER: f64 = 14.0;
 const SIZE: u32 = 12;
 
 /// Draws a sign at its left middle.
-type Sign = Box<dyn Fn(&mut Svg, f64, f64)>;
+pub type Sign = Box<dyn Fn(&mut Svg, f64, f64)>;
 
 /// A subject, and its signs with their meanings.
-type Group = (&'static str, Vec<(Sign, String)>);
+pub type Group = (&'static str, Vec<(Sign, String)>);
 
-/// The legend; gives where it ends.
+/// A flight's legend; gives where it ends.
 pub fn draw(svg: &mut Svg, view: &View, y: f64) -> f64 {
+    rows(svg, groups(view), y)
+}
+
+/// Signs in rows; gives where they end.
+pub fn rows(svg: &mut Svg, groups: impl IntoIterator<Item = Group>, y: f64) -> f64 {
     let (mut x, mut y) = (LEFT, y);
-    for (subject, signs) in groups(view) {
+    for (subject, signs) in groups {
         let wide = |text: &str| width(text, SIZE) + AFTER;
         let all: f64 = signs.iter().map(|(_, meaning)| SIGN + wide(meaning)).sum();
         if x > LEFT && x + wide(subject) + all > WIDTH {
@@ -53,7 +58,7 @@ fn groups(view: &View) -> [Group; 6] {
 }
 
 /// A sign with its meaning.
-fn sign(draw: impl Fn(&mut Svg, f64, f64) + 'static, meaning: &str) -> (Sign, String) {
+pub fn sign(draw: impl Fn(&mut Svg, f64, f64) + 'static, meaning: &str) -> (Sign, String) {
     (Box::new(draw), meaning.to_string())
 }
 

@@ -1,8 +1,9 @@
-//! A flight as a picture. It is black and white: what differs, differs in shape,
-//! pattern or place.
+//! A flight as a picture, and a walk on a panel's curve. Both are black and white: what
+//! differs, differs in shape, pattern or place.
 
 mod axis;
 mod beacons;
+mod dense;
 mod ends;
 mod events;
 mod layout;
@@ -12,8 +13,10 @@ mod marks;
 mod modes;
 mod modules;
 mod record;
+mod scale;
 mod svg;
 mod tension;
+pub mod tracker;
 mod view;
 
 pub use record::Record;
@@ -23,7 +26,7 @@ use crate::words::{clock, count};
 use events::Events;
 use svg::{cut, width, Align, Svg};
 
-/// The picture's width, and where the time axis begins and ends in it.
+/// The picture's width, and where its panels begin and end in it.
 const WIDTH: f64 = 1000.0;
 const LEFT: f64 = 92.0;
 const RIGHT: f64 = 890.0;
@@ -63,8 +66,13 @@ fn head(svg: &mut Svg, view: &View, title: &str) {
         true => format!("{frames}, {end}"),
         false => format!("{} of {end}", view::span(view.from, view.to)),
     };
-    let room = RIGHT - LEFT - width(&said, 12) - GAP;
+    heading(svg, title, &said);
+}
+
+/// A title, and what is said beside it.
+fn heading(svg: &mut Svg, title: &str, said: &str) {
+    let room = RIGHT - LEFT - width(said, 12) - GAP;
     svg.title(title);
     svg.text(LEFT, 26.0, 18, Align::Start, &cut(title, 18, room));
-    svg.text(RIGHT, 26.0, 12, Align::End, &said);
+    svg.text(RIGHT, 26.0, 12, Align::End, said);
 }

@@ -57,6 +57,12 @@ impl Svg {
         self.add(format_args!("<title>{}</title>", escaped(text)));
     }
 
+    /// What the picture shows, for readers of the file that don't see it.
+    pub fn description(&mut self, text: &str) {
+        let lines: Vec<String> = text.lines().map(escaped).collect();
+        self.add(format_args!("<desc>{}</desc>", lines.join("\n")));
+    }
+
     pub fn text(&mut self, x: f64, y: f64, size: u32, align: Align, text: &str) {
         self.styled(x, y, size, align, "", text);
     }
@@ -162,12 +168,17 @@ impl Svg {
 
 /// The path of a shape with corners.
 pub fn polygon(corners: &[(f64, f64)]) -> String {
+    polyline(corners) + "Z"
+}
+
+/// The path of a line from place to place.
+pub fn polyline(places: &[(f64, f64)]) -> String {
     let mut path = String::new();
-    for (at, &(x, y)) in corners.iter().enumerate() {
+    for (at, &(x, y)) in places.iter().enumerate() {
         let to = if at == 0 { 'M' } else { 'L' };
         let _ = write!(path, "{to}{} {}", short(x), short(y));
     }
-    path + "Z"
+    path
 }
 
 /// A tenth of a unit is fine enough.

@@ -1,7 +1,8 @@
 //! The tension, and the two thresholds it is judged by.
 
+use super::dense::{band, COLUMNS};
 use super::record::Stretch;
-use super::svg::{polygon, short, Align, Svg};
+use super::svg::{short, Align, Svg};
 use super::view::View;
 use super::{LEFT, RIGHT};
 use crate::words::thousands;
@@ -15,9 +16,6 @@ const LABEL: f64 = 14.0;
 /// Millivolts between two lines of the grid, the first that gives few enough.
 const STEPS: [u16; 4] = [100, 200, 500, 1_000];
 const LINES: u16 = 8;
-
-/// The columns of the panel.
-const COLUMNS: usize = (RIGHT - LEFT) as usize;
 
 /// From millivolts to places.
 struct Height {
@@ -114,7 +112,10 @@ fn grid(svg: &mut Svg, height: &Height) {
 fn line(svg: &mut Svg, view: &View, height: &Height, curve: &Curve, rimmed: bool) {
     if curve.is_dense() {
         let about = format!("{}, the least to the greatest", curve.name);
-        svg.path(&band(view, height, &curve.stretches), "band", &about);
+        let stretches = curve.stretches.iter();
+        let stretches =
+            stretches.map(|one| (view.x(one.from), view.x(one.to), height.y(one.value)));
+        svg.path(&band(stretches), "band", &about);
         return;
     }
     let steps = steps(view, height, &curve.stretches);
@@ -137,26 +138,6 @@ fn steps(view: &View, height: &Height, stretches: &[Stretch<u16>]) -> String {
         };
     }
     path
-}
-
-/// The shape between the greatest and the least value of every column.
-fn band(view: &View, height: &Height, stretches: &[Stretch<u16>]) -> String {
-    let mut columns: [Option<(u16, u16)>; COLUMNS + 1] = [None; COLUMNS + 1];
-    let column = |second: u64| (view.x(second) - LEFT) as usize;
-    for Stretch { from, to, value } in stretches {
-        for seen in &mut columns[column(*from)..=column(*to)] {
-            let (least, greatest) = seen.unwrap_or((*value, *value));
-            *seen = Some((least.min(*value), greatest.max(*value)));
-        }
-    }
-    let seen = columns.iter().enumerate().filter_map(|(at, seen)| {
-        let x = LEFT + at as f64;
-        seen.map(|(least, greatest)| (x, height.y(least), height.y(greatest)))
-    });
-    let seen: Vec<(f64, f64, f64)> = seen.collect();
-    let over = seen.iter().map(|&(x, _, greatest)| (x, greatest));
-    let under = seen.iter().rev().map(|&(x, least, _)| (x, least));
-    polygon(&over.chain(under).collect::<Vec<(f64, f64)>>())
 }
 
 /// The last values, beside the panel.

@@ -2,6 +2,7 @@
 
 use super::expected::Expected;
 use super::quoted::QUOTE;
+use crate::mistake;
 
 /// What is left of a line that is being read.
 #[derive(Clone)]
@@ -13,19 +14,8 @@ pub struct Reader<'a> {
     next: Option<(usize, &'a str)>,
 }
 
-/// What is wrong with a line: where, and what was expected there.
-#[derive(Debug)]
-pub struct Wrong<'a> {
-    /// The line's number, from 1.
-    pub line: usize,
-    /// The whole line.
-    pub text: &'a str,
-    /// Where in it the wrong word begins, in bytes; or the last one ends, after
-    /// which one is missing.
-    pub at: usize,
-    pub word: Option<&'a str>,
-    pub expected: Expected,
-}
+/// What is wrong with a line of a script.
+pub type Wrong<'a> = mistake::Wrong<'a, Expected>;
 
 impl<'a> Reader<'a> {
     pub fn new(number: usize, text: &'a str) -> Reader<'a> {

@@ -65,6 +65,10 @@ fn row(number: u8) -> (&'static str, &'static str) {
             "not a keying",
             "the units are not exactly the keying of a text",
         ),
+        answer::OUT_OF_RANGE => (
+            "out of range",
+            "a reading, set point or step is out of range",
+        ),
         answer::NO_MESSAGE => ("no message", "no greeting is kept"),
         _ => ("", ""),
     }

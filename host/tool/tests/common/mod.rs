@@ -49,6 +49,12 @@ impl Ran {
         self
     }
 
+    /// Asserts what the first line of the messages is.
+    pub fn says_first(self, line: &str) -> Ran {
+        assert_eq!(self.err.lines().next(), Some(line));
+        self
+    }
+
     /// Asserts that the result holds a text.
     pub fn prints(self, text: &str) -> Ran {
         assert!(self.text().contains(text), "{} lacks {text:?}", self.text());

@@ -1,9 +1,10 @@
-//! A mistake as it is shown: its place, what was expected there, and the line.
+//! Mistakes in a text that people write: each with its place, what was expected there,
+//! and the line.
 
-use super::expected::Expected;
-use super::reader::Wrong;
+use crate::failure::{Failure, USAGE};
 use crate::few::Few;
 use crate::words::{thousands, visible};
+use std::fmt::Display;
 use unicode_width::UnicodeWidthChar;
 
 /// Of a long line, so many characters are shown before the wrong word, and so
@@ -14,7 +15,21 @@ const FROM: usize = 60;
 /// Stands for what is left out.
 const CUT: &str = "...";
 
-/// Everything wrong with a script: the first few, and how many more there are.
+/// What is wrong with a line: where, and what was expected there.
+#[derive(Debug)]
+pub struct Wrong<'a, E> {
+    /// The line's number, from 1.
+    pub line: usize,
+    /// The whole line.
+    pub text: &'a str,
+    /// Where in it the wrong word begins, in bytes; or the last one ends, after
+    /// which one is missing.
+    pub at: usize,
+    pub word: Option<&'a str>,
+    pub expected: E,
+}
+
+/// Everything wrong with a text: the first few, and how many more there are.
 pub type Mistakes = Few<Mistake>;
 
 /// One thing wrong.
@@ -23,20 +38,20 @@ pub struct Mistake {
     line: usize,
     /// The column of its first character, from 1.
     column: usize,
-    expected: Expected,
+    expected: String,
     /// The line, and under it what points at the wrong word.
     text: String,
     carets: String,
 }
 
 impl Mistake {
-    pub fn of(wrong: &Wrong) -> Mistake {
+    pub fn of<E: Display>(wrong: &Wrong<E>) -> Mistake {
         let Wrong {
             line,
             text,
             at,
             word,
-            expected,
+            ref expected,
         } = *wrong;
         let (before, from) = text.split_at(at);
         let (shown_before, shown_from) = (last(before, BEFORE), first(from, FROM));
@@ -52,7 +67,7 @@ impl Mistake {
         Mistake {
             line,
             column: 1 + before.chars().count() + blanks.len(),
-            expected,
+            expected: expected.to_string(),
             text: drawn(&(shown_before.clone() + &shown_from)),
             carets: blank(&shown_before) + blanks + &"^".repeat(carets),
         }
@@ -71,13 +86,14 @@ impl Mistake {
 }
 
 impl Mistakes {
-    /// All of it, for standard error.
-    pub fn show(&self, file: &str) -> Vec<String> {
+    /// The end of a command that reads such a file.
+    pub fn failure(&self, file: &str) -> Failure {
         let mut messages: Vec<String> = self.kept().iter().map(|one| one.show(file)).collect();
         if self.more() > 0 {
             messages.push(format!("{file}: and {} more", thousands(self.more())));
         }
-        messages
+        let status = USAGE;
+        Failure { status, messages }
     }
 }
 

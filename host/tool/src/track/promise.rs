@@ -1,0 +1,215 @@
+//! What is promised of a walk: what the promise asks of it, and what it says.
+
+use super::{millivolts, milliwatts, Crossing, Peak, Point, Stay, Walk};
+use crate::words::{count, thousands};
+use ems::MOST_MILLIVOLTS;
+
+/// The promise, held against a walk.
+pub struct Promise {
+    /// Of how many set points there are readings.
+    visited: u64,
+    /// Two steps.
+    room: u32,
+    /// Why the walk is not one that is spoken of.
+    premises: Option<String>,
+    /// The call that first crossed the peak, and where the walk strayed after that.
+    crossed: Option<(usize, Option<String>)>,
+}
+
+impl Promise {
+    pub fn of(walk: &Walk, peak: &Peak) -> Promise {
+        let visited = walk.visited();
+        let room = walk.length().saturating_mul(2);
+        let crossed = Crossing::of(walk, peak).map(|Crossing { call, .. }| {
+            let stay = Stay::since(call, walk, peak);
+            (call, (stay.farthest > room).then(|| strayed(&stay, walk)))
+        });
+        let premises = too_near(peak, room).or_else(|| not_one_peak(&visited, peak));
+        Promise {
+            visited: visited.len() as u64,
+            room,
+            premises,
+            crossed,
+        }
+    }
+
+    /// Whether the walk is one that is spoken of; else why not.
+    pub fn premises(&self) -> Result<(), &str> {
+        self.premises.as_deref().map_or(Ok(()), Err)
+    }
+
+    /// Whether what is promised holds; else where it doesn't.
+    pub fn conclusions(&self) -> Result<(), &str> {
+        let strayed = self
+            .crossed
+            .as_ref()
+            .and_then(|(_, strayed)| strayed.as_deref());
+        strayed.map_or(Ok(()), Err)
+    }
+
+    /// All of it in words.
+    pub fn verdict(&self) -> String {
+        let premises = match &self.premises {
+            Some(why) => format!("do not hold: {why}"),
+            None => format!(
+                "hold: the readings at {} rise strictly up to the peak and fall strictly \
+                 past it, and it is two steps or more from 0 mV and from {}",
+                count(self.visited, "set point"),
+                millivolts(MOST_MILLIVOLTS),
+            ),
+        };
+        format!("The premises {premises}.\nSo {}.\n", self.promised())
+    }
+
+    fn promised(&self) -> String {
+        let within = format!("within two steps, {}, of the peak", millivolts(self.room));
+        let (call, strayed) = match (&self.crossed, &self.premises) {
+            (Some(crossed), _) => crossed,
+            (None, Some(_)) => return "nothing is promised".to_string(),
+            (None, None) => {
+                return format!("it is promised that once it crosses it stays {within}")
+            }
+        };
+        let promised = match self.premises {
+            Some(_) => "nothing is promised, and",
+            None => "it is promised that",
+        };
+        let holds = match strayed {
+            Some(at) => format!("DOES NOT HOLD: {at}"),
+            None => "holds".to_string(),
+        };
+        let call = thousands(*call as u64);
+        format!("{promised} from call {call} on the set point is {within}: {holds}")
+    }
+}
+
+/// Where a walk was farthest from the peak.
+fn strayed(stay: &Stay, walk: &Walk) -> String {
+    let set_point = millivolts(walk.points[stay.call].set_point);
+    let (call, away) = (thousands(stay.call as u64), millivolts(stay.farthest));
+    format!("call {call}, {set_point}, {away} from the peak")
+}
+
+/// A peak that is less than two steps from an end.
+fn too_near(peak: &Peak, room: u32) -> Option<String> {
+    let end = if peak.set_point < room {
+        0
+    } else if MOST_MILLIVOLTS.saturating_sub(peak.set_point) < room {
+        MOST_MILLIVOLTS
+    } else {
+        return None;
+    };
+    let (at, end, room) = (
+        millivolts(peak.set_point),
+        millivolts(end),
+        millivolts(room),
+    );
+    Some(format!(
+        "the peak, {at}, must be two steps, {room}, or more from {end}"
+    ))
+}
+
+/// Two set points beside each other whose readings don't rise up to the peak, or don't
+/// fall past it. Between those around the peak there is nothing to ask.
+fn not_one_peak(visited: &[Point], peak: &Peak) -> Option<String> {
+    visited.windows(2).find_map(|ends| {
+        let [a, b] = [ends[0], ends[1]];
+        let (strict, should) = if b.set_point <= peak.set_point {
+            (a.microwatts() < b.microwatts(), "rise strictly up to")
+        } else if a.set_point >= peak.set_point {
+            (a.microwatts() > b.microwatts(), "fall strictly past")
+        } else {
+            return None;
+        };
+        (!strict).then(|| {
+            let [low, high] = [a, b].map(|point| millivolts(point.set_point));
+            let [first, then] = [a, b].map(|point| milliwatts(point.milliwatts()));
+            format!(
+                "the readings must {should} the peak, and from {low} to {high} they don't: \
+                 {first}, then {then}"
+            )
+        })
+    })
+}
+
+#[cfg(test)]
+pub mod tests {
+    use super::*;
+    use ems::Reading;
+
+    pub fn peak(set_point: u32) -> Peak {
+        let milliwatts = 1_000.0;
+        Peak {
+            set_point,
+            milliwatts,
+        }
+    }
+
+    /// A walk that no library made, over a power with its one peak at 3,000 mV.
+    pub fn walk(set_points: &[u32]) -> Walk {
+        let point = |&set_point: &u32| Point {
+            set_point,
+            reading: Reading {
+                millivolts: 100,
+                milliamperes: 5_000_u32.saturating_sub(set_point.abs_diff(3_000)),
+            },
+            step: 100,
+        };
+        Walk {
+            points: set_points.iter().map(point).collect(),
+            refused: None,
+        }
+    }
+
+    /// It is proved that this is never seen.
+    #[test]
+    fn a_walk_that_strays_contradicts_the_promise() {
+        let walk = walk(&[2_900, 3_000, 3_100, 3_200, 3_201, 3_300]);
+        let promise = Promise::of(&walk, &peak(3_000));
+        assert_eq!(promise.premises(), Ok(()));
+        let strayed = "call 5, 3,300 mV, 300 mV from the peak";
+        assert_eq!(promise.conclusions(), Err(strayed));
+        assert!(promise.verdict().ends_with(&format!(
+            "\nSo it is promised that from call 1 on the set point is within two steps, \
+             200 mV, of the peak: DOES NOT HOLD: {strayed}.\n"
+        )));
+    }
+
+    #[test]
+    fn two_steps_are_no_straying() {
+        let walk = walk(&[2_900, 3_000, 3_100, 3_200, 2_800]);
+        let promise = Promise::of(&walk, &peak(3_000));
+        assert_eq!(
+            (promise.premises(), promise.conclusions()),
+            (Ok(()), Ok(()))
+        );
+        assert!(promise.verdict().ends_with(" of the peak: holds.\n"));
+    }
+
+    /// Two steps from 0 and from 20,000 mV, and a millivolt less.
+    #[test]
+    fn a_peak_is_two_steps_from_both_ends() {
+        for (at, near) in [(199, true), (200, false), (19_800, false), (19_801, true)] {
+            let promise = Promise::of(&walk(&[at]), &peak(at));
+            assert_eq!(promise.premises().is_err(), near, "{at}");
+        }
+    }
+
+    /// What is not strict is told, below the peak, at it and past it; what is the same
+    /// on both sides of it is not.
+    #[test]
+    fn readings_rise_strictly_and_fall_strictly() {
+        let mut walk = walk(&[2_900, 2_950, 3_050, 3_100]);
+        let mut judged = |at: usize, milliamperes: u32| {
+            walk.points[at].reading.milliamperes = milliamperes;
+            let judged = Promise::of(&walk, &peak(3_000));
+            judged.premises().err().unwrap_or_default().to_string()
+        };
+        assert_eq!(judged(1, 4_950), "");
+        assert!(judged(1, 4_900).contains("rise strictly up to the peak, and from 2,900 mV to "));
+        assert!(judged(1, 4_899).contains(": 490 mW, then 489.9 mW"));
+        assert_eq!(judged(1, 4_901), "");
+        assert!(judged(3, 4_950).contains("fall strictly past the peak, and from 3,050 mV to "));
+        assert_eq!(judged(3, 4_949), "");
+    }
+}
