@@ -1,8 +1,8 @@
 //! The cases of `tests/vectors/calls`: calls that are no log, and what must come of
 //! them. They were made by an implementation that shares nothing with ours.
 //!
-//! [`read`] reads any of the files; [`pass`] makes the calls of one, on the model
-//! or on the compiled library.
+//! [`read`] reads any of the files; [`pass`] and [`track`] make the calls of one each, on
+//! the model or on the compiled library.
 
 #![forbid(unsafe_code)]
 #![deny(missing_docs)]
@@ -10,6 +10,7 @@
 mod line;
 pub mod pass;
 mod read;
+pub mod track;
 
 pub use line::Line;
 pub use read::{read, Case};

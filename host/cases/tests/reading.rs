@@ -1,6 +1,6 @@
 //! How a file of cases is read, and that nothing in it is passed over.
 
-use cases::{read, Line};
+use cases::{read, track, Line};
 
 const WORDS: [&str; 2] = ["frames", "room"];
 
@@ -78,4 +78,48 @@ fn a_word_stands_once_where_it_should() {
     let without = "line 4: a case without room";
     assert_eq!(cases[1].one("room"), Err(without.into()));
     assert_eq!(cases[1].optional("room"), Ok(None));
+}
+
+/// What is said of a case of the tracker, by one that adds the step.
+fn tracked(line: &str) -> Result<(), String> {
+    let cases = read(line, &["track"]).expect("a case");
+    track::check(&cases[0], |before, after, set_point, step| {
+        assert_eq!((before, after), ([1, 2], [3, 4]), "{line}");
+        *set_point = set_point.wrapping_add_signed(*step);
+        *step = -*step;
+        7
+    })
+}
+
+#[test]
+fn all_that_a_tracker_leaves_is_looked_at() {
+    assert_eq!(tracked("track 1 2 3 4 50 -6 = 7 44 6\n"), Ok(()));
+    for wrong in ["8 44 6", "7 45 6", "7 44 -6"] {
+        let said = tracked(&format!("track 1 2 3 4 50 -6 = {wrong}\n"));
+        assert_eq!(said, Err("line 1: (7, 44, 6)".into()), "{wrong}");
+    }
+}
+
+#[test]
+fn what_is_no_case_of_a_tracker_is_told() {
+    for line in [
+        "track 1 2 3 4 50 -6",
+        "track 1 2 3 4 50 -6 =",
+        "track 1 2 3 4 50 = 7 44 6",
+        "track 1 2 3 4 50 -6 = 7 44",
+        "track 1 2 3 4 50 -6 = 7 44 6 8",
+        "track 1 2 3 4 50 -6 7 44 6",
+    ] {
+        let said = "line 1: track is not six numbers, `=` and three";
+        assert_eq!(tracked(line), Err(said.into()), "{line}");
+    }
+    for line in [
+        "track 1 2 3 4 -50 -6 = 7 44 6",
+        "track x 2 3 4 50 -6 = 7 44 6",
+        "track 1 2 3 4 50 2147483648 = 7 44 6",
+        "track 1 2 3 4 50 -6 = 256 44 6",
+    ] {
+        let said = "line 1: track is not numbers";
+        assert_eq!(tracked(line), Err(said.into()), "{line}");
+    }
 }

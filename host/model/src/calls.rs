@@ -1,5 +1,6 @@
 //! The calls of `include/ems.h`, with the same arguments and the same answers.
 
+use crate::track::{self, Reading};
 use crate::{beacon, image, morse, pass, report::Report, state::State, step};
 
 /// Writes the fresh start's image.
@@ -69,6 +70,17 @@ pub fn key(text: &[u8], units: &mut [u8]) -> (u8, usize) {
 /// Reads units back.
 pub fn read(units: &[u8], text: &mut [u8]) -> (u8, usize) {
     give(morse::read(units), text)
+}
+
+/// Moves a panel's set point, by the readings before and after the last move.
+pub fn track(before: Reading, after: Reading, set_point: &mut u32, step: &mut i32) -> u8 {
+    match track::track(before, after, *set_point, *step) {
+        Err(refusal) => refusal,
+        Ok(next) => {
+            (*set_point, *step) = next;
+            0
+        }
+    }
 }
 
 /// Writes a result if there is room for it: answer and count.

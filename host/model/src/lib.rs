@@ -1,6 +1,6 @@
 //! The rules a second time, in plain Rust: document 01's, and of document 02 the
 //! orders with an end, the pass, the tries that a module keeps, the four signs more,
-//! and the greetings.
+//! the greetings, and the panel tracker.
 //!
 //! It is written from their words alone and shares nothing with the proved
 //! library, so that a slip in either shows as a difference. It goes for being
@@ -26,6 +26,7 @@ pub mod state;
 pub mod step;
 pub mod table;
 mod tick;
+pub mod track;
 
 pub use log::{log_of, step_log};
 pub use state::State;

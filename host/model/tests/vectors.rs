@@ -2,7 +2,8 @@
 //! shares nothing with this one: the log must be theirs, byte for byte, and so
 //! must all that a call leaves behind.
 
-use cases::pass;
+use cases::{pass, track};
+use model::track::Reading;
 use model::{calls, image};
 use std::{fs, path::Path};
 
@@ -37,5 +38,21 @@ fn every_case_of_a_pass_comes_out() {
     assert!(cases.len() >= 230, "only {} cases", cases.len());
     for case in cases {
         assert_eq!(pass::check(&case, &model), Ok(()));
+    }
+}
+
+#[test]
+fn every_case_of_the_tracker_comes_out() {
+    let reading = |[millivolts, milliamperes]: track::Reading| Reading {
+        millivolts,
+        milliamperes,
+    };
+    let cases = track::cases().expect("the cases are there");
+    assert!(cases.len() >= 250, "only {} cases", cases.len());
+    for case in cases {
+        let checked = track::check(&case, |before, after, set_point, step| {
+            calls::track(reading(before), reading(after), set_point, step)
+        });
+        assert_eq!(checked, Ok(()));
     }
 }
