@@ -1,4 +1,4 @@
-/* The shortest flight from C: a frame, its report, a pass, two beacons, their units. */
+/* The shortest flight from C: a frame, its report, a pass, two beacons, their units; and two calls of the tracker. */
 #include "ems.h"
 #include <stdio.h>
 
@@ -14,6 +14,8 @@ int main(void)
         EMS_KIND_TICK
     };
     size_t reported, letters, count;
+    uint32_t set_point = 12250;
+    int32_t step = 250;
     int i;
 
     if (ems_fresh(image, sizeof image) != EMS_DONE) return 1;
@@ -27,5 +29,10 @@ int main(void)
     if (ems_beacon_extended(image, sizeof image, text, sizeof text, &letters) != EMS_DONE) return 1;
     if (ems_key(text, letters, units, sizeof units, &count) != EMS_DONE) return 1;
     printf("%.*s, %d units\n", (int)letters, (const char *)text, (int)count);
+    /* The power has fallen; then a current that no panel gives. */
+    printf("%d", ems_track(12000, 3934, 12250, 3850, &set_point, &step));
+    printf(" %d %d, ", (int)set_point, (int)step);
+    printf("%d", ems_track(12250, 3850, 12000, EMS_MOST_MILLIAMPERES + 1, &set_point, &step));
+    printf(" %d %d\n", (int)set_point, (int)step);
     return 0;
 }

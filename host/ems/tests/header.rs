@@ -35,6 +35,17 @@ fn lengths_are_the_header_s() {
 }
 
 #[test]
+fn the_tracker_s_limits_are_the_header_s() {
+    for (name, value) in [
+        ("EMS_MOST_MILLIVOLTS", ems::MOST_MILLIVOLTS),
+        ("EMS_MOST_MILLIAMPERES", ems::MOST_MILLIAMPERES),
+        ("EMS_LONGEST_STEP", ems::LONGEST_STEP.unsigned_abs()),
+    ] {
+        assert_eq!(number(name), Some(value as usize), "{name}");
+    }
+}
+
+#[test]
 fn the_version_is_the_header_s() {
     let version = Craft::fresh().image()[0];
     assert_eq!(number("EMS_IMAGE_VERSION"), Some(version.into()));
@@ -59,6 +70,7 @@ fn answers_are_the_header_s() {
         ("EMS_BAD_SPACE", answer::BAD_SPACE),
         ("EMS_NO_ROOM", answer::NO_ROOM),
         ("EMS_NOT_A_KEYING", answer::NOT_A_KEYING),
+        ("EMS_OUT_OF_RANGE", answer::OUT_OF_RANGE),
         ("EMS_NO_MESSAGE", answer::NO_MESSAGE),
     ] {
         assert_eq!(number(name), Some(value.into()), "{name}");
@@ -88,6 +100,7 @@ const PRINT: &str = "\
 5 02 0 04 10 07 0
 EMS D 7800, 115 units
 EMS D 7800 00 00 HI, SCHOOL, 329 units
+0 12000 -250, 16 12000 -250
 ";
 
 /// The calls that the header declares.

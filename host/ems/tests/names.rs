@@ -1,8 +1,9 @@
-//! The names of modules, modes and beacons, and their numbers: those of the
-//! library, the model and the header.
+//! The names of modules, modes and beacons, and their numbers, and the tracker's limits:
+//! those of the library, the model and the header.
 
 use ems::{answer, Beacon, Craft, Mode, Module};
 use model::table::{FROM_GROUND, GREETING, KINDS, MODULES, ORDER, TIMED};
+use model::track;
 
 const HEADER: &str = include_str!("../../../include/ems.h");
 
@@ -123,4 +124,11 @@ fn the_beacons_are_the_icd_s() {
     let icd = include_str!("../../../docs/ICD.md");
     let names = Beacon::ALL.map(|beacon| format!("{} {beacon}", beacon.number()));
     assert!(icd.contains(&format!("| beacon | 0 none, {}:", names.join(", "))));
+}
+
+#[test]
+fn the_tracker_s_limits_are_the_model_s() {
+    assert_eq!(ems::MOST_MILLIVOLTS, track::MOST_MILLIVOLTS);
+    assert_eq!(ems::MOST_MILLIAMPERES, track::MOST_MILLIAMPERES);
+    assert_eq!(ems::LONGEST_STEP, track::LONGEST_STEP);
 }
