@@ -39,7 +39,7 @@ steep-peaked = record { rises = rises; falls = falls }
         by false e = omega (arith, ltb-false b 4000 e)
 
     falls : (a b : ℕ) → 4000 ≤ a → a < b → b ≤ mostMillivolts → steep .at b < steep .at a
-    falls a b h k l = simp (le-ltb 4000 a h, le-ltb 4000 b (omega arith)) (omega arith)
+    falls a b h k l = simp (le-ltb a 4000 h, le-ltb b 4000 (omega arith)) (omega arith)
 
 -- a done call, from its two readings
 abbrev call :
@@ -74,9 +74,9 @@ not-one-step says =
     omega (arith, says steep 4000 steep-peaked (at 3999) (at 4099) roomy across (upward (omega arith) (omega arith)) 1 (at 4199) (then-call none onward) .not-above)
 
 -- a set point that somebody else has set
-record Jumped (curve : Curve) (p q : Place) : Type 0 where
-  from : q .was ≡ p .point
-  size : sizeOf q ≡ sizeOf p
+pub record Jumped (curve : Curve) (p q : Place) : Type 0 where
+  pub from : q .was ≡ p .point
+  pub size : sizeOf q ≡ sizeOf p
 
 -- a jump that is not the tracker's own: from a step below the peak to three above it
 pub not-by-a-jump : StaysWithin Lower Jumped twoSteps → ⊥
@@ -85,7 +85,7 @@ not-by-a-jump says =
     omega (arith, says steep 4000 steep-peaked (at 3900) q roomy (record { from = refl; size = refl }) (upward (omega arith) (omega arith)) 0 q none .not-above)
 
 -- no higher than
-abbrev NoHigher : ℕ → ℕ → Type 0
+abbrev pub NoHigher : ℕ → ℕ → Type 0
 NoHigher a b = a ≤ b
 
 -- a flat top from 4,000 to 4,200 mV: 861, 840 and 820 mA at its three readings
@@ -104,7 +104,7 @@ flat-peaked = record { rises = rises; falls = falls }
         by false e = omega arith
 
     falls : (a b : ℕ) → 4000 ≤ a → a < b → b ≤ mostMillivolts → flat .at b ≤ flat .at a
-    falls a b h k l = simp (le-ltb 4000 a h, le-ltb 4000 b (omega arith)) (by (leb a 4200) (leb b 4200) refl refl)
+    falls a b h k l = simp (le-ltb a 4000 h, le-ltb b 4000 (omega arith)) (by (leb a 4200) (leb b 4200) refl refl)
       where
         by : (x y : Bool) → leb a 4200 ≡ x → leb b 4200 ≡ y → (if y then 3444000 else 3448200 - b) ≤ (if x then 3444000 else 3448200 - a)
         by true true e f = omega arith

@@ -32,12 +32,12 @@ pub data Around (size peak : ℕ) (p : Place) : Type 0 where
       wayTo (not up) peak (p .point) ≡ 0 → wayTo up peak (p .point) < size → Around size peak p
 
 pub around-within : (size peak : ℕ) → 1 ≤ size → (p : Place) → Around size peak p → Within (twoSteps size) peak (p .point)
-pub around-within size peak some p (crossed true s f h k) = record { not-below = omega arith; not-above = omega arith }
-pub around-within size peak some p (crossed false s f h k) = record { not-below = omega arith; not-above = omega arith }
-pub around-within size peak some p (beyond true s f h k) = record { not-below = omega arith; not-above = omega arith }
-pub around-within size peak some p (beyond false s f h k) = record { not-below = omega arith; not-above = omega arith }
-pub around-within size peak some p (again true s f h k) = record { not-below = omega arith; not-above = omega arith }
-pub around-within size peak some p (again false s f h k) = record { not-below = omega arith; not-above = omega arith }
+around-within size peak some p (crossed true s f h k) = record { not-below = omega arith; not-above = omega arith }
+around-within size peak some p (crossed false s f h k) = record { not-below = omega arith; not-above = omega arith }
+around-within size peak some p (beyond true s f h k) = record { not-below = omega arith; not-above = omega arith }
+around-within size peak some p (beyond false s f h k) = record { not-below = omega arith; not-above = omega arith }
+around-within size peak some p (again true s f h k) = record { not-below = omega arith; not-above = omega arith }
+around-within size peak some p (again false s f h k) = record { not-below = omega arith; not-above = omega arith }
 
 -- a step further is further
 pub ahead : (up : Bool) (size from to : ℕ) → 1 ≤ size → Further up size from to → 0 < wayTo up to from
@@ -51,7 +51,7 @@ module _ (curve : Curve) (peak : ℕ) (peaked : Peaked Lower curve peak) (size :
     where
       by : (n : ℕ) → wayTo up peak (p .was) ≡ n → 0 < wayTo up peak (p .was)
       by zero e =
-          absurd (lt-irrefl (lt-of-lt-of-le (away curve peak peaked up (p .was) (p .point) (point-low curve p q c) (ahead up size (p .was) (p .point) some f) e) h))
+          absurd (lt-irrefl _ (lt-of-lt-of-le (away curve peak peaked up (p .was) (p .point) (point-low curve p q c) (ahead up size (p .was) (p .point) some f) e) h))
       by (suc n) e = omega (arith, e)
 
   -- a move that starts at most one step past the peak

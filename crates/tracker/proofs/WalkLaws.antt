@@ -3,7 +3,7 @@
 use Prim.Native.Nat.{ℕ, _+_, _*_, _-_, _<_, _≤_}
 use native.Mathlib.Omega.{arith}
 use native.Mathlib.Nat.{le-of-mul-le-mul-right, lt-of-mul-lt-mul-right}
-use mathlib.Core.Path.{_≡_, refl, sym, ap, _∙_}
+use mathlib.Core.Path.{_≡_, ap, subst, _∙_}
 use mathlib.Core.Bool.{Bool, true, false, not}
 use lib.IntN.{ℤ, negℤ}
 use Rattle.basics.proofs.ChoiceLaws.{within-low}
@@ -39,7 +39,9 @@ module _ (curve : Curve) (p q : Place) (c : Called curve p q) where
   was-low = omega (arith, in-range .voltage-before, c .read-before .voltage)
 
   goes : (up : Bool) (size : ℕ) → headed (c .before) (c .after) (p .step) ≡ stepTo up size → Moves size (p .point) up (q .point) (q .step)
-  goes up size e = rw (ap (λ (t : Tracked). t .point) (c .tracks), ap (λ (t : Tracked). t .step) (c .tracks)) at (track-moves (c .before) (c .after) (p .point) (p .step) up size called-in-range e)
+  goes up size e =
+      subst (λ (t : Tracked). Moves size (p .point) up (t .point) (t .step)) (c .tracks)
+      (track-moves (c .before) (c .after) (p .point) (p .step) up size called-in-range e)
 
   -- a call after a move that lost no power goes on the same way
   pub keeps : (up : Bool) (size : ℕ) → p .step ≡ stepTo up size → curve .at (p .was) ≤ curve .at (p .point) → Moves size (p .point) up (q .point) (q .step)
@@ -60,8 +62,9 @@ module _ (curve : Curve) (p q : Place) (c : Called curve p q) where
 
   pub some-way : Goes
   some-way =
-      let k : Kept mostMillivolts (p .point) (p .step) (trackOf (c .before) (c .after) (p .point) (p .step)) = range .kept (c .before) (c .after) (p .point) (p .step) (ap (λ (t : Tracked). t .answer) (c .tracks)) in
-      record { way = k .way; move = rw (ap (λ (t : Tracked). t .point) (c .tracks), ap (λ (t : Tracked). t .step) (c .tracks)) at (k .move) }
+      let t : Tracked = trackOf (c .before) (c .after) (p .point) (p .step) in
+      let k : Kept mostMillivolts (p .point) (p .step) t = range .kept (c .before) (c .after) (p .point) (p .step) (ap (λ (t : Tracked). t .answer) (c .tracks)) in
+      record { way = k .way; move = subst (λ (t : Tracked). Moves (sizeOf p) (p .point) (k .way) (t .point) (t .step)) (c .tracks) (k .move) }
 
 module _ (curve : Curve) (peak : ℕ) (peaked : Peaked Lower curve peak) where
   -- what is further on the way to the peak has more power
