@@ -1,8 +1,10 @@
 //! One call made on both sides, and all that it leaves behind compared: the
 //! answer, the count, and every byte of the buffers, also those past the
-//! lengths that the call was given.
+//! lengths that the call was given, or beside its numbers.
 
+use crate::shrink::Move;
 use crate::sides::{Calls, Counted};
+use model::track::Reading;
 use model::{frame, report};
 use std::fmt::{self, Write};
 
@@ -248,6 +250,67 @@ pub fn counted(
         };
         (after.answer, after.count) = call(&calls)(input, &mut after.room[..room]);
         after
+    }))
+}
+
+/// What a call of the tracker leaves behind: its two numbers, each between two others.
+#[derive(Clone, PartialEq, Eq)]
+pub struct Tracked {
+    /// The answer.
+    pub answer: u8,
+    set_point: [u32; 3],
+    step: [i32; 3],
+}
+
+/// What stands beside the tracker's numbers.
+const BESIDE: i32 = 0x5A5A_A5A5;
+
+impl Tracked {
+    /// The set point after the call.
+    pub fn set_point(&self) -> u32 {
+        self.set_point[1]
+    }
+
+    /// The step after the call.
+    pub fn step(&self) -> i32 {
+        self.step[1]
+    }
+}
+
+impl fmt::Display for Tracked {
+    fn fmt(&self, f: &mut fmt::Formatter) -> fmt::Result {
+        let beside = [
+            self.set_point[0] as i32,
+            self.set_point[2] as i32,
+            self.step[0],
+            self.step[2],
+        ];
+        let whole = beside == [BESIDE; 4];
+        let beside = if whole { "kept" } else { "WRITTEN" };
+        write!(f, "answer {}, set point {}", self.answer, self.set_point())?;
+        write!(f, ", step {}, beside them {beside}", self.step())
+    }
+}
+
+/// Makes a call of the tracker on both sides.
+pub fn track(sides: &[Calls; 2], (before, after, set_point, step): Move) -> Both<Tracked> {
+    let [before, after] = [before, after].map(|(millivolts, milliamperes)| Reading {
+        millivolts,
+        milliamperes,
+    });
+    agree(sides.map(|calls| {
+        let mut tracked = Tracked {
+            answer: 0,
+            set_point: [BESIDE as u32, set_point, BESIDE as u32],
+            step: [BESIDE, step, BESIDE],
+        };
+        let Tracked {
+            set_point: [_, set_point, _],
+            step: [_, step, _],
+            ..
+        } = &mut tracked;
+        let answer = (calls.track)(before, after, set_point, step);
+        Tracked { answer, ..tracked }
     }))
 }
 

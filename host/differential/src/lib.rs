@@ -19,3 +19,4 @@ pub mod shorting;
 pub mod shrink;
 pub mod sides;
 pub mod texts;
+pub mod tracks;

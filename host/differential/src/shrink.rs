@@ -12,14 +12,24 @@ pub type Shot = (Vec<u8>, u8);
 /// The pieces of a pass, which stand end to end, and the length of its reply room.
 pub type Pass = (Vec<Vec<u8>>, u8);
 
+/// A call of the tracker: the readings before and after the last move, each its volts
+/// and amps; the set point; the step.
+pub type Move = ((u32, u32), (u32, u32), u32, i32);
+
 const NOT_TWICE: &str = "fails no more: the same call doesn't give the same result twice";
 
 /// As long as a smaller case fails too, takes it; for ten seconds at most.
-pub fn shrink<T: Arbitrary>(mut case: T, fails: impl Fn(&T) -> bool) -> T {
+pub fn shrink<T: Arbitrary + PartialEq>(mut case: T, fails: impl Fn(&T) -> bool) -> T {
     let end = Instant::now() + Duration::from_secs(10);
-    let in_time = |_: &T| Instant::now() < end;
-    while let Some(smaller) = case.shrink().take_while(in_time).find(|c| fails(c)) {
-        case = smaller;
+    let smaller = |case: &T| {
+        // The lowest number of all shrinks to itself in the end, over and over.
+        let going_on = |other: &T| other != case && Instant::now() < end;
+        case.shrink()
+            .take_while(going_on)
+            .find(|other| fails(other))
+    };
+    while let Some(other) = smaller(&case) {
+        case = other;
     }
     case
 }
@@ -153,6 +163,24 @@ pub fn tell_counted(
             let [library, model] = *outcomes;
             let input = hex(&short);
             format!("input:   {input} (room {room})\nlibrary: {library}\nmodel:   {model}")
+        }
+        Ok(_) => NOT_TWICE.into(),
+    }
+}
+
+/// The failure of a call of the tracker, made short.
+pub fn tell_track(sides: &[Calls; 2], case: Move) -> String {
+    let short = shrink(case, |case| compare::track(sides, *case).is_err());
+    match compare::track(sides, short) {
+        Err(outcomes) => {
+            let [library, model] = *outcomes;
+            let ((volts_before, amps_before), (volts_after, amps_after), set_point, step) = short;
+            format!(
+                "before:  {volts_before} mV, {amps_before} mA\n\
+                 after:   {volts_after} mV, {amps_after} mA\n\
+                 moved:   set point {set_point}, step {step}\n\
+                 library: {library}\nmodel:   {model}"
+            )
         }
         Ok(_) => NOT_TWICE.into(),
     }

@@ -1,5 +1,7 @@
 //! The two sides that are compared.
 
+use model::track::Reading;
+
 /// The calls of `include/ems.h` on one side.
 #[derive(Clone, Copy)]
 pub struct Calls {
@@ -19,6 +21,8 @@ pub struct Calls {
     pub key: Counted,
     /// `ems_read`
     pub read: Counted,
+    /// `ems_track`
+    pub track: Track,
 }
 
 /// A call that turns bytes into bytes and says how many.
@@ -26,6 +30,9 @@ pub type Counted = fn(&[u8], &mut [u8]) -> (u8, usize);
 
 /// A call that takes frames end to end, and says how many got a report.
 pub type Pass = fn(&mut [u8], &[u8], &mut [u8]) -> (u8, usize);
+
+/// A call that moves a panel's set point, by the readings before and after the last move.
+pub type Track = fn(Reading, Reading, &mut u32, &mut i32) -> u8;
 
 /// The compiled library.
 pub const LIBRARY: Calls = Calls {
@@ -37,6 +44,13 @@ pub const LIBRARY: Calls = Calls {
     beacon_extended: ems::calls::beacon_extended,
     key: ems::calls::key,
     read: ems::calls::read,
+    track: |before, after, set_point, step| {
+        let [before, after] = [before, after].map(|reading| ems::Reading {
+            millivolts: reading.millivolts,
+            milliamperes: reading.milliamperes,
+        });
+        ems::calls::track(before, after, set_point, step)
+    },
 };
 
 /// The model.
@@ -49,4 +63,5 @@ pub const MODEL: Calls = Calls {
     beacon_extended: model::calls::beacon_extended,
     key: model::calls::key,
     read: model::calls::read,
+    track: model::calls::track,
 };

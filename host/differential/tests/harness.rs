@@ -529,3 +529,51 @@ fn a_reader_of_a_sign_that_no_byte_has_is_found() {
         assert!(!input.contains(" 00 00 "), "{name}\n{told}");
     }
 }
+
+/// Whether a call of the tracker is told.
+fn is_of_a_call(told: &str) -> bool {
+    told.starts_with("before:  ") && told.lines().count() == 5
+}
+
+#[test]
+fn every_wrong_tracker_is_found() {
+    for (name, track) in wrong::all_trackers() {
+        let told = told("the tracker about every limit", Calls { track, ..MODEL });
+        assert!(is_of_a_call(&told), "{name}\n{told}");
+    }
+}
+
+#[test]
+fn a_tracker_that_moves_wrongly_is_found_about_an_end_and_on_a_walk() {
+    for group in ["the tracker about both ends", "walks by the tracker"] {
+        let wrong = wrong::trackers::JUDGED.into_iter();
+        for (name, track) in wrong.chain(wrong::trackers::MOVED) {
+            let told = told(group, Calls { track, ..MODEL });
+            assert!(is_of_a_call(&told), "{group}: {name}\n{told}");
+        }
+    }
+}
+
+/// The one number that is wrong is left, and all others are at their least.
+#[test]
+fn a_number_past_a_limit_comes_out_alone() {
+    for (wrong, wanted) in [
+        (
+            "takes 20,001 mV before the move",
+            "before:  20001 mV, 0 mA\nafter:   0 mV, 0 mA\nmoved:   set point 0, step 1\n",
+        ),
+        (
+            "takes 5,001 mA after the move",
+            "before:  0 mV, 0 mA\nafter:   0 mV, 5001 mA\nmoved:   set point 0, step 1\n",
+        ),
+        (
+            "takes a step of 501",
+            "before:  0 mV, 0 mA\nafter:   0 mV, 0 mA\nmoved:   set point 0, step 501\n",
+        ),
+    ] {
+        let mut taken = wrong::ranges::TAKEN.into_iter();
+        let (_, track) = taken.find(|(name, _)| *name == wrong).expect("it is wrong");
+        let told = told("the tracker about every limit", Calls { track, ..MODEL });
+        assert!(told.starts_with(wanted), "{wrong}\n{told}");
+    }
+}

@@ -3,9 +3,10 @@
 
 mod wrong;
 
-use cases::pass;
-use differential::sides::{Calls, LIBRARY, MODEL};
+use cases::{pass, track, Case};
+use differential::sides::{Calls, Track, LIBRARY, MODEL};
 use ems::{answer, Craft, IMAGE_BYTES, REPORT_BYTES};
+use model::track::Reading;
 use std::fs;
 use std::path::{Path, PathBuf};
 use wrong::seconds::Step;
@@ -115,5 +116,38 @@ fn every_wrong_pass_comes_out_otherwise_in_some_case() {
         let wrong = calls_of(Calls { pass, ..MODEL });
         let mut outcomes = cases.iter().map(|case| pass::check(case, &wrong));
         assert!(outcomes.any(|outcome| outcome.is_err()), "{name}");
+    }
+}
+
+/// What comes of a case of the tracker on a side.
+fn tracked(case: &Case, by: Track) -> cases::Result<()> {
+    let reading = |[millivolts, milliamperes]: track::Reading| Reading {
+        millivolts,
+        milliamperes,
+    };
+    track::check(case, |before, after, set_point, step| {
+        by(reading(before), reading(after), set_point, step)
+    })
+}
+
+#[test]
+fn every_case_of_the_tracker_comes_out() {
+    let cases = track::cases().expect("the cases are there");
+    assert!(cases.len() >= 250, "only {} cases", cases.len());
+    for case in cases {
+        assert_eq!(tracked(&case, LIBRARY.track), Ok(()));
+    }
+}
+
+/// No case has a set point past its limit that is small in 16 bits.
+const UNTRIED: [&str; 1] = ["looks at 16 bits of the set point"];
+
+#[test]
+fn every_other_wrong_tracker_comes_out_otherwise_in_some_case() {
+    let cases = track::cases().expect("the cases are there");
+    for (name, by) in wrong::all_trackers() {
+        let mut outcomes = cases.iter().map(|case| tracked(case, by));
+        let seen = outcomes.any(|outcome| outcome.is_err());
+        assert_eq!(seen, !UNTRIED.contains(&name), "{name}");
     }
 }

@@ -6,6 +6,7 @@ mod images;
 mod passes;
 mod texts;
 mod timed;
+mod tracks;
 mod tries;
 
 use crate::compare;
@@ -35,7 +36,7 @@ pub type Verdict = Result<u64, String>;
 pub type Group = (&'static str, fn(&[Calls; 2], &mut Rng) -> Verdict);
 
 /// All groups.
-pub const GROUPS: [Group; 32] = [
+pub const GROUPS: [Group; 35] = [
     ("fresh start, every length", images::fresh_starts),
     ("flights by the table", |sides, rng| {
         flights::of(sides, rng, Maker::Structured, 4_000_000)
@@ -82,6 +83,9 @@ pub const GROUPS: [Group; 32] = [
     ("every sign of up to 7 marks", texts::every_sign),
     ("texts of up to 70 bytes", texts::any_texts),
     ("units damaged in one place", texts::damaged_units),
+    ("the tracker about every limit", tracks::tracks),
+    ("the tracker about both ends", tracks::track_ends),
+    ("walks by the tracker", tracks::track_walks),
 ];
 
 /// Flies; counts the steps, or tells.

@@ -1,10 +1,12 @@
-//! Passes that go wrong in ways that look right; [`seconds`] has seconds that do, and
-//! [`greetings`] greetings and their messages.
+//! Passes that go wrong in ways that look right; [`seconds`] has seconds that do,
+//! [`greetings`] greetings and their messages, [`trackers`] and [`ranges`] panel trackers.
 
 pub mod greetings;
+pub mod ranges;
 pub mod seconds;
+pub mod trackers;
 
-use differential::sides::Pass;
+use differential::sides::{Pass, Track};
 use model::{calls, frame, image, report};
 
 /// What each does, and the pass.
@@ -123,6 +125,12 @@ pub const PASSES: [(&str, Pass); 16] = [
         (answer, reported)
     }),
 ];
+
+/// All wrong panel trackers.
+pub fn all_trackers() -> impl Iterator<Item = (&'static str, Track)> {
+    let moving = trackers::JUDGED.into_iter().chain(trackers::MOVED);
+    moving.chain(ranges::TAKEN).chain(ranges::REFUSED)
+}
 
 fn has_report(answer: u8) -> bool {
     matches!(answer, 0 | 8..=10)
