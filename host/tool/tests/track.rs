@@ -305,7 +305,7 @@ fn a_current_out_of_range_is_refused_where_the_walk_comes_to_it() {
         &["--start", "1000", "--step", "500", "--calls", "2"],
     )
     .status(0);
-    ran.prints("500 mV below the peak. It comes there with 2 more calls.\n");
+    ran.prints("1,000 mV below the peak. It comes there with 2 more calls.\n");
     // A reading at the limit is taken: 5,000.4 mA is read as 5,000.
     let at_limit = "millivolts,milliamperes\n0,5001\n1000,5000.4\n2000,0\n";
     let ran = tracked(

@@ -68,7 +68,7 @@ fn the_walk_is_on_the_curve() {
     assert_eq!(picture.title, "curve.csv");
     assert!(picture.says("50 calls from 2,450 mV in steps of 100 mV"));
     for text in [
-        "millivolts",
+        "the panel's voltage in millivolts",
         "calls",
         "power",
         "current",

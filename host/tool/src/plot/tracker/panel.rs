@@ -68,7 +68,7 @@ pub fn draw(svg: &mut Svg, tracked: &Tracked, top: f64) -> f64 {
         };
         svg.circle(x, y, RADIUS, class, &about(group));
     }
-    edges::under(svg, &x, "millivolts", (top, bottom))
+    edges::under(svg, &x, "the panel's voltage in millivolts", (top, bottom))
 }
 
 /// The peak, and behind it what is two steps from it.
