@@ -3,8 +3,8 @@
  * twice: over the library, and with -DPEER over the C version in peer/.
  *
  * A stream: what is called ('s' step, 'p' pass, 'o' step for one frame of a pass
- * after the other, 'e' extended beacon, 'k' key, 'r' read), an image, the number of inputs (2 bytes,
- * big-endian), and for each its length (2) and its bytes. */
+ * after the other, 'e' extended beacon, 'k' key, 'r' read, 't' tracker), an image, the
+ * number of inputs (2 bytes, big-endian), and for each its length (2) and its bytes. */
 #define _POSIX_C_SOURCE 199309L
 #include <stdio.h>
 #include <stdlib.h>
@@ -13,14 +13,17 @@
 #ifdef PEER
 #include "peer/ems.h"
 #include "peer/morse.h"
+#include "peer/track.h"
 #define IMAGE_BYTES 68
 #define KEY peer_key
 #define READ peer_read
+#define TRACK peer_track
 #else
 #include "../../include/ems.h"
 #define IMAGE_BYTES EMS_IMAGE_BYTES
 #define KEY ems_key
 #define READ ems_read
+#define TRACK ems_track
 #endif
 
 /* After so many calls the image is put back, so that a stream stays in its mode. */
@@ -120,6 +123,18 @@ static uint8_t pass(const uint8_t *frames, size_t length, size_t *written)
 }
 #endif
 
+/* The six numbers of a move, as they stand in memory: what the tracker makes of it, as
+ * one number. */
+static uint32_t track(const uint8_t *move)
+{
+    uint32_t numbers[5];
+    int32_t by;
+    memcpy(numbers, move, sizeof numbers);
+    memcpy(&by, move + sizeof numbers, sizeof by);
+    uint32_t answer = TRACK(numbers[0], numbers[1], numbers[2], numbers[3], &numbers[4], &by);
+    return answer + 31 * numbers[4] + (uint32_t)by;
+}
+
 int main(int argc, char **argv)
 {
     FILE *in = argc == 3 ? fopen(argv[1], "rb") : NULL;
@@ -147,7 +162,8 @@ int main(int argc, char **argv)
         else if (call == 'r') sum += READ(bytes, length, room, sizeof room, &written);
         else if (call == 'e') sum += extended(&written);
         else if (call == 'p') sum += pass(bytes, length, &written);
-        else sum += one_by_one(bytes, length, &written);
+        else if (call == 'o') sum += one_by_one(bytes, length, &written);
+        else sum += track(bytes);
     }
     clock_gettime(CLOCK_MONOTONIC, &end);
     for (size_t i = 0; i < written; i++) sum = sum * 31 + room[i];

@@ -51,7 +51,7 @@ impl Bench {
             print_of(gcc.arg("-o").arg(&object))?;
             Ok(object)
         };
-        ["ems", "morse"].into_iter().map(object).collect()
+        ["ems", "morse", "track"].into_iter().map(object).collect()
     }
 
     /// Compiles the driver over the C version's objects.

@@ -5,6 +5,7 @@ use model::state::{Mode, Module, Power, END_SECONDS, TRIES};
 use model::table::{
     BATTERY, FROM_GROUND, GREETING, MISSION, ORDER, PAYLOAD, THRESHOLDS, TICK, TIMED,
 };
+use model::track::Reading;
 use model::{calls, frame, image, report, State};
 
 /// A row of the table.
@@ -12,7 +13,7 @@ pub struct Stream {
     /// What it says there.
     pub name: &'static str,
     /// What is called: `s` step, `p` pass, `o` step for one frame of a pass after
-    /// the other, `e` extended beacon, `k` key, `r` read.
+    /// the other, `e` extended beacon, `k` key, `r` read, `t` tracker.
     pub call: u8,
     /// The image to start from.
     pub image: [u8; image::BYTES],
@@ -89,6 +90,29 @@ fn greeted(mode: Mode) -> State {
         message: MESSAGE,
         ..board(mode)
     }
+}
+
+/// Volts and amps before a move and after it, the set point and the step.
+type Move = ([u32; 4], u32, i32);
+
+/// The moves that go round: up and down, the power rises, stays and falls; and past
+/// either end, after a rise and after a fall.
+const MOVES: [Move; 8] = [
+    ([11_500, 3_900, 11_750, 3_984], 11_750, 250),
+    ([12_000, 3_934, 12_250, 3_850], 12_250, 250),
+    ([12_250, 3_850, 12_000, 3_934], 12_000, -250),
+    ([12_000, 3_934, 11_750, 3_984], 11_750, -250),
+    ([9_000, 3_067, 9_000, 3_067], 9_000, 250),
+    ([19_650, 2_000, 19_900, 2_000], 19_900, 250),
+    ([50, 4_000, 100, 1_900], 100, 250),
+    ([350, 1_000, 100, 4_000], 100, -250),
+];
+
+/// A move as the drivers read it.
+fn input_of((readings, set_point, step): &Move) -> Vec<u8> {
+    let numbers = readings.iter().chain([set_point]);
+    let bytes = numbers.flat_map(|number| number.to_le_bytes());
+    bytes.chain(step.to_le_bytes()).collect()
 }
 
 /// How many passes go round.
@@ -217,6 +241,14 @@ pub fn streams() -> Vec<Stream> {
             inputs: vec![vec![]],
             counted: 1_000,
         },
+        Stream {
+            name: "panel tracker",
+            call: b't',
+            // It is not looked at.
+            image: image::save(&board(Mode::Safe)),
+            inputs: MOVES.iter().map(input_of).collect(),
+            counted: 10_000,
+        },
         text("keying 64 characters", b'k', TEXT.to_vec()),
         text("reading 64 characters", b'r', units(TEXT)),
         text("keying 64 digits", b'k', DIGITS.to_vec()),
@@ -240,8 +272,9 @@ pub fn drive(stream: &Stream, calls: u64) -> (u128, u64) {
             inputs = stream.inputs.iter().cycle();
         }
         let input = inputs.next().map_or(&[][..], Vec::as_slice);
-        let answer = match stream.call {
-            b's' => calls::step(&mut image, input, &mut room[..report::BYTES]),
+        let answer: u32 = match stream.call {
+            b't' => track(input),
+            b's' => calls::step(&mut image, input, &mut room[..report::BYTES]).into(),
             b'p' => reported(calls::pass(&mut image, input, &mut room), &mut written),
             b'o' => reported(one_by_one(&mut image, input, &mut room), &mut written),
             b'e' => counted(calls::beacon_extended(&image, &mut room), &mut written),
@@ -257,13 +290,29 @@ pub fn drive(stream: &Stream, calls: u64) -> (u128, u64) {
     (nanoseconds, sum)
 }
 
-fn counted((answer, count): (u8, usize), written: &mut usize) -> u8 {
+fn counted((answer, count): (u8, usize), written: &mut usize) -> u32 {
     *written = count;
-    answer
+    answer.into()
 }
 
-fn reported((answer, reports): (u8, usize), written: &mut usize) -> u8 {
+fn reported((answer, reports): (u8, usize), written: &mut usize) -> u32 {
     counted((answer, report::BYTES * reports), written)
+}
+
+/// What the tracker makes of a move, as one number: as `drive.c`.
+fn track(input: &[u8]) -> u32 {
+    let number = |place: usize| {
+        let bytes = input[4 * place..4 * place + 4].try_into();
+        u32::from_le_bytes(bytes.expect("four bytes"))
+    };
+    let reading = |place| Reading {
+        millivolts: number(place),
+        milliamperes: number(place + 1),
+    };
+    let (mut set_point, mut step) = (number(4), number(5) as i32);
+    let answer = calls::track(reading(0), reading(2), &mut set_point, &mut step);
+    let sum = u32::from(answer).wrapping_add(set_point.wrapping_mul(31));
+    sum.wrapping_add(step as u32)
 }
 
 /// A pass by single calls: as `drive.c`.
@@ -298,6 +347,33 @@ mod tests {
             );
             assert_eq!(board.mode, Mode::Safe, "{i}");
         }
+    }
+
+    /// Where the step keeps its sign and where it turns, and where a move stops at an
+    /// end: what the moves say they are.
+    #[test]
+    fn the_moves_keep_turn_and_stop() {
+        let next = |(numbers, set_point, step): &Move| {
+            let [volts_before, amps_before, volts_after, amps_after] = *numbers;
+            let reading = |millivolts, milliamperes| Reading {
+                millivolts,
+                milliamperes,
+            };
+            let before = reading(volts_before, amps_before);
+            let after = reading(volts_after, amps_after);
+            model::track::track(before, after, *set_point, *step)
+        };
+        let wanted = [
+            (12_000, 250),
+            (12_000, -250),
+            (11_750, -250),
+            (12_000, 250),
+            (9_250, 250),
+            (20_000, -250),
+            (0, 250),
+            (0, 250),
+        ];
+        assert_eq!(MOVES.each_ref().map(next), wanted.map(Ok));
     }
 
     /// A refusal, too, is the same by single calls as by one, and so are the room

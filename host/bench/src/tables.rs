@@ -57,10 +57,9 @@ fn calls(bench: &Bench, library: &Path, c: &Path, lines: &mut Lines) -> Result<(
 
 /// The stream's row, once all sides agree on what they have done.
 fn row(stream: &Stream, programs: &[Program; 3]) -> Result<String> {
-    let timed = if stream.call == b's' {
-        1_000_000
-    } else {
-        20_000
+    let timed = match stream.call {
+        b's' | b't' => 1_000_000,
+        _ => 20_000,
     };
     let mut counts = Vec::new();
     let mut times = Vec::new();
