@@ -149,8 +149,8 @@ pub extern "C" fn ems_track(
     set_point: &mut u32,
     step: &mut i32,
 ) -> u8
-    ensures { λ r. ⌜ tracks r (now (set_point .exit)) (now (step .exit))
-        ≡ tracksOf volts_before amps_before volts_after amps_after (now (set_point .entry)) (now (step .entry)) ⌝ }
+    ensures { λ r. ⌜ tracks r (now («set_point» .exit)) (now (step .exit))
+        ≡ tracksOf «volts_before» «amps_before» «volts_after» «amps_after» (now («set_point» .entry)) (now (step .entry)) ⌝ }
 {
     let before = Reading {
         millivolts: volts_before,
@@ -162,7 +162,8 @@ pub extern "C" fn ems_track(
     };
     let tracked = tracker::track(before, after, *set_point, *step);
     let answer = tracked.answer;
+    let next = tracked.step;
     *set_point = tracked.point;
-    *step = tracked.step;
+    *step = next;
     answer.number()
 }
