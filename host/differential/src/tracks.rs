@@ -67,7 +67,8 @@ pub fn readings(rng: &mut Rng, power: Ordering) -> (Pair, Pair) {
 
 /// Two readings of the same power: of other factors mostly.
 fn alike(rng: &mut Rng) -> (Pair, Pair) {
-    // Two products of these are within the limit of volts, one with the last of amps.
+    // A product of two of these is within the limit of volts, one with the last of them
+    // within that of amps.
     let [first, second, third] = [(); 3].map(|_| up_to(rng, 141));
     let last = up_to(rng, 35);
     let one = (first * second, third * last);
