@@ -6,6 +6,7 @@ use mathlib.Core.Bool.{Bool, true, false, not}
 use mathlib.Core.List.{List}
 use native.Mathlib.Omega.{arith}
 use lib.Dec.{T}
+use lib.IntN.{ℤ}
 use Rattle.basics.specs.Outcome.{Outcome, outcome, Reply, reply}
 use Rattle.basics.proofs.ChoiceLaws.{is-true, holds}
 use Rattle.hearing.specs.Reading.{Read, readReply}
@@ -28,9 +29,12 @@ use Rattle.beacon.specs.Writing.{beaconOf}
 use Rattle.beacon.specs.declared.text.Form.{Form}
 use Rattle.beacon.specs.declared.writing.Written.the-variants.{BadState}
 use Rattle.beacon.proofs.WritingLaws.{beacon-outside}
+use Rattle.tracker.specs.Tracker.{trackNumber}
+use Rattle.tracker.specs.declared.Tracked.{Tracked}
 use Rattle.flight.specs.Saving.{saved}
 use Rattle.flight.specs.Loading.{hasLayout, decoded, loaded}
 use Rattle.flight.specs.Calls.{imaged, badState, steppedTo, stepImage, passedTo, passImage, beaconImage, replied, ReadReplied}
+use Rattle.flight.specs.Calls.{tracks, trackedTo}
 use Rattle.flight.proofs.FieldsLaws.{AllBytes}
 use Rattle.flight.proofs.LoadingLaws.{layout, saved-decoded}
 
@@ -139,3 +143,8 @@ replied-by by p q e = rw (p, q) (ap (replied by) e)
 pub read-replied : {units room room′ : List ℕ} (answer : Heard) {n k : ℕ} → Read units room (outcome answer room′)
     → n ≡ readReply answer .number → k ≡ readReply answer .count → ReadReplied units room (outcome (reply n k) room′)
 read-replied {room′ = room′} answer r p q = record { heard = outcome answer room′; read = r; same = replied-by readReply {answer = answer} p q refl }
+
+-- what the tracker hands back, by its number
+pub tracked-by : {n : ℕ} {next : ℤ} {t o : Tracked} → n ≡ trackNumber (t .answer) → next ≡ t .step → t ≡ o
+    → tracks n (t .point) next ≡ trackedTo o
+tracked-by p q e = rw (p, q) (ap trackedTo e)

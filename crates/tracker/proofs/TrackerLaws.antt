@@ -5,11 +5,12 @@ use native.Mathlib.Omega.{arith}
 use mathlib.Core.Path.{_≡_, refl, sym, ap, subst, _∙_}
 use mathlib.Core.Bool.{Bool, true, false, _&&_}
 use lib.Dec.{T, leb, leb→le}
-use lib.IntN.{ℤ, negℤ, natAbs}
+use lib.IntN.{ℤ, pos, negℤ, natAbs, _+ℤ_}
+use lib.Signed.{ltZ}
 use borrow.Author.Tests.{le-leb, lt-leb}
 use Rattle.basics.specs.Choice.{if_then_else_, within}
 use Rattle.basics.proofs.ChoiceLaws.{holds, and-left, and-right, within-low}
-use Rattle.tracker.specs.Tracker.{mostMillivolts, mostMilliamperes, longestStep, trackNumber, isReading, isStep, power, headed, moved, inRange, trackOf}
+use Rattle.tracker.specs.Tracker.{mostMillivolts, mostMilliamperes, longestStep, trackNumber, isReading, isStep, power, headed, done, stopped, moved, inRange, trackOf}
 use Rattle.tracker.specs.declared.Answer.the-variants.{Done, OutOfRange}
 use Rattle.tracker.specs.declared.Reading.{Reading}
 use Rattle.tracker.specs.declared.Tracked.{Tracked}
@@ -37,6 +38,20 @@ module _ (before after : Reading) (step : ℤ) where
 
   pub headed-is-step : T (isStep step) → T (isStep (headed before after step))
   headed-is-step t = subst (λ (n : ℕ). T (within 1 longestStep n)) (sym headed-size) t
+
+module _ (point : ℕ) (step : ℤ) where
+  -- a move past the upper end, past the lower one, and within them
+  pub moved-above : ltZ (pos mostMillivolts) (pos point +ℤ step) ≡ true → moved point step ≡ done mostMillivolts (negℤ step)
+  unfolding moved stopped
+  moved-above e = simp e
+
+  pub moved-below : ltZ (pos mostMillivolts) (pos point +ℤ step) ≡ false → ltZ (pos point +ℤ step) (pos 0) ≡ true → moved point step ≡ done 0 (negℤ step)
+  unfolding moved stopped
+  moved-below e f = simp (e, f)
+
+  pub moved-inside : ltZ (pos mostMillivolts) (pos point +ℤ step) ≡ false → ltZ (pos point +ℤ step) (pos 0) ≡ false → moved point step ≡ done (natAbs (pos point +ℤ step)) step
+  unfolding moved stopped
+  moved-inside e f = simp (e, f)
 
 module _ (before after : Reading) (point : ℕ) (step : ℤ) where
   -- what a call in range has in range

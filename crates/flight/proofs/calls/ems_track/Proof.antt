@@ -1,10 +1,12 @@
 -- `flight::calls::ems_track` meets its contract: the tracker's answer by its number, its set point and its step.
-use mathlib.Core.Path.{_≡_}
+use mathlib.Core.Path.{ap, _∙_}
 use mir.Syntax.{w32}
-use mir.Val.{SFits, toZ, ofZ}
+use mir.Val.{SFits}
 use mir.Facts.{toZ-ofZ}
-use borrow.Author.Needs.{needs, sfits-of}
+use borrow.Author.Needs.{needs}
+use Rattle.tracker.specs.Tracker.{trackOf}
 use Rattle.flight.specs.Calls.{tracksOf}
+use Rattle.flight.proofs.CallsLaws.{tracked-by}
 use Rattle.flight.proofs.calls.ems_track.Statement.{statement}
 use Rattle.flight.proofs.calls.ems_track.Tie as tie
 
@@ -23,7 +25,10 @@ step-fits c = search needs
 
 returns : tie.Need-returns
 unfolding tracksOf
-returns c = rw (toZ-ofZ {w = w32} {z = c .before .before .track .result .step} (next-fits c), c .number .ensures, c .before .before .track .ensures, toZ-ofZ {w = w32} (step-fits c))
+returns c =
+    let call = c .before .before in
+    tracked-by {t = call .track .result} (c .number .ensures) (toZ-ofZ {w = w32} (next-fits c))
+    (call .track .ensures ∙ ap (trackOf _ _ _) (toZ-ofZ {w = w32} (step-fits c)))
 
 pub ems-track-spec : {M : Type 1} → statement M
 ems-track-spec = tie.close (tie.spec track-requires number-requires returns)
