@@ -73,7 +73,7 @@ fn a_panel_in_full_sun_is_one_that_the_promise_speaks_of() {
         .status(0)
         .prints("Call 14 is the first to cross it, from 4,300 mV to 4,400 mV.\n")
         .prints("is between 4,200 mV and 4,500 mV: at most 160 mV from the peak, 1.6 steps.\n")
-        .prints("of the peak: holds.\n");
+        .prints("from the peak: holds.\n");
 }
 
 /// What is said of `shaded-panel.csv`: the walk stays on the lower of two peaks; from
@@ -89,7 +89,7 @@ fn a_panel_with_a_shadow_has_two_peaks() {
     run(&["track", "examples/shaded-panel.csv", "--start", "1500"])
         .status(0)
         .prints("is between 1,700 mV and 1,900 mV: ")
-        .prints("of the peak: holds.\n");
+        .prints("from the peak: holds.\n");
 }
 
 #[test]

@@ -42,7 +42,7 @@ fn help_says_what_a_curve_is_and_what_is_promised() {
         .status(0)
         .prints("the head line millivolts,milliamperes and rows")
         .prints("at the last no current flows any more")
-        .prints("never\nmore than two steps from the peak")
+        .prints("always\nless than two steps from the peak")
         .prints("3 the premises don't hold")
         .prints(
             "\n  ems track examples/panel.csv --start 3000 --step 100 --calls 200 -o track.svg\n",

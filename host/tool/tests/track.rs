@@ -45,8 +45,8 @@ fn the_first_crossing_and_the_stay_are_told() {
          \n\
          The premises hold: the readings at 8 set points rise strictly up to the peak and \
          fall strictly past it, and it is two steps or more from 0 mV and from 20,000 mV.\n\
-         So it is promised that from call 6 on the set point is within two steps, 200 mV, \
-         of the peak: holds.\n"
+         So it is promised that from call 6 on the set point is less than two steps, 200 mV, \
+         from the peak: holds.\n"
     );
 }
 
@@ -63,7 +63,7 @@ fn a_step_may_go_down() {
         .prints("Call 5 is the first to cross it, from 2,950 mV to 3,050 mV.\n");
     tracked(STRAIGHT, &["--start", "3200", "--step=-50"])
         .status(0)
-        .prints("within two steps, 100 mV, of the peak: holds.\n");
+        .prints("less than two steps, 100 mV, from the peak: holds.\n");
 }
 
 /// A move that starts at the peak crosses it, and one that ends there.
@@ -93,7 +93,7 @@ fn a_peak_that_is_not_reached_takes_more_calls() {
             "The walk does not come to it in 20 calls: the set point is between 450 mV and \
              2,450 mV, at last 2,450 mV, 550 mV below the peak. It comes there with 6 more calls.\n",
         )
-        .prints("\nSo it is promised that once it crosses it stays within two steps, 200 mV, of the peak.\n");
+        .prints("\nSo it is promised that once it crosses it stays less than two steps, 200 mV, from the peak.\n");
     calls("25")
         .status(0)
         .prints("50 mV below the peak. It comes there with 1 more call.\n");
@@ -187,8 +187,8 @@ fn a_flat_top_is_not_spoken_of() {
         .prints(
             "The premises do not hold: the readings must fall strictly past the peak, and from \
              5,500 mV to 6,000 mV they don't: 3,300 mW, then 3,300 mW.\n\
-             So nothing is promised, and from call 3 on the set point is within two steps, \
-             1,000 mV, of the peak: DOES NOT HOLD: call 5, 6,500 mV, 1,250 mV from the peak.\n",
+             So nothing is promised, and from call 3 on the set point is less than two steps, \
+             1,000 mV, from the peak: DOES NOT HOLD: call 5, 6,500 mV, 1,250 mV from the peak.\n",
         )
         .says("curve.csv: the premises do not hold: the readings must fall strictly past");
 }
@@ -250,6 +250,37 @@ fn steps_too_short_for_the_meter_are_not_spoken_of() {
     run(&fine)
         .status(3)
         .says("the readings must rise strictly up to the peak, and from ");
+}
+
+/// Panels with a knee, strong and weak, walked on from anywhere in steps of any length:
+/// wherever the premises hold, so does the conclusion.
+#[test]
+fn no_walk_that_the_promise_speaks_of_strays() {
+    let mut state: u64 = 7;
+    // Knuth's multiplier; the high bits are the better ones.
+    let mut below = |limit: u64| {
+        state = state
+            .wrapping_mul(6_364_136_223_846_793_005)
+            .wrapping_add(1);
+        (state >> 33) % limit
+    };
+    let mut held = 0;
+    for _ in 0..300 {
+        let (end, light) = (2_000 + below(18_000), 20 + below(4_980));
+        let knee = end * (50 + below(40)) / 100;
+        let bent = light * (70 + below(30)) / 100;
+        let curve = format!("millivolts,milliamperes\n0,{light}\n{knee},{bent}\n{end},0\n");
+        let step = (1 + below(500)) as i64 * if below(2) == 0 { 1 } else { -1 };
+        let [start, step] = [below(end).to_string(), format!("--step={step}")];
+        let ran = tracked(&curve, &["--start", &start, &step, "--calls", "400"]);
+        assert!(
+            [0, 3].contains(&ran.status),
+            "{curve}{start} {step}: {}",
+            ran.err
+        );
+        held += u32::from(ran.text().ends_with(" from the peak: holds.\n") && ran.status == 0);
+    }
+    assert!(held > 100, "{held}");
 }
 
 /// Each limit, and past it: the library's 16, and which number it is.

@@ -142,6 +142,19 @@ fn the_peak_and_two_steps_around_it_are_marked_on_both_panels() {
     }
 }
 
+/// The call that crosses is the first of those since then.
+#[test]
+fn a_set_point_is_black_from_the_crossing_on() {
+    let classes = |calls: &str| -> Vec<String> {
+        let picture = drawn(STRAIGHT, &["--start", "2850", "--calls", calls], 0);
+        let circles = set_points(&picture);
+        circles.iter().map(|one| one.class.clone()).collect()
+    };
+    assert_eq!(classes("1"), ["box", "box"]);
+    assert_eq!(classes("2"), ["box", "box", "solid"]);
+    assert_eq!(classes("3"), ["box", "box", "solid", "solid"]);
+}
+
 /// The corners of a line.
 fn path(line: &Drawn) -> Vec<(f64, f64)> {
     let numbers = line.path.split(|c: char| "ML ".contains(c));

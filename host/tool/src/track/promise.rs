@@ -22,7 +22,7 @@ impl Promise {
         let room = walk.length().saturating_mul(2);
         let crossed = Crossing::of(walk, peak).map(|Crossing { call, .. }| {
             let stay = Stay::since(call, walk, peak);
-            (call, (stay.farthest > room).then(|| strayed(&stay, walk)))
+            (call, (stay.farthest >= room).then(|| strayed(&stay, walk)))
         });
         let premises = too_near(peak, room).or_else(|| not_one_peak(&visited, peak));
         Promise {
@@ -62,13 +62,14 @@ impl Promise {
     }
 
     fn promised(&self) -> String {
-        let within = format!("within two steps, {}, of the peak", millivolts(self.room));
+        let near = format!(
+            "less than two steps, {}, from the peak",
+            millivolts(self.room)
+        );
         let (call, strayed) = match (&self.crossed, &self.premises) {
             (Some(crossed), _) => crossed,
             (None, Some(_)) => return "nothing is promised".to_string(),
-            (None, None) => {
-                return format!("it is promised that once it crosses it stays {within}")
-            }
+            (None, None) => return format!("it is promised that once it crosses it stays {near}"),
         };
         let promised = match self.premises {
             Some(_) => "nothing is promised, and",
@@ -79,7 +80,7 @@ impl Promise {
             None => "holds".to_string(),
         };
         let call = thousands(*call as u64);
-        format!("{promised} from call {call} on the set point is {within}: {holds}")
+        format!("{promised} from call {call} on the set point is {near}: {holds}")
     }
 }
 
@@ -170,20 +171,20 @@ pub mod tests {
         let strayed = "call 5, 3,300 mV, 300 mV from the peak";
         assert_eq!(promise.conclusions(), Err(strayed));
         assert!(promise.verdict().ends_with(&format!(
-            "\nSo it is promised that from call 1 on the set point is within two steps, \
-             200 mV, of the peak: DOES NOT HOLD: {strayed}.\n"
+            "\nSo it is promised that from call 1 on the set point is less than two \
+             steps, 200 mV, from the peak: DOES NOT HOLD: {strayed}.\n"
         )));
     }
 
     #[test]
-    fn two_steps_are_no_straying() {
-        let walk = walk(&[2_900, 3_000, 3_100, 3_200, 2_800]);
-        let promise = Promise::of(&walk, &peak(3_000));
-        assert_eq!(
-            (promise.premises(), promise.conclusions()),
-            (Ok(()), Ok(()))
-        );
-        assert!(promise.verdict().ends_with(" of the peak: holds.\n"));
+    fn two_steps_are_straying_and_a_millivolt_less_is_not() {
+        for (far, strays) in [(2_801, false), (3_199, false), (2_800, true), (3_200, true)] {
+            let promise = Promise::of(&walk(&[2_900, 3_000, far]), &peak(3_000));
+            assert_eq!(promise.premises(), Ok(()));
+            assert_eq!(promise.conclusions().is_err(), strays, "{far}");
+            let holds = promise.verdict().ends_with(" from the peak: holds.\n");
+            assert_eq!(holds, !strays, "{far}");
+        }
     }
 
     /// Two steps from 0 and from 20,000 mV, and a millivolt less.
@@ -211,5 +212,18 @@ pub mod tests {
         assert_eq!(judged(1, 4_901), "");
         assert!(judged(3, 4_950).contains("fall strictly past the peak, and from 3,050 mV to "));
         assert_eq!(judged(3, 4_949), "");
+    }
+
+    /// A walk that comes by the peak itself is asked for that too.
+    #[test]
+    fn the_peak_is_higher_than_its_neighbours() {
+        for (at, from) in [(0, "2,900"), (2, "3,000")] {
+            let mut walk = walk(&[2_900, 3_000, 3_100]);
+            assert_eq!(Promise::of(&walk, &peak(3_000)).premises(), Ok(()));
+            walk.points[at].reading.milliamperes = 5_000;
+            let promise = Promise::of(&walk, &peak(3_000));
+            let why = promise.premises().expect_err("it is as high");
+            assert!(why.contains(&format!("from {from} mV to ")), "{why}");
+        }
     }
 }
