@@ -1,17 +1,16 @@
 -- On its way to the peak a walk arrives in as many calls as steps fit into the way, the last one counted whole.
 -- Assumes nothing.
-use Prim.Native.Nat.{ℕ, zero, suc, _+_, _-_, _*_, _/_, _<_, _≤_}
+use Prim.Native.Nat.{ℕ, zero, suc, _+_, _-_, _*_, _<_, _≤_}
 use native.Mathlib.Omega.{arith}
 use native.Mathlib.Nat.{le-of-lt, div-add-mod', mod-lt, mul-le-mul-right}
-use mathlib.Core.Path.{_≡_, refl, sym, _∙_}
+use mathlib.Core.Path.{_≡_, refl}
 use mathlib.Core.Bool.{Bool, true, false, not}
 use lib.Dec.{ltb}
-use lib.IntN.{ℤ}
 use borrow.Author.Tests.{ltb-true, ltb-false}
 use Rattle.tracker.specs.Range.{stepTo}
 use Rattle.tracker.specs.Walk.{Curve, Place, sizeOf, Called, Calls, none, then-call}
 use Rattle.tracker.specs.TwoSteps.{Lower, Peaked, Roomy, Within, twoSteps}
-use Rattle.tracker.specs.Arrival.{wayTo, Heads, Arrives, stepsFor, GetsThere}
+use Rattle.tracker.specs.Arrival.{wayTo, Arrives, stepsFor, GetsThere}
 use Rattle.tracker.proofs.WalkLaws.{Further, was-low, keeps, towards, Free, free}
 use Rattle.tracker.proofs.TwoSteps.{Around, crossed, ahead, around-within, around-next}
 

@@ -1,17 +1,17 @@
 -- A hair more than the tracker promises is false, each at a curve and a walk that are defined by name.
 -- Assumes nothing.
-use Prim.Native.Nat.{ℕ, suc, _+_, _-_, _*_, _/_, _<_, _≤_}
+use Prim.Native.Nat.{ℕ, _+_, _-_, _*_, _/_, _<_, _≤_}
 use native.Mathlib.Omega.{arith}
 use mathlib.Core.Path.{_≡_, refl}
 use mathlib.Core.Bool.{Bool, true, false}
 use lib.Dec.{leb, ltb}
-use lib.IntN.{ℤ, pos}
-use borrow.Author.Tests.{le-leb, lt-leb, lt-ltb, le-ltb, ltb-true, ltb-false, leb-true, leb-false}
+use lib.IntN.{pos}
+use borrow.Author.Tests.{le-leb, lt-ltb, le-ltb, ltb-false, leb-true, leb-false}
 use Rattle.basics.specs.Choice.{if_then_else_}
 use Rattle.tracker.specs.Tracker.{mostMillivolts, power, done, headed, stopped, moved, trackOf}
 use Rattle.tracker.specs.Range.{RangeTo}
 use Rattle.tracker.specs.Walk.{Curve, ReadAt, Place, sizeOf, Called, Calls, none, then-call}
-use Rattle.tracker.specs.TwoSteps.{Lower, Peaked, Roomy, Crosses, upward, twoSteps, StaysWithin}
+use Rattle.tracker.specs.TwoSteps.{Lower, Peaked, Roomy, upward, twoSteps, StaysWithin}
 use Rattle.tracker.specs.Arrival.{ArrivesIn}
 use Rattle.tracker.specs.declared.Reading.{Reading}
 

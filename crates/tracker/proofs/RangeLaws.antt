@@ -1,8 +1,8 @@
 -- A done call moves the set point by its step, or to an end, and keeps both in range; a refused one moves nothing.
 -- Assumes nothing.
-use Prim.Native.Nat.{ℕ, zero, suc, _+_, _-_, _<_, _≤_}
+use Prim.Native.Nat.{ℕ, zero, suc, _+_, _-_, _≤_}
 use native.Mathlib.Omega.{arith}
-use mathlib.Core.Path.{_≡_, refl, sym, ap, subst, _∙_}
+use mathlib.Core.Path.{_≡_, refl, sym, ap, _∙_}
 use mathlib.Core.Bool.{Bool, true, false, cond}
 use lib.Dec.{ltb}
 use lib.IntN.{ℤ, pos, negsuc, negℤ, natAbs, _+ℤ_}
@@ -10,7 +10,7 @@ use lib.Signed.{ltZ}
 use borrow.Author.Tests.{le-ltb, ltb-true, ltb-false}
 use Rattle.basics.proofs.ChoiceLaws.{either, within-low}
 use Rattle.tracker.specs.Tracker.{mostMillivolts, longestStep, trackNumber, done, headed, stopped, moved, inRange, trackOf}
-use Rattle.tracker.specs.Range.{stepTo, Moves, goes-up, goes-down, stops-above, stops-below, Kept, Stands, RangeTo, Range}
+use Rattle.tracker.specs.Range.{stepTo, Moves, goes-up, goes-down, stops-above, stops-below, Kept, Stands, Range}
 use Rattle.tracker.specs.declared.Answer.the-variants.{Done, OutOfRange}
 use Rattle.tracker.specs.declared.Reading.{Reading}
 use Rattle.tracker.specs.declared.Tracked.{Tracked}

@@ -3,8 +3,8 @@
 use Prim.Native.Nat.{ℕ, compare·suc-suc, suc, zero, _<_, _≤_, _*_, _^_, _-_}
 use native.Mathlib.Omega.{arith}
 use native.Mathlib.Nat.{mul-le-mul}
-use mathlib.Core.Path.{_≡_, refl, sym, ap, _∙_}
-use mathlib.Core.Bool.{Bool, true, false, not, true≢false, _&&_, cond}
+use mathlib.Core.Path.{_≡_, refl}
+use mathlib.Core.Bool.{Bool, true, false, not, true≢false, _&&_, _||_, cond}
 use lib.Dec.{T, leb, ltb}
 use lib.IntN.{ℤ, pos, negsuc, negℤ, natAbs, _+ℤ_, _-ℤ_, +ℤ-idl}
 use lib.Signed.{leZ, ltZ, mag, nonNeg}
@@ -20,18 +20,17 @@ pub product-fits : (a b : ℕ) → a < 2 ^ 32 → b < 2 ^ 32 → Fits w64 (a * b
 product-fits a b h k =
     record { fits = omega (arith, mul-le-mul {n₁ = a} {m₁ = b} {n₂ = 2 ^ 32 - 1} {m₂ = 2 ^ 32 - 1} (omega arith) (omega arith)) }
 
--- a test of two numbers that are one higher
-shifted : (n : ℕ) → leb (suc n) 500 ≡ leb n 499
-shifted n = rw compare·suc-suc
-
--- the tests of a step, up and down
-pub up-in-range : (z : ℤ) → leZ (pos 0) z ≡ true → leZ (pos 1) z && leZ z (pos longestStep) ≡ isStep z
-up-in-range (pos n) e = refl
-up-in-range (negsuc n) e = absurd (true≢false (sym e))
-
-pub down-in-range : (z : ℤ) → leZ (pos 0) z ≡ false → leZ (negsuc 499) z ≡ isStep z
-down-in-range (pos n) e = absurd (true≢false (sym (le-leb 0 n (omega arith)) ∙ e))
-down-in-range (negsuc n) e = sym (ap (λ (b : Bool). b && leb (suc n) 500) (le-leb 1 (suc n) (omega arith)) ∙ shifted n)
+-- 1 to 500 up, or 1 to 500 down: the step's size is
+pub either-way : (z : ℤ) → (leZ (pos 1) z && leZ z (pos longestStep)) || (leZ z (negsuc 0) && leZ (negsuc 499) z) ≡ isStep z
+either-way (pos n) = or-false (leb 1 n && leb n 500)
+  where
+    or-false : (b : Bool) → b || false ≡ b
+    or-false true = refl
+    or-false false = refl
+either-way (negsuc n) = simp (le-leb 0 n (omega arith), le-leb 1 (suc n) (omega arith), shifted)
+  where
+    shifted : leb (suc n) 500 ≡ leb n 499
+    shifted = rw compare·suc-suc
 
 -- a step in range is at most 500 long
 step-short : (z : ℤ) → T (isStep z) → natAbs z ≤ longestStep

@@ -9,7 +9,7 @@ use lib.IntN.{ℤ, pos, negℤ, natAbs, _+ℤ_}
 use lib.Signed.{ltZ}
 use borrow.Author.Tests.{le-leb, lt-leb}
 use Rattle.basics.specs.Choice.{if_then_else_, within}
-use Rattle.basics.proofs.ChoiceLaws.{holds, and-left, and-right, within-low}
+use Rattle.basics.proofs.ChoiceLaws.{holds, and-left, and-right}
 use Rattle.tracker.specs.Tracker.{mostMillivolts, mostMilliamperes, longestStep, trackNumber, isReading, isStep, power, headed, done, stopped, moved, inRange, trackOf}
 use Rattle.tracker.specs.declared.Answer.the-variants.{Done, OutOfRange}
 use Rattle.tracker.specs.declared.Reading.{Reading}

@@ -1,19 +1,16 @@
 -- Once a move has crossed the peak, the set point is less than two steps from it, after any number of calls.
 -- Assumes nothing.
-use Prim.Native.Nat.{ℕ, zero, suc, _+_, _*_, _-_, _<_, _≤_}
+use Prim.Native.Nat.{ℕ, zero, suc, _-_, _<_, _≤_}
 use native.Mathlib.Omega.{arith}
 use native.Mathlib.Nat.{le-of-lt, lt-irrefl, lt-of-lt-of-le}
-use mathlib.Core.Path.{_≡_, refl, sym, _∙_}
+use mathlib.Core.Path.{_≡_, refl}
 use mathlib.Core.Bool.{Bool, true, false, not}
 use lib.Dec.{leb}
-use lib.IntN.{ℤ, natAbs}
 use borrow.Author.Tests.{leb-true, leb-false}
-use Rattle.tracker.specs.Tracker.{mostMillivolts}
 use Rattle.tracker.specs.Range.{stepTo, Moves, goes-up, goes-down, stops-above, stops-below}
 use Rattle.tracker.specs.Walk.{Curve, Place, sizeOf, Called, Calls, none, then-call}
 use Rattle.tracker.specs.TwoSteps.{Lower, Peaked, Roomy, Crosses, upward, downward, Within, twoSteps, TwoSteps}
 use Rattle.tracker.specs.Arrival.{wayTo}
-use Rattle.tracker.proofs.SignedLaws.{sign-of, stepTo-size}
 use Rattle.tracker.proofs.WalkLaws.{Further, some-step, point-low, was-low, keeps, turns, some-way, towards, away, Free, free}
 
 -- the tracker after a crossing: its last move was a step, up or down, and the step still goes that way

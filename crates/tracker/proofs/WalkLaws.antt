@@ -1,6 +1,6 @@
 -- Laws of a call on a curve: which way it goes, and what power is won or lost on either side of the peak.
 -- Assumes nothing.
-use Prim.Native.Nat.{ℕ, _+_, _*_, _-_, _<_, _≤_}
+use Prim.Native.Nat.{ℕ, _+_, _-_, _<_, _≤_}
 use native.Mathlib.Omega.{arith}
 use native.Mathlib.Nat.{le-of-mul-le-mul-right, lt-of-mul-lt-mul-right}
 use mathlib.Core.Path.{_≡_, ap, subst, _∙_}

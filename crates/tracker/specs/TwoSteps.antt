@@ -1,7 +1,6 @@
 -- Two steps: once a move has crossed the peak, the set point is never as far as two steps from it.
 -- Assumes nothing.
 use Prim.Native.Nat.{ℕ, _+_, _*_, _<_, _≤_}
-use mathlib.Core.Path.{_≡_}
 use Rattle.tracker.specs.Tracker.{mostMillivolts}
 use Rattle.tracker.specs.Walk.{Curve, Place, sizeOf, Called, Calls}
 

@@ -1,6 +1,6 @@
 -- The tracker on a panel's curve: the measured voltage is the set point, and the readings are the curve's own.
 -- Assumes nothing.
-use Prim.Native.Nat.{ℕ, zero, suc, _*_, _≤_}
+use Prim.Native.Nat.{ℕ, suc, _*_, _≤_}
 use mathlib.Core.Path.{_≡_}
 use lib.IntN.{ℤ, natAbs}
 use Rattle.tracker.specs.Tracker.{power, done, trackOf}

@@ -69,11 +69,7 @@ impl Reading {
 fn is_step(step: i32) -> bool
     ensures { λ r. ⌜ r ≡ isStep step ⌝ }
 {
-    if 0 <= step {
-        (1 <= step) & (step <= LONGEST_STEP)
-    } else {
-        -LONGEST_STEP <= step
-    }
+    ((1 <= step) & (step <= LONGEST_STEP)) | ((step <= -1) & (-LONGEST_STEP <= step))
 }
 
 // The step the other way.
@@ -127,15 +123,15 @@ fn shift(point: u32, step: i32) -> Tracked
 }
 
 // One call, with the readings before and after the last move. What is out of range is refused, and nothing moves.
-pub fn track(before: Reading, after: Reading, point: u32, step: i32) -> Tracked
-    ensures { λ r. ⌜ r ≡ trackOf before after point step ⌝ }
+pub fn track(before: Reading, after: Reading, set_point: u32, step: i32) -> Tracked
+    ensures { λ r. ⌜ r ≡ trackOf before after «set_point» step ⌝ }
 {
-    if before.in_range() & after.in_range() & (point <= MOST_MILLIVOLTS) & is_step(step) {
-        shift(point, heading(before, after, step))
+    if before.in_range() & after.in_range() & (set_point <= MOST_MILLIVOLTS) & is_step(step) {
+        shift(set_point, heading(before, after, step))
     } else {
         Tracked {
             answer: Answer::OutOfRange,
-            point,
+            point: set_point,
             step,
         }
     }

@@ -5,7 +5,7 @@ use mir.Syntax.{w32}
 use mir.Val.{toZ, ofZ}
 use mir.Facts.{toZ-ofZ}
 use borrow.Author.Needs.{needs, sfits-of}
-use Rattle.tracker.specs.Tracker.{headed, inRange, trackOf}
+use Rattle.tracker.specs.Tracker.{inRange, trackOf}
 use Rattle.tracker.proofs.TrackerLaws.{headed-is-step, InRange, ranges}
 use Rattle.tracker.proofs.track.Statement.{statement}
 use Rattle.tracker.proofs.track.Tie as tie
@@ -24,21 +24,21 @@ step-is : (c : tie.Start) → toZ w32 (ofZ w32 (c .args .step)) ≡ c .args .ste
 step-is c = toZ-ofZ {w = w32} (c .fits .step)
 
 -- past the test, all is in range
-all : (c : tie.Then1) → let a = c .before .before .before .before .args in inRange (a .before) (a .after) (a .point) (a .step) ≡ true
+all : (c : tie.Then1) → let a = c .before .before .before .before .args in inRange (a .before) (a .after) (a .set-point) (a .step) ≡ true
 all c =
     simp (c .before .is-step .ensures, c .before .before .in-range2 .ensures, c .before .before .before .in-range .ensures, step-is (c .before .before .before .before)) at (c .if1 .taken)
 
 heading-requires : tie.Need-heading-requires
 heading-requires c κs =
     let start = c .before .before .before .before in
-    let r : InRange (start .args .before) (start .args .after) (start .args .point) (start .args .step) = ranges _ _ _ _ (all c) in
+    let r : InRange (start .args .before) (start .args .after) (start .args .set-point) (start .args .step) = ranges _ _ _ _ (all c) in
     rw (step-is start) (r .is-step)
 
 shift-requires : tie.Need-shift-requires
 shift-requires c κs =
     let test = c .before in
     let start = test .before .before .before .before in
-    let r : InRange (start .args .before) (start .args .after) (start .args .point) (start .args .step) = ranges _ _ _ _ (all test) in
+    let r : InRange (start .args .before) (start .args .after) (start .args .set-point) (start .args .step) = ranges _ _ _ _ (all test) in
     rw (toZ-ofZ {w = w32} {z = c .heading .result} (sfits-of (c .heading .ok)), c .heading .ensures, step-is start)
     (r .point-low, headed-is-step (start .args .before) (start .args .after) (start .args .step) (r .is-step))
 
@@ -54,7 +54,7 @@ returns-2 : tie.Need-returns-2
 unfolding trackOf
 returns-2 c =
     let start = c .before .before .before .before in
-    let outside : inRange (start .args .before) (start .args .after) (start .args .point) (start .args .step) ≡ false = simp (c .before .is-step .ensures, c .before .before .in-range2 .ensures, c .before .before .before .in-range .ensures, step-is start) at (c .if1 .left) in
+    let outside : inRange (start .args .before) (start .args .after) (start .args .set-point) (start .args .step) ≡ false = simp (c .before .is-step .ensures, c .before .before .in-range2 .ensures, c .before .before .before .in-range .ensures, step-is start) at (c .if1 .left) in
     simp (step-is start, outside)
 
 pub track-spec : {M : Type 1} → statement M
