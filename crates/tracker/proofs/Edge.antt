@@ -11,7 +11,7 @@ use Rattle.basics.specs.Choice.{if_then_else_}
 use Rattle.tracker.specs.Tracker.{mostMillivolts, power, done, headed, stopped, moved, trackOf}
 use Rattle.tracker.specs.Range.{RangeTo}
 use Rattle.tracker.specs.Walk.{Curve, ReadAt, Place, sizeOf, Called, Calls, none, then-call}
-use Rattle.tracker.specs.TwoSteps.{Lower, Peaked, Roomy, upward, twoSteps, StaysWithin}
+use Rattle.tracker.specs.TwoSteps.{Lower, Peaked, upward, twoSteps, StaysWithin}
 use Rattle.tracker.specs.Arrival.{ArrivesIn}
 use Rattle.tracker.specs.declared.Reading.{Reading}
 
@@ -29,7 +29,7 @@ steep = record { parts = 1; some = omega arith; at = λ v. if ltb v 4000 then 40
 
 steep-peaked : Peaked Lower steep 4000
 unfolding steep
-steep-peaked = record { rises = rises; falls = falls }
+steep-peaked = record { low = omega arith; rises = rises; falls = falls }
   where
     rises : (a b : ℕ) → a < b → b ≤ 4000 → steep .at a < steep .at b
     rises a b h k = simp (lt-ltb a 4000 (omega arith)) (by (ltb b 4000) refl)
@@ -60,18 +60,15 @@ onward : Called steep (at 4099) (at 4199)
 unfolding steep trackOf headed moved stopped
 onward = call steep (at 4099) (at 4199) (reads 3999 4099) (reads 4099 3999) (own refl refl) (own refl refl) refl refl
 
-roomy : Roomy 100 4000
-roomy = record { above = omega arith; below = omega arith }
-
 -- it strays by two steps less a millivolt
 pub not-nearer : StaysWithin Lower Called (λ size. 2 * size - 1) → ⊥
 not-nearer says =
-    omega (arith, says steep 4000 steep-peaked (at 3999) (at 4099) roomy across (upward (omega arith) (omega arith)) 1 (at 4199) (then-call none onward) .not-above)
+    omega (arith, says steep 4000 steep-peaked (at 3999) (at 4099) across (upward (omega arith) (omega arith)) 1 (at 4199) (then-call none onward) .not-above)
 
 -- and so by more than one
 pub not-one-step : StaysWithin Lower Called (λ size. size + 1) → ⊥
 not-one-step says =
-    omega (arith, says steep 4000 steep-peaked (at 3999) (at 4099) roomy across (upward (omega arith) (omega arith)) 1 (at 4199) (then-call none onward) .not-above)
+    omega (arith, says steep 4000 steep-peaked (at 3999) (at 4099) across (upward (omega arith) (omega arith)) 1 (at 4199) (then-call none onward) .not-above)
 
 -- a set point that somebody else has set
 pub record Jumped (curve : Curve) (p q : Place) : Type 0 where
@@ -82,7 +79,7 @@ pub record Jumped (curve : Curve) (p q : Place) : Type 0 where
 pub not-by-a-jump : StaysWithin Lower Jumped twoSteps → ⊥
 not-by-a-jump says =
     let q : Place = record { was = 3900; point = 4300; step = pos 100 } in
-    omega (arith, says steep 4000 steep-peaked (at 3900) q roomy (record { from = refl; size = refl }) (upward (omega arith) (omega arith)) 0 q none .not-above)
+    omega (arith, says steep 4000 steep-peaked (at 3900) q (record { from = refl; size = refl }) (upward (omega arith) (omega arith)) 0 q none .not-above)
 
 -- no higher than
 abbrev pub NoHigher : ℕ → ℕ → Type 0
@@ -94,7 +91,7 @@ flat = record { parts = 1; some = omega arith; at = λ v. if ltb v 4000 then 861
 
 flat-peaked : Peaked NoHigher flat 4000
 unfolding flat
-flat-peaked = record { rises = rises; falls = falls }
+flat-peaked = record { low = omega arith; rises = rises; falls = falls }
   where
     rises : (a b : ℕ) → a < b → b ≤ 4000 → flat .at a < flat .at b
     rises a b h k = simp (lt-ltb a 4000 (omega arith), le-leb b 4200 (omega arith)) (by (ltb b 4000) refl)
@@ -129,12 +126,12 @@ along =
 -- a flat top: it walks on, more than two steps
 pub not-on-a-flat-top : StaysWithin NoHigher Called twoSteps → ⊥
 not-on-a-flat-top says =
-    omega (arith, says flat 4000 flat-peaked (at 3900) (at 4000) roomy climbs (upward (omega arith) (omega arith)) 3 (at 4300) along .not-above)
+    omega (arith, says flat 4000 flat-peaked (at 3900) (at 4000) climbs (upward (omega arith) (omega arith)) 3 (at 4300) along .not-above)
 
 -- in the calls of whole steps alone it is not there yet
 pub not-rounded-down : ArrivesIn (λ size way. way / size) → ⊥
 not-rounded-down says =
-    omega (arith, says steep true 4000 steep-peaked (at 3950) (omega arith) roomy (record { away = omega arith; last = omega arith; onward = refl }) .there (at 3950) none)
+    omega (arith, says steep true 4000 steep-peaked (at 3950) (omega arith) (record { away = omega arith; last = omega arith; onward = refl }) .there (at 3950) none)
 
 -- a set point may come to 20,000
 pub not-below-the-end : RangeTo 19999 → ⊥

@@ -6,11 +6,11 @@ use native.Mathlib.Nat.{le-of-mul-le-mul-right, lt-of-mul-lt-mul-right}
 use mathlib.Core.Path.{_≡_, ap, subst, _∙_}
 use mathlib.Core.Bool.{Bool, true, false, not}
 use lib.IntN.{ℤ, negℤ}
-use Rattle.basics.proofs.ChoiceLaws.{within-low}
+use Rattle.basics.proofs.ChoiceLaws.{within-low, within-high}
 use Rattle.tracker.specs.Tracker.{mostMillivolts, longestStep, power, headed, inRange, trackOf}
 use Rattle.tracker.specs.Range.{stepTo, Moves, goes-up, goes-down, stops-above, stops-below, Kept}
 use Rattle.tracker.specs.Walk.{Curve, Place, sizeOf, Called}
-use Rattle.tracker.specs.TwoSteps.{Lower, Peaked, Roomy}
+use Rattle.tracker.specs.TwoSteps.{Lower, Peaked}
 use Rattle.tracker.specs.Arrival.{wayTo}
 use Rattle.tracker.specs.declared.Tracked.{Tracked}
 use Rattle.tracker.proofs.SignedLaws.{stepTo-turned}
@@ -31,6 +31,9 @@ module _ (curve : Curve) (p q : Place) (c : Called curve p q) where
 
   pub some-step : 1 ≤ sizeOf p
   some-step = within-low 1 longestStep (sizeOf p) (in-range .is-step)
+
+  pub short-step : sizeOf p ≤ longestStep
+  short-step = within-high 1 longestStep (sizeOf p) (in-range .is-step)
 
   pub point-low : p .point ≤ mostMillivolts
   point-low = in-range .point-low
@@ -77,13 +80,18 @@ module _ (curve : Curve) (peak : ℕ) (peaked : Peaked Lower curve peak) where
   away true a b l h k = peaked .falls a b (omega arith) (omega arith) l
   away false a b l h k = peaked .rises b a (omega arith) (omega arith)
 
--- a move that starts at most one step past the peak meets no end
-pub record Free (up : Bool) (size from to : ℕ) (step : ℤ) : Type 0 where
-  pub further : Further up size from to
-  pub onward : step ≡ stepTo up size
+-- the end that a move up or down may come to
+abbrev pub endOf : (up : Bool) → ℕ
+endOf true = mostMillivolts
+endOf false = 0
 
-pub free : (size peak : ℕ) → Roomy size peak → (up : Bool) (from to : ℕ) (step : ℤ) → wayTo (not up) peak from ≤ size → Moves size from up to step → Free up size from to step
-free size peak roomy true from to step h (goes-up f q s) = record { further = q; onward = s }
-free size peak roomy true from to step h (stops-above f q s) = absurd (omega (arith, roomy .below))
-free size peak roomy false from to step h (goes-down q s) = record { further = q; onward = s }
-free size peak roomy false from to step h (stops-below f q s) = absurd (omega (arith, roomy .above))
+-- a move goes a step further, or stops at the end that is nearer than that, and is turned there
+pub data Went (up : Bool) (size from to : ℕ) (step : ℤ) : Type 0 where
+  on : Further up size from to → to ≤ mostMillivolts → step ≡ stepTo up size → Went up size from to step
+  ended : to ≡ endOf up → wayTo up (endOf up) from < size → step ≡ stepTo (not up) size → Went up size from to step
+
+pub went : (up : Bool) (size from to : ℕ) (step : ℤ) → from ≤ mostMillivolts → Moves size from up to step → Went up size from to step
+went true size from to step low (goes-up f e s) = on e f s
+went true size from to step low (stops-above f e s) = ended e (omega arith) s
+went false size from to step low (goes-down e s) = on e (omega arith) s
+went false size from to step low (stops-below f e s) = ended e (omega arith) s

@@ -6,7 +6,7 @@ use mathlib.Core.Path.{_≡_}
 use mathlib.Core.Bool.{Bool, true, false}
 use Rattle.tracker.specs.Range.{stepTo}
 use Rattle.tracker.specs.Walk.{Curve, Place, sizeOf, Calls}
-use Rattle.tracker.specs.TwoSteps.{Lower, Peaked, Roomy, Within, twoSteps}
+use Rattle.tracker.specs.TwoSteps.{Lower, Peaked, Within, twoSteps}
 
 -- how far it is, going up or down, from a set point to another: 0 at it and past it
 abbrev pub wayTo : (up : Bool) (goal point : ℕ) → ℕ
@@ -34,7 +34,7 @@ stepsFor size way = (way + (size - 1)) / size
 abbrev pub ArrivesIn : (calls : (size way : ℕ) → ℕ) → Type 0
 ArrivesIn calls =
     (curve : Curve) (up : Bool) (peak : ℕ) → Peaked Lower curve peak → (p : Place) → 1 ≤ sizeOf p →
-    Roomy (sizeOf p) peak → Heads up peak p →
+    Heads up peak p →
     Arrives curve up peak p (calls (sizeOf p) (wayTo up peak (p .point)))
 
 abbrev pub GetsThere : Type 0

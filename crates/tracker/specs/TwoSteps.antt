@@ -10,13 +10,10 @@ Lower a b = a < b
 
 -- the power rises strictly to one peak, and falls after it, each later one being so much lower
 pub record Peaked (Falls : ℕ → ℕ → Type 0) (curve : Curve) (peak : ℕ) : Type 0 where
+  -- the peak is a set point
+  pub low : peak ≤ mostMillivolts
   pub rises : (a b : ℕ) → a < b → b ≤ peak → curve .at a < curve .at b
   pub falls : (a b : ℕ) → peak ≤ a → a < b → b ≤ mostMillivolts → Falls (curve .at b) (curve .at a)
-
--- the peak is at least two steps from both ends
-pub record Roomy (size peak : ℕ) : Type 0 where
-  pub above : 2 * size ≤ peak
-  pub below : peak + 2 * size ≤ mostMillivolts
 
 -- a move that started on one side of the peak, or at it, and ended on the other, or at it
 pub data Crosses (peak from to : ℕ) : Type 0 where
@@ -32,8 +29,8 @@ pub record Within (reach peak point : ℕ) : Type 0 where
 abbrev pub StaysWithin :
     (Falls : ℕ → ℕ → Type 0) (Moved : Curve → Place → Place → Type 0) (reach : ℕ → ℕ) → Type 0
 StaysWithin Falls Moved reach =
-    (curve : Curve) (peak : ℕ) → Peaked Falls curve peak → (p q : Place) → Roomy (sizeOf p) peak →
-    Moved curve p q → Crosses peak (p .point) (q .point) →
+    (curve : Curve) (peak : ℕ) → Peaked Falls curve peak → (p q : Place) → Moved curve p q →
+    Crosses peak (p .point) (q .point) →
     (n : ℕ) (r : Place) → Calls curve q n r → Within (reach (sizeOf p)) peak (r .point)
 
 -- two steps of a size
