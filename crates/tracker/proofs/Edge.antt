@@ -60,15 +60,18 @@ onward : Called steep (at 4099) (at 4199)
 unfolding steep trackOf headed moved stopped
 onward = call steep (at 4099) (at 4199) (reads 3999 4099) (reads 4099 3999) (own refl refl) (own refl refl) refl refl
 
--- it strays by two steps less a millivolt
-pub not-nearer : StaysWithin Lower Called (λ size. 2 * size - 1) → ⊥
-not-nearer says =
-    omega (arith, says steep 4000 steep-peaked (at 3999) (at 4099) across (upward (omega arith) (omega arith)) 1 (at 4199) (then-call none onward) .not-above)
+-- whatever it stays within, it strays by 199
+strays : (reach : ℕ → ℕ) → StaysWithin Lower Called reach → 4199 < 4000 + reach 100
+strays reach says =
+    says steep 4000 steep-peaked (at 3999) (at 4099) across (upward (omega arith) (omega arith)) 1 (at 4199) (then-call none onward) .not-above
 
--- and so by more than one
+-- two steps less a millivolt
+pub not-nearer : StaysWithin Lower Called (λ size. 2 * size - 1) → ⊥
+not-nearer says = omega (arith, strays (λ size. 2 * size - 1) says)
+
+-- and so more than one step
 pub not-one-step : StaysWithin Lower Called (λ size. size + 1) → ⊥
-not-one-step says =
-    omega (arith, says steep 4000 steep-peaked (at 3999) (at 4099) across (upward (omega arith) (omega arith)) 1 (at 4199) (then-call none onward) .not-above)
+not-one-step says = omega (arith, strays (λ size. size + 1) says)
 
 -- a set point that somebody else has set
 pub record Jumped (curve : Curve) (p q : Place) : Type 0 where

@@ -4,11 +4,11 @@ use Prim.Native.Nat.{ℕ, _+_, _*_, _<_, _≤_}
 use Rattle.tracker.specs.Tracker.{mostMillivolts}
 use Rattle.tracker.specs.Walk.{Curve, Place, sizeOf, Called, Calls}
 
--- lower than
+-- how the power falls past the peak: a later one is lower than an earlier one
 abbrev pub Lower : ℕ → ℕ → Type 0
 Lower a b = a < b
 
--- the power rises strictly to one peak, and falls after it, each later one being so much lower
+-- the power rises strictly to one peak, and falls after it as is asked
 pub record Peaked (Falls : ℕ → ℕ → Type 0) (curve : Curve) (peak : ℕ) : Type 0 where
   -- the peak is a set point
   pub low : peak ≤ mostMillivolts
@@ -20,7 +20,7 @@ pub data Crosses (peak from to : ℕ) : Type 0 where
   upward : from ≤ peak → peak ≤ to → Crosses peak from to
   downward : peak ≤ from → to ≤ peak → Crosses peak from to
 
--- less far from the peak
+-- nearer to the peak than that
 pub record Within (reach peak point : ℕ) : Type 0 where
   pub not-below : peak < point + reach
   pub not-above : point < peak + reach
