@@ -17,11 +17,17 @@ stepTo false size = negℤ (pos size)
 -- a move up or down from a set point: where it comes to, and the step handed back
 pub data Moves (size from : ℕ) : (up : Bool) (to : ℕ) (step : ℤ) → Type 0 where
   -- it stays within the ends, or comes to one exactly, and the step is kept
-  goes-up : {to : ℕ} {step : ℤ} → to ≤ mostMillivolts → to ≡ from + size → step ≡ stepTo true size → Moves size from true to step
-  goes-down : {to : ℕ} {step : ℤ} → to + size ≡ from → step ≡ stepTo false size → Moves size from false to step
+  goes-up :
+      {to : ℕ} {step : ℤ} → to ≤ mostMillivolts → to ≡ from + size → step ≡ stepTo true size →
+      Moves size from true to step
+  goes-down :
+      {to : ℕ} {step : ℤ} → to + size ≡ from → step ≡ stepTo false size → Moves size from false to step
   -- past an end: it stops there, and the step is turned
-  stops-above : {to : ℕ} {step : ℤ} → mostMillivolts < from + size → to ≡ mostMillivolts → step ≡ stepTo false size → Moves size from true to step
-  stops-below : {to : ℕ} {step : ℤ} → from < size → to ≡ 0 → step ≡ stepTo true size → Moves size from false to step
+  stops-above :
+      {to : ℕ} {step : ℤ} → mostMillivolts < from + size → to ≡ mostMillivolts → step ≡ stepTo false size →
+      Moves size from true to step
+  stops-below :
+      {to : ℕ} {step : ℤ} → from < size → to ≡ 0 → step ≡ stepTo true size → Moves size from false to step
 
 -- a done call, from a set point with a step
 pub record Kept (most point : ℕ) (step : ℤ) (t : Tracked) : Type 0 where
