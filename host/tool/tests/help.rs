@@ -42,7 +42,8 @@ fn help_says_what_a_curve_is_and_what_is_promised() {
         .status(0)
         .prints("the head line millivolts,milliamperes and rows")
         .prints("at the last no current flows any more")
-        .prints("always\nless than two steps from the peak")
+        .prints("\nthe set point is always less than two steps from the peak once")
+        .prints("The peak may be at any set point.\n")
         .prints("3 the premises don't hold")
         .prints(
             "\n  ems track examples/panel.csv --start 3000 --step 100 --calls 200 -o track.svg\n",

@@ -44,7 +44,7 @@ fn the_first_crossing_and_the_stay_are_told() {
          On average the panel gives 99.9 % of the peak's power there.\n\
          \n\
          The premises hold: the readings at 8 set points rise strictly up to the peak and \
-         fall strictly past it, and it is two steps or more from 0 mV and from 20,000 mV.\n\
+         fall strictly past it.\n\
          So it is promised that from call 6 on the set point is less than two steps, 200 mV, \
          from the peak: holds.\n"
     );
@@ -205,14 +205,22 @@ fn two_peaks_are_not_spoken_of() {
         .says("from 5,500 mV to 6,000 mV they don't: 445.5 mW, then 450 mW");
 }
 
-/// In the dark nothing rises, and at the walk's start nothing does past the last row.
+/// In the dark there is no peak, wherever a walk came by, and past the last row nothing
+/// falls.
 #[test]
 fn the_dark_is_not_spoken_of() {
-    tracked("millivolts,milliamperes\n0,0\n", &["--start", "3000"])
-        .status(3)
-        .prints("The curve's peak is at 0 mV: 0 mW.\n")
-        .prints("The panel gives no power at all.\n")
-        .says("the peak, 0 mV, must be two steps, 200 mV, or more from 0 mV");
+    let dark = "millivolts,milliamperes\n0,0\n";
+    for walk in [
+        &["--start", "3000"][..],
+        &["--start", "0", "--step", "-100", "--calls", "1"],
+        &["--start", "20000", "--calls", "1"],
+    ] {
+        tracked(dark, walk)
+            .status(3)
+            .prints("The curve's peak is at 0 mV: 0 mW.\n")
+            .prints("The panel gives no power at all.\n")
+            .says("the premises do not hold: there is no peak, as the panel gives no power\n");
+    }
     tracked(STRAIGHT, &["--start", "7000", "--calls", "10"])
         .status(3)
         .prints("at last 8,000 mV, 5,000 mV above the peak. It comes there with 291 more calls.\n")
@@ -220,20 +228,57 @@ fn the_dark_is_not_spoken_of() {
         .says("from 7,000 mV to 7,100 mV they don't: 0 mW, then 0 mW");
 }
 
-/// Two steps from an end, and a millivolt less.
+/// A walk that is spoken of, and holds: where the peak is, and what else is told.
+fn holds(curve: &str, walk: [&str; 2], peak: &str, told: &[&str]) {
+    let step = format!("--step={}", walk[1]);
+    let ran = tracked(curve, &["--start", walk[0], &step])
+        .status(0)
+        .prints(&format!("The curve's peak is at {peak} mV: "));
+    let ran = told.iter().fold(ran, |ran, told| ran.prints(told));
+    assert!(ran.text().ends_with(" from the peak: holds.\n"));
+}
+
+/// Two steps from 0 mV, a millivolt less, and much less.
 #[test]
-fn a_peak_near_an_end_is_not_spoken_of() {
+fn a_peak_near_the_lower_end_is_spoken_of() {
     let low = "millivolts,milliamperes\n0,3000\n998,2500\n1000,2400\n1200,0\n";
-    let ran = tracked(low, &["--start", "500", "--step", "499", "--calls", "9"]).status(0);
-    ran.prints("peak is at 998 mV: 2,495 mW.\n");
-    tracked(low, &["--start", "500", "--step", "500", "--calls", "9"])
-        .status(3)
-        .says("the peak, 998 mV, must be two steps, 1,000 mV, or more from 0 mV");
-    let high = "millivolts,milliamperes\n0,100\n30000,90\n30001,0\n";
-    tracked(high, &["--start", "10000", "--step", "500"])
-        .status(3)
-        .prints("The curve's peak is at 20,000 mV: ")
-        .says("the peak, 20,000 mV, must be two steps, 1,000 mV, or more from 20,000 mV");
+    for step in ["499", "500"] {
+        holds(low, ["500", step], "998", &["The premises hold: "]);
+    }
+    // Less than a step: the first move stops at 0 mV, and the second as well.
+    let lower = "millivolts,milliamperes\n0,3000\n300,3000\n500,0\n";
+    let told = [
+        "Call 1 is the first to cross it, from 400 mV to 0 mV.\n",
+        "is between 0 mV and 998 mV: at most 698 mV from the peak, 1.4 steps.\n",
+    ];
+    holds(lower, ["400", "-499"], "300", &told);
+    // A millivolt from the end: the walk goes to two steps less a millivolt from it.
+    let lowest = "millivolts,milliamperes\n0,5000\n1,5000\n2,40\n100,40\n200,10\n201,0\n";
+    let told = ["is between 0 mV and 200 mV: at most 199 mV from the peak, 1.99 steps.\n"];
+    holds(lowest, ["0", "100"], "1", &told);
+}
+
+/// As near to 20,000 mV, and at it.
+#[test]
+fn a_peak_near_the_upper_end_is_spoken_of() {
+    for (peak, told) in [("19000", "19,000"), ("19001", "19,001")] {
+        let high = format!("millivolts,milliamperes\n0,100\n{peak},100\n20400,0\n");
+        holds(&high, ["17700", "500"], told, &["The premises hold: "]);
+    }
+    // Less than a step: the first move stops at 20,000 mV, and the second as well.
+    let higher = "millivolts,milliamperes\n0,100\n19700,100\n20100,0\n";
+    let told = [
+        "Call 1 is the first to cross it, from 19,600 mV to 20,000 mV.\n",
+        "is between 19,000 mV and 20,000 mV: at most 700 mV from the peak, 1.4 steps.\n",
+    ];
+    holds(higher, ["19600", "500"], "19,700", &told);
+    // A panel that gives more past the last set point: there, and stopped there.
+    let highest = "millivolts,milliamperes\n0,100\n30000,100\n30001,0\n";
+    for (start, from) in [("10000", "19,500"), ("10100", "19,600")] {
+        let crossing = format!("Call 20 is the first to cross it, from {from} mV to 20,000 mV.\n");
+        let stay = "is between 19,500 mV and 20,000 mV: at most 500 mV from the peak, 1 step.\n";
+        holds(highest, [start, "500"], "20,000", &[&crossing, stay]);
+    }
 }
 
 /// With steps of 1 mV whole milliamperes can't tell one set point from the next.
@@ -252,8 +297,9 @@ fn steps_too_short_for_the_meter_are_not_spoken_of() {
         .says("the readings must rise strictly up to the peak, and from ");
 }
 
-/// Panels with a knee, strong and weak, walked on from anywhere in steps of any length:
-/// wherever the premises hold, so does the conclusion.
+/// Panels with a knee, strong and weak, whose peak is anywhere, near 0 mV or near 20,000,
+/// walked on from anywhere in steps of any length: wherever the premises hold, so does
+/// the conclusion.
 #[test]
 fn no_walk_that_the_promise_speaks_of_strays() {
     let mut state: u64 = 7;
@@ -264,23 +310,54 @@ fn no_walk_that_the_promise_speaks_of_strays() {
             .wrapping_add(1);
         (state >> 33) % limit
     };
-    let mut held = 0;
-    for _ in 0..300 {
-        let (end, light) = (2_000 + below(18_000), 20 + below(4_980));
-        let knee = end * (50 + below(40)) / 100;
+    // Of panels near 0 mV, near 20,000 and anywhere: how many hold; of those, in how many
+    // the peak is less than two steps from the end; and in how many the walk came there.
+    let [mut held, mut near, mut came] = [[0; 3]; 3];
+    for case in 0..900 {
+        let place = case % 3;
+        let end = match place {
+            0 => 10 + below(1_000),
+            1 => 20_001 + below(1_500),
+            _ => 2_000 + below(18_000),
+        };
+        let (knee, start) = match place {
+            1 => (19_000 + below(end - 19_000), 20_000 - below(5_000)),
+            _ => (end * (50 + below(40)) / 100, below(end)),
+        };
+        let light = 20 + below(4_980);
         let bent = light * (70 + below(30)) / 100;
         let curve = format!("millivolts,milliamperes\n0,{light}\n{knee},{bent}\n{end},0\n");
-        let step = (1 + below(500)) as i64 * if below(2) == 0 { 1 } else { -1 };
-        let [start, step] = [below(end).to_string(), format!("--step={step}")];
+        let length = 1 + below(500);
+        let step = length as i64 * if below(2) == 0 { 1 } else { -1 };
+        let [start, step] = [start.to_string(), format!("--step={step}")];
         let ran = tracked(&curve, &["--start", &start, &step, "--calls", "400"]);
         assert!(
             [0, 3].contains(&ran.status),
             "{curve}{start} {step}: {}",
             ran.err
         );
-        held += u32::from(ran.text().ends_with(" from the peak: holds.\n") && ran.status == 0);
+        if ran.status == 3 || !ran.text().ends_with(" from the peak: holds.\n") {
+            continue;
+        }
+        let peak = peak_told(ran.text());
+        let (away, at_end) = match place {
+            0 => (peak, "is between 0 mV and "),
+            _ => (20_000 - peak, " and 20,000 mV: "),
+        };
+        held[place] += 1;
+        near[place] += u32::from(away < 2 * length);
+        came[place] += u32::from(away < 2 * length && ran.text().contains(at_end));
     }
-    assert!(held > 100, "{held}");
+    assert!(held.iter().all(|held| *held > 100), "{held:?}");
+    assert!(near[..2].iter().all(|near| *near > 50), "{near:?}");
+    assert!(came[..2].iter().all(|came| *came > 30), "{came:?}");
+}
+
+/// Where the peak is told to be.
+fn peak_told(text: &str) -> u64 {
+    let told = text.strip_prefix("The curve's peak is at ");
+    let (millivolts, _) = told.and_then(|told| told.split_once(" mV: ")).expect(text);
+    millivolts.replace(',', "").parse().expect(text)
 }
 
 /// Each limit, and past it: the library's 16, and which number it is.

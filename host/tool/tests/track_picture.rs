@@ -213,6 +213,7 @@ fn long_walks_are_small_pictures() {
 #[test]
 fn no_walk_leaves_the_frame() {
     let far = "millivolts,milliamperes\n0,5000\n30000,4900.5\n30001,0\n";
+    let low = "millivolts,milliamperes\n0,3000\n300,3000\n500,0\n";
     let weak = "millivolts,milliamperes\n0,0.4\n5,0\n";
     for (name, curve, more, status) in [
         (
@@ -228,7 +229,8 @@ fn no_walk_leaves_the_frame() {
             0,
         ),
         ("past the last row", STRAIGHT, &["--start", "7000"], 3),
-        ("to the end", far, &["--start", "15000", "--step", "499"], 3),
+        ("to the end", far, &["--start", "15000", "--step", "499"], 0),
+        ("to 0 mV", low, &["--start", "400", "--step=-499"], 0),
         ("weak", weak, &["--start", "0", "--step", "1"], 3),
         (
             "dark",

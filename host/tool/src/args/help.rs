@@ -122,9 +122,9 @@ decimals, and the meter reads whole milliamperes. From # to the end of a line is
 comment.
 
 The promise: where the readings rise strictly up to one peak and fall strictly past it,
-and the peak is two steps or more from 0 mV and from 20,000 mV, the set point is always
-less than two steps from the peak once a move has come from one side of it, or from it,
-to the other side, or to it. The readings are looked at where the walk came by.
+the set point is always less than two steps from the peak once a move has come from one
+side of it, or from it, to the other side, or to it. The peak may be at any set point.
+The readings are looked at where the walk came by.
 
 Every move is a call of ems_track. At the first one nothing has moved yet: both readings
 are the start's.

@@ -2,7 +2,6 @@
 
 use super::{millivolts, milliwatts, Crossing, Peak, Point, Stay, Walk};
 use crate::words::{count, thousands};
-use ems::MOST_MILLIVOLTS;
 
 /// The promise, held against a walk.
 pub struct Promise {
@@ -24,7 +23,7 @@ impl Promise {
             let stay = Stay::since(call, walk, peak);
             (call, (stay.farthest >= room).then(|| strayed(&stay, walk)))
         });
-        let premises = too_near(peak, room).or_else(|| not_one_peak(&visited, peak));
+        let premises = dark(peak).or_else(|| not_one_peak(&visited, peak));
         Promise {
             visited: visited.len() as u64,
             room,
@@ -53,9 +52,8 @@ impl Promise {
             Some(why) => format!("do not hold: {why}"),
             None => format!(
                 "hold: the readings at {} rise strictly up to the peak and fall strictly \
-                 past it, and it is two steps or more from 0 mV and from {}",
+                 past it",
                 count(self.visited, "set point"),
-                millivolts(MOST_MILLIVOLTS),
             ),
         };
         format!("The premises {premises}.\nSo {}.\n", self.promised())
@@ -91,23 +89,10 @@ fn strayed(stay: &Stay, walk: &Walk) -> String {
     format!("call {call}, {set_point}, {away} from the peak")
 }
 
-/// A peak that is less than two steps from an end.
-fn too_near(peak: &Peak, room: u32) -> Option<String> {
-    let end = if peak.set_point < room {
-        0
-    } else if MOST_MILLIVOLTS.saturating_sub(peak.set_point) < room {
-        MOST_MILLIVOLTS
-    } else {
-        return None;
-    };
-    let (at, end, room) = (
-        millivolts(peak.set_point),
-        millivolts(end),
-        millivolts(room),
-    );
-    Some(format!(
-        "the peak, {at}, must be two steps, {room}, or more from {end}"
-    ))
+/// At 0 mV there is no power, and so no peak: it is only found there in the dark.
+fn dark(peak: &Peak) -> Option<String> {
+    let none = peak.set_point == 0;
+    none.then(|| "there is no peak, as the panel gives no power".to_string())
 }
 
 /// Two set points beside each other whose readings don't rise up to the peak, or don't
@@ -187,12 +172,41 @@ pub mod tests {
         }
     }
 
-    /// Two steps from 0 and from 20,000 mV, and a millivolt less.
+    /// From a millivolt above 0 mV to 20,000 mV. At 0 mV there is none.
     #[test]
-    fn a_peak_is_two_steps_from_both_ends() {
-        for (at, near) in [(199, true), (200, false), (19_800, false), (19_801, true)] {
+    fn a_peak_may_be_near_an_end_or_at_it() {
+        for at in [1, 199, 200, 19_800, 19_801, 20_000] {
             let promise = Promise::of(&walk(&[at]), &peak(at));
-            assert_eq!(promise.premises().is_err(), near, "{at}");
+            assert_eq!(promise.premises(), Ok(()), "{at}");
+        }
+        let promise = Promise::of(&walk(&[0]), &peak(0));
+        let why = "there is no peak, as the panel gives no power";
+        assert_eq!(promise.premises(), Err(why));
+    }
+
+    /// Nearer than two steps there is less than that on one side; on the other a walk can
+    /// stray.
+    #[test]
+    fn two_steps_from_a_peak_near_an_end_are_straying() {
+        for (at, ends, far) in [
+            (150, [149, 0], 350),
+            (1, [1, 0], 201),
+            (19_850, [19_851, 20_000], 19_650),
+            (20_000, [20_000, 20_000], 19_800),
+        ] {
+            let judged = |set_points: &[u32]| {
+                let mut walk = walk(set_points);
+                for point in &mut walk.points {
+                    point.reading.milliamperes = 5_000 - point.set_point.abs_diff(at);
+                }
+                let promise = Promise::of(&walk, &peak(at));
+                assert_eq!(promise.premises(), Ok(()), "{at}");
+                promise.conclusions().is_ok()
+            };
+            assert!(judged(&[at, ends[0], ends[1]]), "{at}");
+            let inside = if far > at { far - 1 } else { far + 1 };
+            assert!(judged(&[at, ends[1], inside]), "{at}");
+            assert!(!judged(&[at, ends[1], far]), "{at}");
         }
     }
 
