@@ -103,8 +103,9 @@ pub fn step_of(rng: &mut Rng, length: u32) -> i32 {
 /// The moves of a walk: with the longest step, enough to get from end to end and back.
 pub const MOVES: u32 = 100;
 
-/// A panel whose current is the same up to the peak of its power, and falls by 1 for
-/// each millivolt past it, until there is none.
+/// A panel whose current is the same up to the peak of its power. Past it, from each set
+/// point to the next, the power is to fall by as much as the set point has millivolts: so
+/// it falls strictly with whole milliamperes too, until there are none.
 #[derive(Clone, Copy, Debug)]
 pub struct Panel {
     /// The set point at which it gives most.
@@ -114,20 +115,40 @@ pub struct Panel {
 }
 
 impl Panel {
-    /// A panel for steps of a length: its peak is two steps or more from both ends, and
-    /// its power falls strictly for two steps past it.
+    /// A panel for steps of a length: its peak is anywhere, mostly near an end or at it,
+    /// and its power falls strictly for two steps past it, or up to the end.
     pub fn for_steps(rng: &mut Rng, length: u32) -> Panel {
-        let peak = 2 * length + up_to(rng, MOST_MILLIVOLTS - 4 * length);
-        // With more milliamperes than millivolts the power would rise past the peak.
-        let most = peak.min(MOST_MILLIAMPERES);
-        let amps = 2 * length + up_to(rng, most - 2 * length);
+        let room = 2 * length;
+        let least = Panel::least_peak(length);
+        let peak = match rng.below(5) {
+            0 => least,
+            1 => least + up_to(rng, room - least),
+            2 => MOST_MILLIVOLTS,
+            3 => MOST_MILLIVOLTS - up_to(rng, room),
+            _ => least + up_to(rng, MOST_MILLIVOLTS - least),
+        };
+        let past = room.min(MOST_MILLIVOLTS - peak);
+        let fewest = fallen(peak, past).div_ceil(peak).max(1);
+        let amps = fewest + up_to(rng, MOST_MILLIAMPERES - fewest);
         Panel { peak, amps }
+    }
+
+    /// The lowest peak for steps of a length: there the greatest current gives as much
+    /// power as is to fall within two steps. A peak at 0 can't be had with readings: the
+    /// power there is 0, and past it there is none that is less.
+    pub fn least_peak(length: u32) -> u32 {
+        let past = 2 * length;
+        fallen(0, past).div_ceil(MOST_MILLIAMPERES - past)
     }
 
     /// What it gives where it is held.
     pub fn at(&self, set_point: u32) -> Pair {
-        let past = set_point.saturating_sub(self.peak);
-        (set_point, self.amps.saturating_sub(past))
+        let Panel { peak, amps } = *self;
+        let amps = match set_point > peak {
+            true => (peak * amps).saturating_sub(fallen(peak, set_point - peak)) / set_point,
+            false => amps,
+        };
+        (set_point, amps)
     }
 
     /// Whether a move between two set points starts on one side of the peak, or at it,
@@ -135,6 +156,12 @@ impl Panel {
     pub fn crossed(&self, from: u32, to: u32) -> bool {
         from.min(to) <= self.peak && self.peak <= from.max(to)
     }
+}
+
+/// How much power is to fall within so many millivolts past a peak: the sum of these set
+/// points, from the peak on.
+fn fallen(peak: u32, past: u32) -> u32 {
+    past * peak + past * past.saturating_sub(1) / 2
 }
 
 /// A panel to climb on, and where the climb begins.

@@ -1,7 +1,8 @@
 //! How far the tracker's groups get: each of its six numbers at every limit in a call that
 //! is done, past every limit by itself, and all of them at once. Moves end before, at
 //! and past either end, after every power, which differs by 1 or not at all. Walks go on
-//! where they were, turn, stop at both ends and leave them, and cross a peak both ways.
+//! where they were, turn, stop at both ends and leave them, and cross a peak both ways:
+//! one far from both ends, near either, and at one.
 
 use differential::groups::GROUPS;
 use differential::rng::Rng;
@@ -224,27 +225,58 @@ fn walks_go_on_turn_and_leave_both_ends() {
 }
 
 /// That what is said of a panel is so: its power rises strictly to the peak, and falls
-/// strictly for two steps past it.
+/// strictly for two steps past it, or up to the end.
 #[test]
 fn a_panel_has_one_peak() {
     let mut rng = Rng::new(1);
-    for length in [1, 2, 250, 499, 500] {
-        for _ in 0..20 {
+    for length in [1, 2, 49, 50, 250, 499, 500] {
+        for _ in 0..100 {
             let panel = Panel::for_steps(&mut rng, length);
-            let Panel { peak, amps } = panel;
-            assert!(
-                2 * length <= peak && peak + 2 * length <= 20_000,
-                "{panel:?}"
-            );
-            assert!(amps <= 5_000, "{panel:?}");
+            let peak = panel.peak;
+            assert!((1..=20_000).contains(&peak), "{panel:?}");
             let power = |set_point: u32| {
                 let (volts, amps) = panel.at(set_point);
                 assert_eq!(volts, set_point);
+                assert!(amps <= 5_000, "{panel:?}");
                 volts * amps
             };
             assert!((0..peak).all(|at| power(at) < power(at + 1)), "{panel:?}");
-            let past = peak..peak + 2 * length;
-            assert!(past.into_iter().all(|at| power(at) > power(at + 1)));
+            let mut past = peak..(peak + 2 * length).min(20_000);
+            assert!(past.all(|at| power(at) > power(at + 1)), "{panel:?}");
+        }
+    }
+}
+
+/// A peak may be a millivolt above 0; with the longest steps, a quarter of a step.
+#[test]
+fn the_lowest_peaks_are_near_the_end() {
+    assert_eq!([1, 49, 500].map(Panel::least_peak), [1, 1, 125]);
+    for length in 1..=500 {
+        assert!(Panel::least_peak(length) <= length.div_ceil(4), "{length}");
+    }
+}
+
+/// Where a peak is.
+#[derive(Clone, Copy, PartialEq, Eq, PartialOrd, Ord, Debug)]
+enum Place {
+    /// Two steps or more from both ends.
+    Between,
+    /// Nearer than that to 0 or to 20,000.
+    Near { upper: bool },
+    /// A millivolt above 0: the lowest.
+    Lowest,
+    /// At 20,000.
+    End,
+}
+
+impl Place {
+    fn of(peak: u32, length: u32) -> Place {
+        match (peak, 20_000 - peak) {
+            (1, _) => Place::Lowest,
+            (_, 0) => Place::End,
+            (low, _) if low < 2 * length => Place::Near { upper: false },
+            (_, high) if high < 2 * length => Place::Near { upper: true },
+            _ => Place::Between,
         }
     }
 }
@@ -256,10 +288,14 @@ enum Crossing {
     First { up: bool, past: bool },
     /// Later more than a step away, above or below.
     Strays { above: bool },
+    /// Later stopped by an end.
+    Stopped { upper: bool },
+    /// Stopped by it in the first move across.
+    FirstStopped { upper: bool },
 }
 
-#[test]
-fn climbs_cross_the_peak_both_ways() {
+/// What climbs meet, and where their peaks are.
+fn met_by_climbs() -> BTreeSet<(Place, Crossing)> {
     let mut rng = Rng::new(1);
     let mut met = BTreeSet::new();
     for _ in 0..6_000 {
@@ -268,6 +304,8 @@ fn climbs_cross_the_peak_both_ways() {
             mut set_point,
             mut step,
         } = Climb::new(&mut rng);
+        let length = step.unsigned_abs();
+        let place = Place::of(panel.peak, length);
         let reading = |set_point| {
             let (millivolts, milliamperes) = panel.at(set_point);
             Reading {
@@ -282,23 +320,74 @@ fn climbs_cross_the_peak_both_ways() {
             let from = set_point;
             (set_point, step) = track(before, after, set_point, step).expect("a move");
             before = after;
-            if crossed && set_point.abs_diff(panel.peak) > step.unsigned_abs() {
+            // Only an end makes a move shorter.
+            let stopped = set_point.abs_diff(from) < length;
+            let upper = set_point == 20_000;
+            if crossed && set_point.abs_diff(panel.peak) > length {
                 let above = set_point > panel.peak;
-                met.insert(Crossing::Strays { above });
+                met.insert((place, Crossing::Strays { above }));
+            }
+            if crossed && stopped {
+                met.insert((place, Crossing::Stopped { upper }));
             }
             if !crossed && panel.crossed(from, set_point) {
                 crossed = true;
                 let (up, past) = (set_point > from, set_point != panel.peak);
-                met.insert(Crossing::First { up, past });
+                met.insert((place, Crossing::First { up, past }));
+                if stopped {
+                    met.insert((place, Crossing::FirstStopped { upper }));
+                }
             }
         }
     }
-    for up in [false, true] {
-        for past in [false, true] {
-            let wanted = Crossing::First { up, past };
-            assert!(met.contains(&wanted), "not met: {wanted:?}");
+    met
+}
+
+/// That climbs meet all of these.
+fn assert_climbs_meet(wanted: &[(Place, Crossing)]) {
+    let met = met_by_climbs();
+    let missing: Vec<_> = wanted.iter().filter(|one| !met.contains(one)).collect();
+    assert!(missing.is_empty(), "not met: {missing:?}");
+}
+
+#[test]
+fn climbs_cross_the_peak_both_ways() {
+    let near = [false, true].map(|upper| Place::Near { upper });
+    let mut wanted = Vec::new();
+    for place in [Place::Between, near[0], near[1]] {
+        for up in [false, true] {
+            let first = [false, true].map(|past| (place, Crossing::First { up, past }));
+            wanted.extend(first);
+            wanted.push((place, Crossing::Strays { above: up }));
         }
-        let wanted = Crossing::Strays { above: up };
-        assert!(met.contains(&wanted), "not met: {wanted:?}");
     }
+    assert_climbs_meet(&wanted);
+}
+
+#[test]
+fn climbs_are_stopped_past_a_peak_near_an_end() {
+    let stopped = [false, true].map(|upper| {
+        let place = Place::Near { upper };
+        [
+            (place, Crossing::FirstStopped { upper }),
+            (place, Crossing::Stopped { upper }),
+        ]
+    });
+    assert_climbs_meet(stopped.as_flattened());
+}
+
+#[test]
+fn climbs_cross_the_lowest_peak_and_one_at_the_end() {
+    let first = |up, past| Crossing::First { up, past };
+    assert_climbs_meet(&[
+        (Place::Lowest, first(true, true)),
+        (Place::Lowest, first(false, false)),
+        (Place::Lowest, first(false, true)),
+        (Place::Lowest, Crossing::Strays { above: true }),
+        (Place::Lowest, Crossing::Stopped { upper: false }),
+        (Place::End, first(true, false)),
+        (Place::End, first(false, true)),
+        (Place::End, Crossing::FirstStopped { upper: true }),
+        (Place::End, Crossing::Stopped { upper: true }),
+    ]);
 }

@@ -191,7 +191,7 @@ pub fn read(units: &[u8], text: &mut [u8]) -> (u8, usize) {
 ///     assert_eq!(answer, answer::DONE);
 ///     before = after;
 /// }
-/// assert!(set_point.abs_diff(12_000) <= 2 * step.unsigned_abs());
+/// assert!(set_point.abs_diff(12_000) < 2 * step.unsigned_abs());
 /// ```
 pub fn track(before: Reading, after: Reading, set_point: &mut u32, step: &mut i32) -> u8 {
     // SAFETY: the pointers are those of two numbers borrowed mutably.

@@ -72,8 +72,8 @@ pub fn track_walks(sides: &[Calls; 2], rng: &mut Rng) -> Verdict {
     Ok(made)
 }
 
-/// A panel is followed: once the peak was crossed, the set point stays within two steps
-/// of it.
+/// A panel is followed: once the peak was crossed, the set point stays less than two
+/// steps from it.
 fn climb(sides: &[Calls; 2], rng: &mut Rng) -> Result<(), String> {
     let Climb {
         panel,
@@ -87,7 +87,7 @@ fn climb(sides: &[Calls; 2], rng: &mut Rng) -> Result<(), String> {
         let tracked = track(sides, (before, after, set_point, step))?;
         crossed |= panel.crossed(set_point, tracked.set_point());
         (set_point, step) = (tracked.set_point(), tracked.step());
-        if crossed && set_point.abs_diff(panel.peak) > 2 * step.unsigned_abs() {
+        if crossed && set_point.abs_diff(panel.peak) >= 2 * step.unsigned_abs() {
             return Err(format!("{panel:?}: strays to {set_point}, step {step}"));
         }
         before = after;
