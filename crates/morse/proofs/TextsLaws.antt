@@ -1,4 +1,5 @@
--- Laws of the texts that may be keyed: one byte of a walk through a text, what no fault tells, and two texts joined by a space.
+-- Laws of the texts that may be keyed: one byte of a walk through a text, what no fault tells, two texts joined by a
+-- space, and one byte over and over.
 -- Assumes nothing.
 use mathlib.Core.Path.{_≡_, refl, sym, ap, _∙_}
 use mathlib.Core.Bool.{Bool, true, false, not, _&&_, _||_, or-false, and-false}
@@ -6,7 +7,7 @@ use mathlib.Core.List.{List, [], _∷_, _++_}
 use Prim.Native.Nat.{ℕ, zero, suc, _+_, _-_, _<_, _≤_, zero-le, suc-le-suc}
 use native.Mathlib.Numerals.{add-one}
 use native.Mathlib.Omega.{arith}
-use lib.ListN.{length, getD, drop, length-append}
+use lib.ListN.{length, getD, drop, replicate, length-append, length-replicate}
 use lib.Seq.{drop-cons, getD-append-add}
 use lib.Dec.{T, ltb, eqb→eq}
 use borrow.Author.Tests.{lt-ltb, le-ltb, ltb-false}
@@ -157,3 +158,32 @@ joined (c ∷ a) b fa fb ha hb h =
             single = doubled-joined b (c ∷ a) ha (sa .single) (sa .last) (sb .first) (sb .single);
           });
     }
+
+-- a byte of the alphabet that is no space, over and over
+module _ (c : ℕ) (isKnown : known c ≡ true) (unspaced : isSpace c ≡ false) where
+  repeated-known : (n : ℕ) → allKnown (replicate n c) ≡ true
+  repeated-known zero = refl
+  repeated-known (suc n) = rw isKnown (repeated-known n)
+
+  repeated-single : (n : ℕ) → doubled (replicate n c) ≡ false
+  repeated-single zero = refl
+  repeated-single (suc n) = rw unspaced (repeated-single n)
+
+  repeated-at : (n i : ℕ) → isSpace (getD (replicate n c) i 0) ≡ false
+  repeated-at zero i = refl
+  repeated-at (suc n) zero = unspaced
+  repeated-at (suc n) (suc i) = repeated-at n i
+
+  pub repeated : (n : ℕ) → n ≤ longest → Fair (replicate n c)
+  repeated n h =
+      record {
+        short = rw (length-replicate n c) h;
+        known = repeated-known n;
+        spaced =
+            well-spaced (replicate n c)
+            (record {
+              first = repeated-at n 0;
+              last = repeated-at n (length (replicate n c) - 1);
+              single = repeated-single n;
+            });
+      }

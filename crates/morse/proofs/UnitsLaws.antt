@@ -1,6 +1,8 @@
--- Laws of the units: one store, one mark and one byte off what is left, and how many units a text has at most.
+-- Laws of the units: one store, one mark and one byte off what is left; how many units a text has at most, and that
+-- some have so many.
 -- Assumes nothing.
 use mathlib.Core.Path.{_≡_, refl, ap, _∙_}
+use mathlib.Core.Bool.{false}
 use mathlib.Core.List.{List, [], _∷_, _++_}
 use Prim.Native.Nat.{ℕ, zero, suc, _+_, _-_, _*_, _/_, _%_, _<_, _≤_, zero-le}
 use native.Mathlib.Nat.{not-suc-le-zero}
@@ -13,8 +15,8 @@ use Rattle.basics.proofs.ChoiceLaws.{either}
 use Rattle.basics.proofs.Stores.{sets-append}
 use Rattle.morse.specs.Signs.{Mark, alphabet, signOf}
 use Rattle.morse.specs.SignTable.{markOf, unpack}
-use Rattle.morse.specs.Texts.{longest, isSpace}
-use Rattle.morse.specs.Units.{span, betweenSigns, signUnits, gapAfter, unitsAfter, unitsOf}
+use Rattle.morse.specs.Texts.{isSpace}
+use Rattle.morse.specs.Units.{span, betweenSigns, signUnits, gapAfter, unitsAfter, unitsOf, perCharacter, unitsFor}
 use Rattle.morse.proofs.Everywhere.{everywhere}
 
 -- one store off a run that ends at a place
@@ -74,22 +76,14 @@ module _ (t : List ℕ) (i gap : ℕ) (h : i < length t) where
       ≡ sets (sets room k (byteUnits t i gap)) (k + length (byteUnits t i gap)) (restUnits t i)
   sets-text room k = ap (sets room k) byte-step ∙ simp sets-append
 
--- the most units of a byte: the 19 of the longest signs, those of 0 and the comma, and the gap of 3 after them
-abbrev pub mostOfByte : ℕ
-mostOfByte = 22
-
--- the most units of a text: nothing follows the last sign
-abbrev pub mostUnits : ℕ
-mostUnits = mostOfByte * longest - betweenSigns
-
--- a byte's units with the gap after them: a test over the alphabet
-byte-most : (c : ℕ) → length (signUnits 0 (signOf c)) + gapAfter c ≤ mostOfByte
+-- the law of the sign table: a byte's units and the gap after them, by a test over the alphabet
+byte-most : (c : ℕ) → length (signUnits 0 (signOf c)) + gapAfter c ≤ perCharacter
 unfolding alphabet signOf
 byte-most c =
-    leb→le _ _ (everywhere (λ k ms. leb (length (signUnits 0 ms) + gapAfter k) mostOfByte) alphabet tt past c)
+    leb→le _ _ (everywhere (λ k ms. leb (length (signUnits 0 ms) + gapAfter k) perCharacter) alphabet tt past c)
   where
-    past : (k : ℕ) → T (leb (0 + gapAfter k) mostOfByte)
-    past k = either (λ (g : ℕ). T (leb (0 + g) mostOfByte)) (isSpace k) tt tt
+    past : (k : ℕ) → T (leb (0 + gapAfter k) perCharacter)
+    past k = either (λ (g : ℕ). T (leb (0 + g) perCharacter)) (isSpace k) tt tt
 
 gap-least : (c : ℕ) → betweenSigns ≤ gapAfter c
 gap-least c = either (λ (g : ℕ). betweenSigns ≤ g) (isSpace c) (omega arith) (omega arith)
@@ -99,8 +93,7 @@ sign-most gap [] = zero-le
 sign-most gap (m ∷ ms) = simp (length-append, length-replicate) (omega arith)
 
 -- nothing follows the last sign: the gap that is due after it is not counted
-pub units-after-most : (t : List ℕ) (gap : ℕ)
-    → length (unitsAfter gap t) ≤ gap + (mostOfByte * length t - betweenSigns)
+pub units-after-most : (t : List ℕ) (gap : ℕ) → length (unitsAfter gap t) ≤ gap + unitsFor (length t)
 units-after-most [] gap = zero-le
 units-after-most (c ∷ []) gap =
     simp (length-append (signUnits gap (signOf c)))
@@ -109,7 +102,30 @@ units-after-most (c ∷ d ∷ t) gap =
     simp (length-append (signUnits gap (signOf c)))
     (omega (arith, sign-most gap (signOf c), byte-most c, units-after-most (d ∷ t) (gapAfter c)))
 
--- the room that the header's EMS_UNITS_BYTES gives holds the units of any text that is not too long
-pub units-fit : (t : List ℕ) → length t ≤ longest → length (unitsOf t) ≤ mostUnits
+-- no text has more units than its characters allow
+pub units-most : (t : List ℕ) → length (unitsOf t) ≤ unitsFor (length t)
 unfolding unitsOf
-units-fit t h = omega (arith, units-after-most t 0)
+units-most t = units-after-most t 0
+
+-- a gap is keyed before a sign that has marks
+sign-after : (gap : ℕ) (ms : List Mark) → 0 < length (signUnits 0 ms)
+    → length (signUnits gap ms) ≡ gap + length (signUnits 0 ms)
+sign-after gap [] h = absurd (omega arith)
+sign-after gap (m ∷ ms) h = simp (length-append, length-replicate)
+
+-- a byte with one of the longest signs, over and over, has just as many
+module _ (c : ℕ) (unspaced : isSpace c ≡ false)
+    (long : length (signUnits 0 (signOf c)) + betweenSigns ≡ perCharacter) where
+  repeated-after : (n gap : ℕ) → length (unitsAfter gap (replicate (suc n) c)) ≡ gap + unitsFor (suc n)
+  repeated-after zero gap =
+      simp (length-append (signUnits gap (signOf c)))
+      (omega (arith, sign-after gap (signOf c) (omega (arith, long)), long))
+  repeated-after (suc n) gap =
+      let next : gapAfter c ≡ betweenSigns = rw unspaced refl in
+      simp (length-append (signUnits gap (signOf c)))
+      (omega (arith, sign-after gap (signOf c) (omega (arith, long)), long, next, repeated-after n (gapAfter c)))
+
+  pub repeated-units : (n : ℕ) → length (unitsOf (replicate n c)) ≡ unitsFor n
+  unfolding unitsOf
+  repeated-units zero = refl
+  repeated-units (suc n) = repeated-after n 0

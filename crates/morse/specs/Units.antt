@@ -1,6 +1,6 @@
 -- The units of a text: 1 for key down, 0 for up. Dot 1, dash 3, gap inside a sign 1, between signs 3, between words 7.
 -- Assumes nothing.
-use Prim.Native.Nat.{ℕ, _+_}
+use Prim.Native.Nat.{ℕ, _+_, _-_, _*_}
 use mathlib.Core.Path.{_≡_}
 use mathlib.Core.List.{List, [], _∷_, _++_}
 use lib.ListN.{length, replicate}
@@ -51,6 +51,15 @@ unitsAfter gap (c ∷ t) = signUnits gap (signOf c) ++ unitsAfter (gapAfter c) t
 -- the units of a text: no gap before the first sign, and nothing after the last
 unfoldable pub unitsOf : List ℕ → List ℕ
 unitsOf t = unitsAfter 0 t
+
+-- the most units that a character takes: the 19 of the longest signs, those of 0 and the comma, and the gap of 3 after
+-- them; a space has no sign, and makes the gap 7
+abbrev pub perCharacter : ℕ
+perCharacter = 22
+
+-- the most units that n characters take: nothing follows the last
+abbrev pub unitsFor : ℕ → ℕ
+unitsFor n = perCharacter * n - betweenSigns
 
 -- bytes stored in a room from a place on, as far as it goes: the place after them, and the room's later content
 abbrev pub Stored : (at : ℕ) (bytes room : List ℕ) (after : ℕ) (later : List ℕ) → Type 0

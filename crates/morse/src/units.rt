@@ -21,11 +21,11 @@ pub const BETWEEN_SIGNS: usize = 3;
 // The gap between two words.
 pub const BETWEEN_WORDS: usize = 7;
 
-// The most units of a byte: the 19 of the longest signs, those of 0 and the comma, and the gap of 3 after them.
-const BYTE_UNITS: usize = 22;
+// The most units that a character takes: the 19 of the longest signs, those of 0 and the comma, and the gap of 3 after them.
+const PER_CHARACTER: usize = 22;
 
 // The most units of a text, 1405: nothing follows the last sign. It is the header's EMS_UNITS_BYTES.
-pub const MOST_UNITS: usize = BYTE_UNITS * LONGEST - BETWEEN_SIGNS;
+pub const MOST_UNITS: usize = PER_CHARACTER * LONGEST - BETWEEN_SIGNS;
 
 // Stores v at a place of the room, and nothing where the room has no such place.
 pub fn put(room: &mut [u8], at: usize, v: u8)

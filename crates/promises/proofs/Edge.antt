@@ -15,4 +15,5 @@ pub mod NeverSilent
 pub mod Greeted
 pub mod OnTheGround
 pub mod Spelling
+pub mod KeyingRoom
 pub mod ImageFlies

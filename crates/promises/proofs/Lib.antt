@@ -30,6 +30,7 @@ pub mod NeverSilent
 pub mod Greeted
 pub mod OnTheGround
 pub mod Spelling
+pub mod KeyingRoom
 pub mod Numbers
 pub mod Edge
 pub mod ImageFlies

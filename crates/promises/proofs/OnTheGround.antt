@@ -24,7 +24,7 @@ use Rattle.supervisor.proofs.MessageLaws.{message-fair}
 use Rattle.frames.specs.Greeting.{longestGreeting}
 use Rattle.morse.specs.Units.{unitsOf}
 use Rattle.morse.specs.Texts.{faultOf}
-use Rattle.morse.specs.Keying.{keyOf, keyUnits}
+use Rattle.morse.proofs.KeyingLaws.{keyed-within}
 use Rattle.hearing.specs.Reading.{readText}
 use Rattle.morse.specs.declared.texts.Fault.the-variants.{Nothing}
 use Rattle.hearing.proofs.ReadBack.{same-keying}
@@ -46,13 +46,13 @@ module _ (form : Form) (bytes : ℕ) (enough : (n : ℕ) → n ≤ longestGreeti
       le-ltb (length room) (length (textOf form s)) (omega (arith, enough (s .message .length) (message-fair s (w .valid) .most), text-length s (message-fair s (w .valid)) form))
 
   heard : HeardWith form bytes
-  unfolding beaconOf keyOf keyUnits readText
+  unfolding beaconOf readText
   heard s w had page air ground p q r =
       record {
         text = textOf form s;
         wrote = rw (is-true (inRange s) (w .valid), is-true (hasText form (s .message .length)) had, text-fits s w page p);
         units = sound form s;
-        keyed = rw (fair form s w had, le-ltb (length air) (length (sound form s)) q);
+        keyed = keyed-within (textOf form s) air (fair form s w had) q;
         heard = λ after reads. reads .told (textOf form s) (record { passes = fair form s w had; same = refl }) ∙ rw (text-fits s w ground r);
       }
 

@@ -13,11 +13,11 @@ use Rattle.basics.specs.Bytes.{space}
 use Rattle.basics.proofs.ChoiceLaws.{is-true, is-false, holds, and-left, and-right, and-both, or-right, decided}
 use Rattle.morse.specs.Signs.{Mark, Row, alphabet, signAmong, signOf, signed}
 use Rattle.morse.specs.Texts.{longest, isSpace, known, allKnown, seenIn, faultOf}
-use Rattle.morse.specs.Units.{unitsOf}
-use Rattle.morse.specs.Keying.{keyOf, keyUnits}
+use Rattle.morse.specs.Keying.{keyOf}
 use Rattle.morse.specs.declared.texts.Fault.the-variants.{Nothing}
 use Rattle.morse.proofs.Everywhere.{everyRow}
 use Rattle.morse.proofs.TextsLaws.{fair, fault-spacing}
+use Rattle.morse.proofs.KeyingLaws.{keyed-within}
 use Rattle.hearing.specs.Reading.{readText}
 use Rattle.hearing.proofs.ReadBack.{key-done, same-keying}
 use Rattle.promises.specs.Spelling.{Has, Spelt, TextOver, KeyedOver, TwelveOver, ReadOver, Spelling}
@@ -78,8 +78,7 @@ over t e =
     record { short = f .short; spelt = all-spelt t (holds (allKnown t) (f .known)); spaced = f .spaced }
 
 keyed : KeyedOver alphabet
-unfolding keyOf keyUnits
-keyed text room o h = rw (passes text o, le-ltb (length room) (length (unitsOf text)) h)
+keyed text room o h = keyed-within text room (passes text o) h
 
 twelve : TwelveOver alphabet
 unfolding keyOf faultOf

@@ -14,5 +14,6 @@ tied =
       ems-fresh = λ κs a x. (λ learnt. learnt, λ says. says);
       ems-step = λ κs a x. (λ learnt. learnt, λ says. says);
       ems-pass = λ κs a x. (λ learnt. learnt, λ says. says);
+      ems-key = λ κs a x. (λ learnt. learnt, λ says. says);
       ems-track = λ κs a x. (λ learnt. learnt, λ says. says);
     }

@@ -15,5 +15,6 @@ pub mod NeverSilent
 pub mod Greeted
 pub mod OnTheGround
 pub mod Spelling
+pub mod KeyingRoom
 pub mod ImageFlies
 pub mod Tied

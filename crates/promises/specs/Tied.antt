@@ -10,7 +10,7 @@ use Rattle.basics.specs.Outcome.{outcome, reply}
 use Rattle.basics.specs.OneOutcome.{Leaves}
 use Rattle.supervisor.specs.History.{called}
 use Rattle.pass.specs.Flight.{passed}
-use Rattle.morse.specs.Keying.{keyOf}
+use Rattle.morse.specs.Keying.{keyReply, keyOf}
 use Rattle.hearing.specs.Reading.{Read}
 use Rattle.beacon.specs.Writing.{beaconOf}
 use Rattle.tracker.specs.Tracker.{trackOf}
@@ -26,13 +26,15 @@ use Rattle.beacon.proofs.writing.write as write
 use Rattle.beacon.proofs.writing.write.Reads as write-reads
 use Rattle.tracker.proofs.track as track
 use Rattle.tracker.proofs.track.Reads as track-reads
-use Rattle.flight.specs.Calls.{imaged, freshImage, stepImage, passImage, tracks, tracksOf}
+use Rattle.flight.specs.Calls.{imaged, freshImage, stepImage, passImage, replied, tracks, tracksOf}
 use Rattle.flight.proofs.calls.ems_fresh as ems-fresh
 use Rattle.flight.proofs.calls.ems_fresh.Reads as ems-fresh-reads
 use Rattle.flight.proofs.calls.ems_step as ems-step
 use Rattle.flight.proofs.calls.ems_step.Reads as ems-step-reads
 use Rattle.flight.proofs.calls.ems_pass as ems-pass
 use Rattle.flight.proofs.calls.ems_pass.Reads as ems-pass-reads
+use Rattle.flight.proofs.calls.ems_key as ems-key
+use Rattle.flight.proofs.calls.ems_key.Reads as ems-key-reads
 use Rattle.flight.proofs.calls.ems_track as ems-track
 use Rattle.flight.proofs.calls.ems_track.Reads as ems-track-reads
 
@@ -83,6 +85,11 @@ pub record Tied : Type 0 where
       (λ κs a x.
       outcome (imaged (reply (x .0) (x .1 .1 .1 .1 .0)) (x .1 .0)) (x .1 .1 .1 .0)
       ≡ passImage (a .0 .now) (a .1 .0 .now) (a .1 .1 .0 .now))
+  -- ems_key(text, units, count)
+  pub ems-key :
+      Says ems-key.ended ems-key-reads.Learnt
+      (λ κs a x.
+      outcome (reply (x .0) (x .1 .1 .1 .0)) (x .1 .1 .0) ≡ replied keyReply (keyOf (a .0 .now) (a .1 .0 .now)))
   -- ems_track(volts_before, amps_before, volts_after, amps_after, set_point, step)
   pub ems-track :
       Says ems-track.ended ems-track-reads.Learnt

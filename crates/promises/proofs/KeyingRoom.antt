@@ -1,0 +1,63 @@
+-- Room for a keying, proved: a text's units are no more than its characters allow, and n zeros have just so many.
+-- Assumes nothing.
+use Prim.Native.Nat.{ℕ, _≤_, _<_}
+use native.Mathlib.Omega.{arith}
+use mathlib.Core.Path.{_≡_, refl, sym, ap, _∙_}
+use mathlib.Core.List.{List}
+use lib.ListN.{length, replicate}
+use Rattle.basics.specs.Outcome.{Outcome, Reply, reply}
+use Rattle.morse.specs.Answers.{done, noRoom}
+use Rattle.morse.specs.Signs.{firstFigure, alphabet, signOf}
+use Rattle.morse.specs.Texts.{longest, isSpace, known, faultOf, faultNumber}
+use Rattle.morse.specs.Units.{betweenSigns, signUnits, unitsOf, perCharacter, unitsFor}
+use Rattle.morse.specs.Keying.{keyReply, keyOf}
+use Rattle.morse.specs.declared.keying.Keyed.{Keyed}
+use Rattle.morse.specs.declared.texts.Fault.{Fault}
+use Rattle.morse.specs.declared.texts.Fault.the-variants.{Nothing, TextTooLong, NotKeyable, BadSpace}
+use Rattle.morse.proofs.TextsLaws.{fairly, repeated}
+use Rattle.morse.proofs.UnitsLaws.{units-most, repeated-units}
+use Rattle.morse.proofs.KeyingLaws.{keyed-within, keyed-short, key-number, key-count}
+use Rattle.promises.specs.KeyingRoom.{AtMost, Enough, Needs, KeyingRoom}
+
+most : (n : ℕ) → AtMost n (unitsFor n)
+most n text room e = omega (arith, key-count text room, units-most text)
+
+enough : (n : ℕ) → Enough n (unitsFor n)
+enough n text room e h = key-number text room (omega (arith, units-most text))
+
+-- a text without a fault needs as many as it has
+module _ (text : List ℕ) (fine : faultOf text ≡ Nothing) (units : ℕ) (e : length (unitsOf text) ≡ units) where
+  pub needs : Needs text units
+  needs = record {
+    given = λ room h.
+        ap (λ (o : Outcome Keyed). keyReply (o .result)) (keyed-within text room fine (omega (arith, e)))
+        ∙ ap (reply done) e;
+    short = λ room h. ap (λ (o : Outcome Keyed). keyReply (o .result)) (keyed-short text room fine (omega (arith, e)));
+  }
+
+-- a byte of the alphabet that is no space, with one of the longest signs, over and over
+pub needs-all :
+    (c : ℕ) → known c ≡ true → isSpace c ≡ false → length (signUnits 0 (signOf c)) + betweenSigns ≡ perCharacter →
+    (n : ℕ) → n ≤ longest → Needs (replicate n c) (unitsFor n)
+needs-all c k s long n h =
+    needs (replicate n c) (fairly (replicate n c) (repeated c k s n h)) (unitsFor n) (repeated-units c s long n)
+
+-- no text's own answer is 14
+own-number : (f : Fault) → faultNumber f ≡ noRoom → ⊥
+own-number Nothing e = omega arith
+own-number TextTooLong e = omega arith
+own-number NotKeyable e = omega arith
+own-number BadSpace e = omega arith
+
+pub keying-room : KeyingRoom
+unfolding alphabet signOf
+keying-room = record {
+  most = most;
+  enough = enough;
+  reached = needs-all firstFigure refl refl refl;
+  ems-key = λ κs a x learnt h full.
+      let text = a .0 .now in
+      let room = a .1 .0 .now in
+      let number = ap (λ (o : Outcome Reply). o .result .number) learnt in
+      own-number (faultOf text) (sym (number ∙ enough (length text) text room refl h) ∙ full);
+}
