@@ -1,12 +1,13 @@
 //! The differential tests' own test: faults planted in one side are found, and
 //! come out short.
 
+mod common;
 mod kept;
 mod signs;
 mod wrong;
 
+use common::{named, run};
 use differential::frames::{Maker, Stream};
-use differential::groups::GROUPS;
 use differential::rng::Rng;
 use differential::shrink::tell_flight;
 use differential::sides::{Calls, MODEL};
@@ -16,11 +17,7 @@ use model::{report, table, State};
 
 /// What a group says of a faulty side.
 fn told(group: &str, faulty: Calls) -> String {
-    let (_, run) = GROUPS
-        .iter()
-        .find(|(name, _)| *name == group)
-        .expect("there is such a group");
-    run(&[faulty, MODEL], &mut Rng::new(1)).expect_err("the fault is found")
+    run(group, &[faulty, MODEL]).expect_err("the fault is found")
 }
 
 /// The frames of a told flight.
@@ -241,10 +238,7 @@ fn a_board_that_never_counts_as_failed_is_found() {
         "takes no try from one that is on",
         "never fails one that is on",
     ] {
-        let mut seconds = wrong::seconds::SECONDS.into_iter();
-        let (_, step) = seconds
-            .find(|(name, _)| *name == wrong)
-            .expect("it is wrong");
+        let step = named(&wrong::seconds::SECONDS, wrong);
         let told = told("a board that starts and shorts", Calls { step, ..MODEL });
         assert_eq!(frames(&told), 1, "{wrong}\n{told}");
     }
@@ -317,8 +311,7 @@ fn a_byte_of_a_greeting_that_is_misread_is_found_in_every_place() {
         "takes spaces anywhere",
         "excuses one that clears",
     ] {
-        let mut taken = wrong::greetings::TAKEN.into_iter();
-        let (_, step) = taken.find(|(name, _)| *name == wrong).expect("it is wrong");
+        let step = named(&wrong::greetings::TAKEN, wrong);
         let group = "every byte in every place of a greeting";
         let told = told(group, Calls { step, ..MODEL });
         assert_eq!(frames(&told), 1, "{wrong}\n{told}");
@@ -340,8 +333,7 @@ fn a_message_that_never_ends_is_found() {
         "sends it once more",
         "never lets repeats fall",
     ] {
-        let mut sent = wrong::greetings::SENT.into_iter();
-        let (_, step) = sent.find(|(name, _)| *name == wrong).expect("it is wrong");
+        let step = named(&wrong::greetings::SENT, wrong);
         let told = told("the most repeats", Calls { step, ..MODEL });
         assert_eq!(frames(&told), 1, "{wrong}\n{told}");
     }
@@ -386,10 +378,7 @@ fn every_wrong_pass_is_found_and_comes_out_short() {
 
 /// What a group says of a wrong pass.
 fn told_of(group: &str, wrong: &str) -> String {
-    let mut passes = wrong::PASSES.into_iter();
-    let (_, pass) = passes
-        .find(|(name, _)| *name == wrong)
-        .expect("it is wrong");
+    let pass = named(&wrong::PASSES, wrong);
     told(group, Calls { pass, ..MODEL })
 }
 
@@ -571,8 +560,7 @@ fn a_number_past_a_limit_comes_out_alone() {
             "before:  0 mV, 0 mA\nafter:   0 mV, 0 mA\nmoved:   set point 0, step 501\n",
         ),
     ] {
-        let mut taken = wrong::ranges::TAKEN.into_iter();
-        let (_, track) = taken.find(|(name, _)| *name == wrong).expect("it is wrong");
+        let track = named(&wrong::ranges::TAKEN, wrong);
         let told = told("the tracker about every limit", Calls { track, ..MODEL });
         assert!(told.starts_with(wanted), "{wrong}\n{told}");
     }

@@ -4,8 +4,9 @@
 //! in frames and in images. Those with few repeats are used up, and met by crossings as
 //! a beacon falls due. The groups get every answer for every reason, in every room.
 
+mod common;
+
 use differential::frames::{Maker, Stream};
-use differential::groups::GROUPS;
 use differential::messages::{self, Fault};
 use differential::rng::Rng;
 use differential::sides::{Calls, MODEL};
@@ -298,11 +299,7 @@ fn note_group(group: &str) {
         beacon_extended: noted_text,
         ..MODEL
     };
-    let (_, run) = GROUPS
-        .iter()
-        .find(|(name, _)| *name == group)
-        .expect("there is such a group");
-    run(&[noting, MODEL], &mut Rng::new(1)).expect("no difference");
+    common::run(group, &[noting, MODEL]).expect("no difference");
 }
 
 #[test]

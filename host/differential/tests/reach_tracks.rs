@@ -4,7 +4,8 @@
 //! where they were, turn, stop at both ends and leave them, and cross a peak both ways:
 //! one far from both ends, near either, and at one.
 
-use differential::groups::GROUPS;
+mod common;
+
 use differential::rng::Rng;
 use differential::sides::{Calls, MODEL};
 use differential::tracks::{Climb, Panel, FAR, FAR_STEPS, MOVES};
@@ -140,11 +141,7 @@ fn met_by(group: &str) -> BTreeSet<Met> {
         track: noted,
         ..MODEL
     };
-    let (_, run) = GROUPS
-        .iter()
-        .find(|(name, _)| *name == group)
-        .expect("there is such a group");
-    run(&[noting, MODEL], &mut Rng::new(1)).expect("no difference");
+    common::run(group, &[noting, MODEL]).expect("no difference");
     MET.take()
 }
 
