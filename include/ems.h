@@ -90,11 +90,19 @@ extern "C" {
 #define EMS_BEACON_COMPLETE_BYTES 16
 #define EMS_BEACON_EXTENDED_BYTES 33
 
-/* The longest text that is keyed, and room enough for the units of any text
- * that is: no character takes more than 22, the 19 of a `0` or a `,` and the gap
- * of 3 after it, which is not there after the last. */
+/* The longest text that is keyed. */
 #define EMS_TEXT_BYTES 64
-#define EMS_UNITS_BYTES 1405
+
+/* Room enough for the units of any text of n characters, n 1 to EMS_TEXT_BYTES; 0
+ * for n 0. In so much room ems_key never answers EMS_NO_ROOM to such a text, and n
+ * zeros take all of it. No character takes more than 22 units: the 19 of a `0` or a
+ * `,` and the gap of 3 after it, which is not there after the last. A space has no
+ * sign, and a gap of 7 where there would be one of 3: it takes 4. n is evaluated
+ * twice. */
+#define EMS_UNITS_FOR(n) (22 * (n) - ((n) == 0 ? 0 : 3))
+
+/* Room enough for the units of any text that is keyed. */
+#define EMS_UNITS_BYTES EMS_UNITS_FOR(EMS_TEXT_BYTES)
 
 /* The greatest voltage of a panel's reading, and the greatest set point; the greatest
  * current of a reading; the longest step of the set point, either way, in millivolts. */
@@ -203,7 +211,8 @@ uint8_t ems_beacon_extended(const uint8_t *image, size_t image_len,
 
 /* Keys a text: one byte a unit, 1 key down, 0 key up, their number to `*count`.
  * Answers 11, 12, 13, 14 in this order, with `*count` 0 and the units untouched;
- * else EMS_DONE. Bytes past the last unit stay. */
+ * else EMS_DONE. It never answers 14 where `units_len` is EMS_UNITS_FOR(text_len)
+ * or more. Bytes past the last unit stay. */
 uint8_t ems_key(const uint8_t *text, size_t text_len,
                 uint8_t *units, size_t units_len, size_t *count);
 

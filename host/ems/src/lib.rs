@@ -61,4 +61,20 @@ pub const MESSAGE_BYTES: usize = 16;
 /// The longest text that is keyed.
 pub const TEXT_BYTES: usize = 64;
 /// Room enough for the units of any text that is keyed.
-pub const UNITS_BYTES: usize = 1405;
+pub const UNITS_BYTES: usize = units_for(TEXT_BYTES);
+
+/// Room enough for the units of any text of so many characters, up to [`TEXT_BYTES`]; 0 for
+/// none. `EMS_UNITS_FOR` of the header, which says why it is so much: in it [`key`] never
+/// answers [`answer::NO_ROOM`] to such a text, and so many zeros take all of it.
+///
+/// ```
+/// use ems::{answer, key, units_for};
+///
+/// // For five characters, whichever they are.
+/// let mut units = [0; units_for(5)];
+/// assert_eq!(key(b"PARIS", &mut units), (answer::DONE, 43));
+/// assert_eq!(key(b"00000", &mut units), (answer::DONE, units.len()));
+/// ```
+pub const fn units_for(characters: usize) -> usize {
+    characters.saturating_mul(22).saturating_sub(3)
+}

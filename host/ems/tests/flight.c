@@ -5,7 +5,7 @@
 int main(void)
 {
     uint8_t image[EMS_IMAGE_BYTES], room[EMS_REPORT_BYTES], reports[4 * EMS_REPORT_BYTES];
-    uint8_t text[EMS_BEACON_EXTENDED_BYTES], units[EMS_UNITS_BYTES];
+    uint8_t text[EMS_BEACON_EXTENDED_BYTES], units[EMS_UNITS_FOR(EMS_BEACON_EXTENDED_BYTES)];
     const uint8_t deployed[2] = { EMS_KIND_ANTENNAS, 1 };
     /* A reading, an order that comes too early, a greeting, a second that is cut off. */
     const uint8_t pass[32] = {

@@ -1,7 +1,7 @@
 //! The header and the wrapper say the same, and programs in C and C++ build
 //! with the header and fly with the library.
 
-use ems::{answer, Craft};
+use ems::{answer, units_for, Craft};
 use std::{path::Path, process::Command};
 
 const HEADER: &str = include_str!("../../../include/ems.h");
@@ -28,7 +28,6 @@ fn lengths_are_the_header_s() {
         ("EMS_BEACON_EXTENDED_BYTES", ems::BEACON_EXTENDED_BYTES),
         ("EMS_MESSAGE_BYTES", ems::MESSAGE_BYTES),
         ("EMS_TEXT_BYTES", ems::TEXT_BYTES),
-        ("EMS_UNITS_BYTES", ems::UNITS_BYTES),
     ] {
         assert_eq!(number(name), Some(value), "{name}");
     }
@@ -77,19 +76,20 @@ fn answers_are_the_header_s() {
     }
 }
 
-/// Builds `tests/flight.c` by a compiler, and gives what it prints.
-fn print_of(compiler: &str, language: &[&str]) -> String {
+/// Builds a program of `tests` by a compiler, and gives what it prints.
+fn print_of(source: &str, compiler: &str, language: &str, standard: &str) -> String {
     let package = Path::new(env!("CARGO_MANIFEST_DIR"));
-    let program = Path::new(env!("CARGO_TARGET_TMPDIR")).join(compiler);
+    let program = Path::new(env!("CARGO_TARGET_TMPDIR")).join(format!("{source}{standard}"));
     let built = Command::new(compiler)
-        .args(language)
-        .args(["-pedantic", "-Wall", "-Wextra", "-Werror", "-I"])
+        .args(["-x", language, standard, "-pedantic", "-Wall", "-Wextra"])
+        .args(["-Wconversion", "-Wsign-conversion", "-Werror", "-I"])
         .arg(package.join("../../include"))
-        .arg(package.join("tests/flight.c"))
+        .arg(package.join("tests").join(source))
         .args(["-x", "none", "-L", env!("EMS_FLIGHT_DIR"), "-lflight", "-o"])
         .arg(&program)
         .status();
-    assert!(built.is_ok_and(|status| status.success()), "{compiler}");
+    let built = built.is_ok_and(|status| status.success());
+    assert!(built, "{compiler} {standard}");
     let run = Command::new(program).output().expect("it runs");
     assert!(run.status.success());
     String::from_utf8_lossy(&run.stdout).into_owned()
@@ -127,12 +127,28 @@ fn the_library_has_the_header_s_calls_and_no_other() {
 
 #[test]
 fn a_c_program_flies() {
-    assert_eq!(print_of("cc", &["-std=c99", "-x", "c"]), PRINT);
+    assert_eq!(print_of("flight.c", "cc", "c", "-std=c99"), PRINT);
 }
 
 #[test]
 fn a_cpp_program_flies() {
-    assert_eq!(print_of("c++", &["-std=c++11", "-x", "c++"]), PRINT);
+    assert_eq!(print_of("flight.c", "c++", "c++", "-std=c++11"), PRINT);
+}
+
+#[test]
+fn the_room_set_aside_in_c_is_the_wrapper_s() {
+    let row = |n| format!("{n} {0} {0}\n", units_for(n));
+    let rows: String = (0..=ems::TEXT_BYTES).map(row).collect();
+    let (two, twice_one) = (units_for(2), 2 * units_for(1));
+    let wanted = rows + &format!("{two} {twice_one} {}\n", ems::UNITS_BYTES);
+    for (compiler, language, standard) in [
+        ("cc", "c", "-std=c99"),
+        ("c++", "c++", "-std=c++98"),
+        ("c++", "c++", "-std=c++11"),
+    ] {
+        let print = print_of("units_for.c", compiler, language, standard);
+        assert_eq!(print, wanted, "{standard}");
+    }
 }
 
 /// Whether a compiler takes the header by itself, and what it says of it.

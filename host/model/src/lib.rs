@@ -1,6 +1,6 @@
 //! The rules a second time, in plain Rust: document 01's, and of document 02 the
 //! orders with an end, the pass, the tries that a module keeps, the four signs more,
-//! the greetings, and the panel tracker.
+//! the greetings, the panel tracker, and the bound on keying room.
 //!
 //! It is written from their words alone and shares nothing with the proved
 //! library, so that a slip in either shows as a difference. It goes for being

@@ -67,6 +67,12 @@ pub fn check(text: &[u8]) -> Result<(), u8> {
     Ok(())
 }
 
+/// The units that keying a text of so many characters, 1 to 64, never needs more than;
+/// none for none.
+pub fn most_units(characters: usize) -> usize {
+    (22 * characters).saturating_sub(3)
+}
+
 /// A text's words; the empty text has an empty one.
 fn words(text: &[u8]) -> impl Iterator<Item = &[u8]> {
     text.split(|&b| b == b' ')
