@@ -2,8 +2,11 @@
 
 mod common;
 
-use common::picture::{Drawn, Picture};
+use common::picture::{near, Drawn, Picture};
 use common::{run, scratch};
+
+/// No mark reaches over the panels' edges.
+const EDGE: f64 = 0.0;
 
 /// Antennas out, settled, and in SAFE from 00:15:31 on.
 const SAFE: &str = "antennas deployed\nbattery 7800\ntick 961\n";
@@ -289,7 +292,7 @@ fn an_extended_beacon_flies_a_flag() {
     // The greeting is an order like others, in the list and under the pointer.
     assert!(picture.says(greet.trim_end()));
     picture.one("1, 00:16:01: greet ground 1 3 \"HELLO FROM 4B\": 0 done");
-    is_framed("three flags", &picture);
+    picture.is_framed("three flags", EDGE);
 }
 
 /// In the last second of the picture a flag flies to the left.
@@ -298,7 +301,7 @@ fn a_flag_at_the_edge_stays_within_the_panels() {
     let script = format!("{SAFE}greet ground 1 9 \"HI\"\ntick 180\n");
     for (from, to) in [("00:18:01", "00:19:01"), ("0", "00:19:01")] {
         let picture = drawn_with(&script, &["--from", from, "--to", to]);
-        is_framed(from, &picture);
+        picture.is_framed(from, EDGE);
         let panel = picture.one("ascend");
         let last = picture.one("extended beacon, 00:19:01");
         assert!(near(last.right, panel.right) && near(last.width(), 5.0));
@@ -356,7 +359,7 @@ fn extended_beacons_too_close_to_tell_are_a_band_with_a_flag() {
         ("path", "solid")
     );
     assert!(near(flag.left, band.left) && flag.right < band.right);
-    is_framed("a band with a flag", &picture);
+    picture.is_framed("a band with a flag", EDGE);
 }
 
 #[test]
@@ -395,23 +398,6 @@ fn a_part_that_is_not_there_is_wrong_usage() {
     );
 }
 
-/// Everything is within the picture, and the marks within the panels.
-fn is_framed(name: &str, picture: &Picture) {
-    for one in &picture.drawn {
-        let framed = one.left >= 0.0
-            && one.right <= picture.width
-            && one.top >= 0.0
-            && one.bottom <= picture.height;
-        assert!(framed, "{name}: {one:?} leaves the picture");
-    }
-    let panel = picture.one("ascend");
-    let in_panel = |one: &&Drawn| !one.about.is_empty();
-    for one in picture.drawn.iter().filter(in_panel) {
-        let framed = one.left >= panel.left - 0.5 && one.right <= panel.right + 1.0;
-        assert!(framed, "{name}: {one:?} leaves the panels");
-    }
-}
-
 #[test]
 fn nothing_leaves_the_frame() {
     let orders: String = (1..=60)
@@ -441,7 +427,7 @@ fn nothing_leaves_the_frame() {
         ] {
             let picture = drawn_with(script, &["--title", title]);
             assert_eq!(picture.title, title, "{name}");
-            is_framed(name, &picture);
+            picture.is_framed(name, EDGE);
         }
     }
 }
@@ -544,11 +530,6 @@ fn wedge(picture: &Picture, about: &str) -> [f64; 4] {
 /// Twenty minutes of an hour, from 1,200 seconds on.
 const TIMED: &str =
     "antennas deployed\nbattery 7800\ntick 1200\norder ground 1 PAYLOAD on for 20 min\n";
-
-/// Whether numbers are the same, to half a unit.
-fn near(a: f64, b: f64) -> bool {
-    (a - b).abs() < 0.5
-}
 
 #[test]
 fn a_running_end_is_a_wedge_down_to_where_it_comes() {
@@ -676,7 +657,7 @@ fn short_ends_are_seen_in_long_flights() {
     assert!(ends
         .iter()
         .all(|one| one.about.contains(" times, the last at ")));
-    is_framed("many ends", &picture);
+    picture.is_framed("many ends", EDGE);
     // But for the last, which stays within the panels.
     for pair in ends[..ends.len() - 1].windows(2) {
         assert!(pair[0].right <= pair[1].left + 0.2, "{pair:?}");
@@ -697,7 +678,7 @@ fn timed_orders_are_listed_whole() {
             "{n}"
         );
     }
-    is_framed("many timed orders", &picture);
+    picture.is_framed("many timed orders", EDGE);
 }
 
 #[test]

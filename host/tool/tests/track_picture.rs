@@ -2,25 +2,20 @@
 
 mod common;
 
-use common::picture::{Drawn, Picture};
+use common::picture::{near, Drawn, Picture, PANELS};
 use common::{place, run, scratch};
 use std::fs;
 
 const STRAIGHT: &str = "millivolts,milliamperes\n0,600\n6000,0\n";
 
-/// Where the panels begin and end.
-const PANELS: (f64, f64) = (92.0, 890.0);
+/// A set point at an edge of the panels reaches over it by half its circle.
+const EDGE: f64 = 4.0;
 
 /// The picture of a walk that ends with a status.
 fn drawn(curve: &str, more: &[&str], status: i32) -> Picture {
     let file = scratch("curve.csv", curve);
     let ran = run(&[&["track", &file, "-o", "-"], more].concat()).status(status);
     Picture::read(ran.text())
-}
-
-/// Whether numbers are the same, to half a unit.
-fn near(a: f64, b: f64) -> bool {
-    (a - b).abs() < 0.5
 }
 
 /// The shapes of a class that are about something.
@@ -35,21 +30,9 @@ fn set_points(picture: &Picture) -> Vec<&Drawn> {
     circles.filter(|one| !one.about.is_empty()).collect()
 }
 
-/// Everything is within the picture, what says what it is within the panels, and no two
-/// texts cover each other.
-fn is_framed(name: &str, picture: &Picture) {
-    for one in &picture.drawn {
-        let framed = one.left >= 0.0
-            && one.right <= picture.width
-            && one.top >= 0.0
-            && one.bottom <= picture.height;
-        assert!(framed, "{name}: {one:?} leaves the picture");
-        let in_panels = one.left >= PANELS.0 - 4.0 && one.right <= PANELS.1 + 4.0;
-        assert!(
-            one.about.is_empty() || in_panels,
-            "{name}: {one:?} leaves the panels"
-        );
-    }
+/// Everything is within the frame, and no two texts cover each other.
+fn is_clear(name: &str, picture: &Picture) {
+    picture.is_framed(name, EDGE);
     let texts: Vec<&Drawn> = picture.texts().collect();
     for (at, one) in texts.iter().enumerate() {
         for other in &texts[..at] {
@@ -106,7 +89,7 @@ fn the_walk_is_on_the_curve() {
         assert_eq!(circle.class, class, "{circle:?}");
     }
     assert_eq!(circles[0].about, "2,450 mV, 355 mA, 869.75 mW: 1 time");
-    is_framed("straight", &picture);
+    is_clear("straight", &picture);
 }
 
 #[test]
@@ -169,7 +152,7 @@ fn a_walk_that_has_not_crossed_has_no_mark_for_it() {
     assert!(set_points(&picture)
         .iter()
         .all(|circle| circle.class == "box"));
-    is_framed("not crossed", &picture);
+    is_clear("not crossed", &picture);
 }
 
 #[test]
@@ -182,7 +165,7 @@ fn a_refused_call_is_a_cross() {
         ("path", "box")
     );
     assert!(picture.says("refused call"));
-    is_framed("refused", &picture);
+    is_clear("refused", &picture);
     assert!(!drawn(STRAIGHT, &["--start", "450"], 0).says("refused call"));
 }
 
@@ -198,7 +181,7 @@ fn long_walks_are_small_pictures() {
     let picture = Picture::read(ran.text());
     let band = picture.one("the set point, the lowest to the highest");
     assert_eq!(band.class, "band");
-    is_framed("a million", &picture);
+    is_clear("a million", &picture);
     let dark = "millivolts,milliamperes\n0,0\n";
     let picture = drawn(
         dark,
@@ -207,7 +190,7 @@ fn long_walks_are_small_pictures() {
     );
     assert!(set_points(&picture).len() < 130);
     assert!(!picture.about(" set points, ").is_empty());
-    is_framed("by millivolts", &picture);
+    is_clear("by millivolts", &picture);
 }
 
 #[test]
@@ -243,7 +226,7 @@ fn no_walk_leaves_the_frame() {
             let args = [more, &["--title", title]].concat();
             let picture = drawn(curve, &args, status);
             assert_eq!(picture.title, title, "{name}");
-            is_framed(name, &picture);
+            is_clear(name, &picture);
         }
     }
 }

@@ -2,6 +2,14 @@
 
 use roxmltree::{Document, Node};
 
+/// Where the panels of every picture begin and end.
+pub const PANELS: (f64, f64) = (92.0, 890.0);
+
+/// Whether numbers are the same, to half a unit.
+pub fn near(a: f64, b: f64) -> bool {
+    (a - b).abs() < 0.5
+}
+
 /// What is drawn: a shape, or a text.
 #[derive(Debug)]
 pub struct Drawn {
@@ -83,6 +91,24 @@ impl Picture {
         match self.about(about)[..] {
             [one] => one,
             ref all => panic!("{} are about {about:?}", all.len()),
+        }
+    }
+
+    /// Asserts that everything is within the picture, and what says what it is within the
+    /// panels, over whose edges it may reach so far.
+    pub fn is_framed(&self, name: &str, edge: f64) {
+        let (left, right) = (PANELS.0 - edge, PANELS.1 + edge);
+        for one in &self.drawn {
+            let framed = one.left >= 0.0
+                && one.right <= self.width
+                && one.top >= 0.0
+                && one.bottom <= self.height;
+            assert!(framed, "{name}: {one:?} leaves the picture");
+            let in_panels = one.left >= left && one.right <= right;
+            assert!(
+                one.about.is_empty() || in_panels,
+                "{name}: {one:?} leaves the panels"
+            );
         }
     }
 
