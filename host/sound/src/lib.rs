@@ -1,13 +1,16 @@
 //! Keyed units as a WAV file: what a listener hears.
 //!
 //! One byte a unit, as `ems_key` writes them: 1 key down, 0 key up. A unit lasts
-//! 1,200 / WPM milliseconds, which makes `PARIS ` (50 units) come out so many
+//! [`UNIT_MS`] / WPM milliseconds, which makes `PARIS ` (50 units) come out so many
 //! times a minute.
 
 #![forbid(unsafe_code)]
 #![deny(missing_docs)]
 
 use std::f64::consts::PI;
+
+/// The milliseconds of a unit at one word a minute.
+pub const UNIT_MS: u32 = 1_200;
 
 /// Samples in a second.
 pub const RATE: u32 = 22_050;
@@ -32,9 +35,15 @@ pub fn wav(units: &[u8], wpm: u32, tone_hz: u32) -> Vec<u8> {
     file
 }
 
+/// The milliseconds that so many units last, rounded up. A speed of 0 is taken as 1.
+pub fn milliseconds(units: usize, wpm: u32) -> u64 {
+    let at_one = units as u64 * u64::from(UNIT_MS);
+    at_one.div_ceil(u64::from(wpm.max(1)))
+}
+
 /// The seconds of one unit.
 fn unit_seconds(wpm: u32) -> f64 {
-    1.2 / f64::from(wpm)
+    f64::from(UNIT_MS) / 1_000.0 / f64::from(wpm)
 }
 
 /// The header of a file with so many bytes of samples.
@@ -103,6 +112,19 @@ mod tests {
         let samples = (file.len() - 44) / 2;
         assert_eq!(samples, count(5.0) + 2 * count(SILENCE * 0.1));
         assert_eq!(file[40..44], (2 * samples as u32).to_le_bytes());
+    }
+
+    #[test]
+    fn milliseconds_are_enough_for_the_units_and_less_than_one_too_many() {
+        assert_eq!(milliseconds(50, 12), 5_000);
+        assert_eq!(milliseconds(1, 7), 172);
+        assert_eq!(milliseconds(0, 7), 0);
+        assert_eq!(milliseconds(3, 0), 3_600);
+        for (units, wpm) in (1..=1_405).flat_map(|units| [(units, 1), (units, 18), (units, 97)]) {
+            let exact = 1_000.0 * units as f64 * unit_seconds(wpm);
+            let over = milliseconds(units, wpm) as f64 - exact;
+            assert!((-1e-6..1.0).contains(&over), "{units} at {wpm} WPM");
+        }
     }
 
     #[test]

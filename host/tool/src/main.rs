@@ -63,6 +63,7 @@ fn run(command: &Command) -> Result<(), Failure> {
         Command::Beacon(beacon) => commands::beacon::run(beacon),
         Command::Key(key) => commands::key::run(key),
         Command::Read(read) => commands::read::run(read),
+        Command::Room(room) => commands::room::run(room),
         Command::Compare(compare) => commands::compare::run(compare),
         Command::Image(image) => commands::image::run(image),
         Command::Track(track) => commands::track::run(track),

@@ -4,7 +4,7 @@
 mod common;
 
 use ::ems::{answer, Craft, REPORT_BYTES};
-use common::{ems, fed, place, root, run, scratch};
+use common::{ems, fed, place, root, run, scratch, COMMANDS};
 use model::image;
 use std::os::unix::fs::symlink;
 use std::path::{Path, PathBuf};
@@ -275,13 +275,9 @@ fn the_stack_that_the_icd_gives_is_enough() {
 /// No document for outsiders speaks of papers that they haven't got.
 #[test]
 fn every_word_can_be_looked_up() {
-    let help: Vec<String> = [
-        "--help", "log", "frames", "uplink", "show", "plot", "beacon", "key", "read", "compare",
-        "image", "track",
-    ]
-    .iter()
-    .map(|command| run(&[command, "--help"]).status(0).text().to_string())
-    .collect();
+    let commands = ["--help"].into_iter().chain(COMMANDS);
+    let help = commands.map(|command| run(&[command, "--help"]).status(0).text().to_string());
+    let help: Vec<String> = help.collect();
     let text = |document: &str| fs::read_to_string(root().join(document)).expect("the document");
     let documents = [
         "docs/ICD.md",

@@ -2,11 +2,7 @@
 
 mod common;
 
-use common::run;
-
-const COMMANDS: [&str; 11] = [
-    "log", "frames", "uplink", "show", "plot", "beacon", "key", "read", "compare", "image", "track",
-];
+use common::{run, COMMANDS};
 
 #[test]
 fn every_command_has_help_with_an_example() {
@@ -34,6 +30,21 @@ fn help_says_how_a_greeting_is_read() {
         .prints("if a greeting is kept")
         .prints("with none kept, the status\nis 2.\n")
         .prints("\n  ems beacon --all examples/school.pass\n");
+}
+
+#[test]
+fn help_says_what_the_room_is_enough_for() {
+    run(&["room", "--help"])
+        .status(0)
+        .prints("[CHARACTERS]...")
+        .prints("1 to 64")
+        .prints("Words a minute, 1 to 100")
+        .prints("[default: 18]")
+        .prints("enough for every text of\nso many, and for shorter ones;")
+        .prints("so many zeros need just that.")
+        .prints("in a buffer of so many bytes it never answers 14.")
+        .prints("\nEMS_UNITS_FOR(n).")
+        .prints("\n  ems room 20 33 --wpm 12\n");
 }
 
 #[test]

@@ -91,6 +91,19 @@ Examples:
   ems read units.txt
   ems key --units \"EMS R 7000\" | ems read -";
 
+pub const ROOM: &str = "\
+A row for each number of characters, in the order given. It is enough for every text of
+so many, and for shorter ones; so many zeros need just that. ems_key writes a byte a
+unit, and in a buffer of so many bytes it never answers 14. In C the same number is
+EMS_UNITS_FOR(n). A given text mostly needs fewer: `ems key --units` shows them.
+
+The seconds are rounded up, and are those of the units alone: the sound that `ems key`
+makes has a little silence before and after.
+
+Examples:
+  ems room
+  ems room 20 33 --wpm 12";
+
 pub const COMPARE: &str = "\
 The promise: two craft are sent the same frames, but for battery readings, which are
 in range and never lower on B. Then, after every frame, B's mode is as good as A's,

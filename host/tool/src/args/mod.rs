@@ -4,6 +4,7 @@ mod help;
 mod time;
 
 use clap::{Args, Parser, Subcommand, ValueEnum};
+use ems::TEXT_BYTES;
 use std::path::{Path, PathBuf};
 use time::time;
 
@@ -41,6 +42,9 @@ pub enum Command {
     /// Reads units back to the text that they are the keying of
     #[command(after_help = help::READ)]
     Read(Read),
+    /// The room and the time that keying needs at most, before the text is known
+    #[command(after_help = help::ROOM)]
+    Room(Room),
     /// Two craft side by side: where they differ, and whether the stronger keeps up
     #[command(after_help = help::COMPARE)]
     Compare(Compare),
@@ -169,6 +173,14 @@ pub struct Beacon {
     pub going: KeepGoing,
 }
 
+/// For the commands that go by how fast a text is keyed.
+#[derive(Args, Debug)]
+pub struct Speed {
+    /// Words a minute, 1 to 100: a unit lasts 1,200 ms divided by it
+    #[arg(long, default_value_t = 18, value_parser = clap::value_parser!(u32).range(1..=100))]
+    pub wpm: u32,
+}
+
 #[derive(Args, Debug)]
 pub struct Key {
     /// The text
@@ -179,9 +191,8 @@ pub struct Key {
     /// Units as text instead of sound: 1 key down, 0 key up
     #[arg(long)]
     pub units: bool,
-    /// Words a minute, 1 to 100: a unit lasts 1,200 ms divided by it
-    #[arg(long, default_value_t = 18, value_parser = clap::value_parser!(u32).range(1..=100))]
-    pub wpm: u32,
+    #[command(flatten)]
+    pub speed: Speed,
     /// The tone in hertz, 50 to 10,000
     #[arg(long, value_name = "HZ", default_value_t = 700,
           value_parser = clap::value_parser!(u32).range(50..=10_000))]
@@ -192,6 +203,15 @@ pub struct Key {
 pub struct Read {
     /// Units as text, 1 key down and 0 key up; `-` is standard input
     pub file: PathBuf,
+}
+
+#[derive(Args, Debug)]
+pub struct Room {
+    /// How many characters the text has, 1 to 64 [default: those of the board's own texts]
+    #[arg(value_parser = clap::value_parser!(u8).range(1..=TEXT_BYTES as i64))]
+    pub characters: Vec<u8>,
+    #[command(flatten)]
+    pub speed: Speed,
 }
 
 #[derive(Args, Debug)]

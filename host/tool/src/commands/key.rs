@@ -27,7 +27,7 @@ pub fn run(key: &Key) -> Result<(), Failure> {
             output.write_all(b"\n")?;
         }
     } else {
-        output.write_all(&sound::wav(units, key.wpm, key.tone))?;
+        output.write_all(&sound::wav(units, key.speed.wpm, key.tone))?;
     }
     Ok(output.flush()?)
 }

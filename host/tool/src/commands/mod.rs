@@ -10,6 +10,7 @@ pub mod key;
 pub mod log;
 pub mod plot;
 pub mod read;
+pub mod room;
 pub mod show;
 pub mod track;
 pub mod uplink;

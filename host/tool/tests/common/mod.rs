@@ -11,6 +11,12 @@ use std::time::Duration;
 use std::{env, fs};
 use tempfile::TempDir;
 
+/// What the tool can be asked to do.
+pub const COMMANDS: [&str; 12] = [
+    "log", "frames", "uplink", "show", "plot", "beacon", "key", "read", "room", "compare", "image",
+    "track",
+];
+
 /// Longer than anything takes that is tested.
 const PATIENCE: Duration = Duration::from_secs(60);
 
