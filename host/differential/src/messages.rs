@@ -72,13 +72,7 @@ pub fn with(rng: &mut Rng, mut message: Message, fault: Fault) -> Message {
             message.length = rng.pick(&[message::BYTES as u8 + 1, beyond, u8::MAX]);
         }
         Fault::Byte(place) => message.bytes[place] = texts::beside(rng),
-        Fault::Space(place) => {
-            message.bytes[place] = b' ';
-            // Where it is neither first nor last, it is next to another.
-            if place > 0 && place + 1 < length {
-                message.bytes[place - 1] = b' ';
-            }
-        }
+        Fault::Space(place) => texts::misplace_space(&mut message.bytes[..length], place),
         Fault::Filler(place) => {
             let any = rng.between(1, 0xFF) as u8;
             message.bytes[place] = rng.pick(&[1, b' ', b'E', any]);

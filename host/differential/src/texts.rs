@@ -1,8 +1,12 @@
 //! Texts and units from a seed.
 
 use crate::rng::Rng;
+use model::morse::TEXT_BYTES;
 
 const SIGNS: &[u8] = b"ABCDEFGHIJKLMNOPQRSTUVWXYZ0123456789.,?/";
+
+/// Those whose signs take most units.
+const LONGEST: &[u8] = b"0,";
 
 /// Bytes that are not of the alphabet: those beside one that is, two in lower case,
 /// and `;`.
@@ -57,6 +61,69 @@ pub fn any(rng: &mut Rng) -> Vec<u8> {
         _ => {}
     }
     text
+}
+
+/// A text, and what keying it answers where there is room enough.
+pub type Judged = (Vec<u8>, u8);
+
+/// Texts of so many bytes, of every sort: one character alone; the longest signs, these
+/// with a few others, and any, with spaces from none to every second place; and one thing
+/// wrong, in every place.
+pub fn of_every_sort(rng: &mut Rng, length: usize) -> Vec<Judged> {
+    let alike = SIGNS.iter().map(|sign| vec![*sign; length]);
+    let mut texts: Vec<Judged> = alike.map(|text| (text, 0)).collect();
+    for spaces in 0..=length.saturating_sub(1) / 2 {
+        let longest = spaced(rng, LONGEST, length, spaces);
+        let others = with_others(rng, longest.clone());
+        let any = spaced(rng, SIGNS, length, spaces);
+        texts.extend([longest, others, any].map(|text| (text, 0)));
+    }
+    for place in 0..length {
+        let mut wrong = of_length(rng, length);
+        let (beside, above) = (beside(rng), rng.byte() | 0x80);
+        wrong[place] = rng.pick(&[beside, above, 0]);
+        let mut spaced = of_length(rng, length);
+        misplace_space(&mut spaced, place);
+        texts.extend([(wrong, 12), (spaced, 13)]);
+    }
+    if length > TEXT_BYTES {
+        texts.iter_mut().for_each(|(_, answer)| *answer = 11);
+    }
+    texts
+}
+
+/// A text of some signs that can be keyed, of so many bytes, so many of them spaces, which
+/// have to be fewer than the signs.
+fn spaced(rng: &mut Rng, signs: &[u8], length: usize, mut spaces: usize) -> Vec<u8> {
+    let mut text = Vec::new();
+    for places in (0..length - spaces).rev() {
+        text.push(rng.pick(signs));
+        // So many places between two signs are left.
+        if spaces > 0 && rng.below(places) < spaces {
+            text.push(b' ');
+            spaces -= 1;
+        }
+    }
+    text
+}
+
+/// A text with other signs in up to three places.
+fn with_others(rng: &mut Rng, mut text: Vec<u8>) -> Vec<u8> {
+    for _ in 0..3 {
+        let place = rng.below(text.len().max(1));
+        if let Some(byte) = text.get_mut(place).filter(|byte| **byte != b' ') {
+            *byte = rng.pick(SIGNS);
+        }
+    }
+    text
+}
+
+/// Puts a space where none may be: first, last, or next to another.
+pub fn misplace_space(text: &mut [u8], place: usize) {
+    text[place] = b' ';
+    if place > 0 && place + 1 < text.len() {
+        text[place - 1] = b' ';
+    }
 }
 
 /// The units of every sign of so many marks, whether a byte has it or not.

@@ -3,6 +3,7 @@
 
 mod common;
 mod kept;
+mod keyers;
 mod signs;
 mod wrong;
 
@@ -492,6 +493,27 @@ fn a_keyer_with_a_wrong_sign_is_found() {
             assert!(told.starts_with("input:   "), "{group}: {name}\n{told}");
             assert_eq!(told.find(" (room "), Some(11), "{group}: {name}\n{told}");
         }
+    }
+}
+
+/// The group of the bound on keying room.
+const SET_ASIDE: &str = "texts in the room set aside for them";
+
+#[test]
+fn every_keyer_with_another_need_is_found() {
+    for (name, key) in keyers::KEYERS {
+        let told = told(SET_ASIDE, Calls { key, ..MODEL });
+        assert!(told.contains("\nmodel:   "), "{name}\n{told}");
+    }
+}
+
+/// The bound is looked at on the answers themselves.
+#[test]
+fn every_keyer_with_another_need_is_found_where_the_model_has_it_too() {
+    for (name, key) in keyers::KEYERS {
+        let wrong = Calls { key, ..MODEL };
+        let told = run(SET_ASIDE, &[wrong, wrong]).expect_err(name);
+        assert!(told.starts_with("input:   "), "{name}\n{told}");
     }
 }
 

@@ -3,6 +3,7 @@
 mod flights;
 mod greetings;
 mod images;
+mod keying_room;
 mod passes;
 mod texts;
 mod timed;
@@ -36,7 +37,7 @@ pub type Verdict = Result<u64, String>;
 pub type Group = (&'static str, fn(&[Calls; 2], &mut Rng) -> Verdict);
 
 /// All groups.
-pub const GROUPS: [Group; 35] = [
+pub const GROUPS: [Group; 36] = [
     ("fresh start, every length", images::fresh_starts),
     ("flights by the table", |sides, rng| {
         flights::of(sides, rng, Maker::Structured, 4_000_000)
@@ -82,6 +83,10 @@ pub const GROUPS: [Group; 35] = [
     ("every byte in every place of a text", texts::every_place),
     ("every sign of up to 7 marks", texts::every_sign),
     ("texts of up to 70 bytes", texts::any_texts),
+    (
+        "texts in the room set aside for them",
+        keying_room::texts_in_their_room,
+    ),
     ("units damaged in one place", texts::damaged_units),
     ("the tracker about every limit", tracks::tracks),
     ("the tracker about both ends", tracks::track_ends),
