@@ -105,13 +105,13 @@ units-after-most (c ∷ d ∷ t) gap =
 -- no text has more units than its characters allow
 pub units-most : (t : List ℕ) → length (unitsOf t) ≤ unitsFor (length t)
 unfolding unitsOf
-units-most t = units-after-most t 0
+units-most t = omega (arith, units-after-most t 0)
 
 -- a gap is keyed before a sign that has marks
 sign-after : (gap : ℕ) (ms : List Mark) → 0 < length (signUnits 0 ms)
     → length (signUnits gap ms) ≡ gap + length (signUnits 0 ms)
 sign-after gap [] h = absurd (omega arith)
-sign-after gap (m ∷ ms) h = simp (length-append, length-replicate)
+sign-after gap (m ∷ ms) h = simp (length-append, length-replicate) (omega arith)
 
 -- a byte with one of the longest signs, over and over, has just as many
 module _ (c : ℕ) (unspaced : isSpace c ≡ false)
@@ -128,4 +128,4 @@ module _ (c : ℕ) (unspaced : isSpace c ≡ false)
   pub repeated-units : (n : ℕ) → length (unitsOf (replicate n c)) ≡ unitsFor n
   unfolding unitsOf
   repeated-units zero = refl
-  repeated-units (suc n) = repeated-after n 0
+  repeated-units (suc n) = repeated-after n 0 ∙ omega arith

@@ -1,8 +1,9 @@
 -- Room for a keying, proved: a text's units are no more than its characters allow, and n zeros have just so many.
 -- Assumes nothing.
-use Prim.Native.Nat.{ℕ, _≤_, _<_}
+use Prim.Native.Nat.{ℕ, _+_, _≤_}
 use native.Mathlib.Omega.{arith}
 use mathlib.Core.Path.{_≡_, refl, sym, ap, _∙_}
+use mathlib.Core.Bool.{true, false}
 use mathlib.Core.List.{List}
 use lib.ListN.{length, replicate}
 use Rattle.basics.specs.Outcome.{Outcome, Reply, reply}
@@ -10,14 +11,14 @@ use Rattle.morse.specs.Answers.{done, noRoom}
 use Rattle.morse.specs.Signs.{firstFigure, alphabet, signOf}
 use Rattle.morse.specs.Texts.{longest, isSpace, known, faultOf, faultNumber}
 use Rattle.morse.specs.Units.{betweenSigns, signUnits, unitsOf, perCharacter, unitsFor}
-use Rattle.morse.specs.Keying.{keyReply, keyOf}
+use Rattle.morse.specs.Keying.{keyReply}
 use Rattle.morse.specs.declared.keying.Keyed.{Keyed}
 use Rattle.morse.specs.declared.texts.Fault.{Fault}
 use Rattle.morse.specs.declared.texts.Fault.the-variants.{Nothing, TextTooLong, NotKeyable, BadSpace}
 use Rattle.morse.proofs.TextsLaws.{fairly, repeated}
 use Rattle.morse.proofs.UnitsLaws.{units-most, repeated-units}
 use Rattle.morse.proofs.KeyingLaws.{keyed-within, keyed-short, key-number, key-count}
-use Rattle.promises.specs.KeyingRoom.{AtMost, Enough, Needs, KeyingRoom}
+use Rattle.promises.specs.KeyingRoom.{keying, AtMost, Enough, Needs, OfEmsKey, KeyingRoom}
 
 most : (n : ℕ) → AtMost n (unitsFor n)
 most n text room e = omega (arith, key-count text room, units-most text)
@@ -27,7 +28,7 @@ enough n text room e h = key-number text room (omega (arith, units-most text))
 
 -- a text without a fault needs as many as it has
 module _ (text : List ℕ) (fine : faultOf text ≡ Nothing) (units : ℕ) (e : length (unitsOf text) ≡ units) where
-  pub needs : Needs text units
+  needs : Needs text units
   needs = record {
     given = λ room h.
         ap (λ (o : Outcome Keyed). keyReply (o .result)) (keyed-within text room fine (omega (arith, e)))
@@ -42,6 +43,10 @@ pub needs-all :
 needs-all c k s long n h =
     needs (replicate n c) (fairly (replicate n c) (repeated c k s n h)) (unitsFor n) (repeated-units c s long n)
 
+-- what ems_key returns is what keying does
+in-c : OfEmsKey (λ text room returned. returned ≡ keying text room)
+in-c κs a x learnt = ap (λ (o : Outcome Reply). o .result) learnt
+
 -- no text's own answer is 14
 own-number : (f : Fault) → faultNumber f ≡ noRoom → ⊥
 own-number Nothing e = omega arith
@@ -55,9 +60,12 @@ keying-room = record {
   most = most;
   enough = enough;
   reached = needs-all firstFigure refl refl refl;
-  ems-key = λ κs a x learnt h full.
+  most-in-c = λ κs a x learnt.
       let text = a .0 .now in
-      let room = a .1 .0 .now in
-      let number = ap (λ (o : Outcome Reply). o .result .number) learnt in
-      own-number (faultOf text) (sym (number ∙ enough (length text) text room refl h) ∙ full);
+      let count = ap (λ (r : Reply). r .count) (in-c κs a x learnt) in
+      omega (arith, count, most (length text) text (a .1 .0 .now) refl);
+  enough-in-c = λ κs a x learnt h full.
+      let text = a .0 .now in
+      let number = ap (λ (r : Reply). r .number) (in-c κs a x learnt) in
+      own-number (faultOf text) (sym (number ∙ enough (length text) text (a .1 .0 .now) refl h) ∙ full);
 }

@@ -40,14 +40,20 @@ pub record Needs (text : List ℕ) (units : ℕ) : Type 0 where
 abbrev pub zeros : ℕ → List ℕ
 zeros n = replicate n firstFigure
 
--- all of it, and of the call that C makes, ems_key(text, units, count): by its contract, as the toolchain reads it from
--- the source, it does not answer 14 with such a room
+-- what is so of the call that C makes, ems_key(text, units, count): of all that its contract, as the toolchain reads it
+-- from the source, lets it return
+abbrev pub OfEmsKey : (IsSo : (text room : List ℕ) → (returned : Reply) → Type 0) → Type 0
+OfEmsKey IsSo =
+    (κs : Lfts (ems-key.ended .signature .lifetimes)) (a : Args (ems-key.ended .signature) κs)
+    (x : Leaves ems-key.ended κs a) →
+    ems-key-reads.Learnt κs a (x .0) (atExit ems-key.ended κs a (x .1)) →
+    IsSo (a .0 .now) (a .1 .0 .now) (reply (x .0) (x .1 .1 .1 .0))
+
+-- all of it, and the first two of C's call
 pub record KeyingRoom : Type 0 where
   pub most : (n : ℕ) → AtMost n (unitsFor n)
   pub enough : (n : ℕ) → Enough n (unitsFor n)
   pub reached : (n : ℕ) → n ≤ longest → Needs (zeros n) (unitsFor n)
-  pub ems-key :
-      (κs : Lfts (ems-key.ended .signature .lifetimes)) (a : Args (ems-key.ended .signature) κs)
-      (x : Leaves ems-key.ended κs a) →
-      ems-key-reads.Learnt κs a (x .0) (atExit ems-key.ended κs a (x .1)) →
-      unitsFor (length (a .0 .now)) ≤ length (a .1 .0 .now) → x .0 ≡ noRoom → ⊥
+  pub most-in-c : OfEmsKey (λ text room returned. returned .count ≤ unitsFor (length text))
+  pub enough-in-c :
+      OfEmsKey (λ text room returned. unitsFor (length text) ≤ length room → returned .number ≡ noRoom → ⊥)
