@@ -39,20 +39,20 @@ module _ (size from : ℕ) (some : 1 ≤ size) (low : from ≤ mostMillivolts) w
       goes-down {to = r .point} (omega (arith, ltb-false from (suc e) t, ap (λ (x : Tracked). x .point) v)) (ap (λ (x : Tracked). x .step) (sym v) ∙ sym (ap (λ (n : ℕ). negℤ (pos n)) q))
 
 -- the move by a step of a size, up or down
-pub moves : (size from : ℕ) (way : Bool) → 1 ≤ size → from ≤ mostMillivolts → Moves size from way (moved from (stepTo way size) .point) (moved from (stepTo way size) .step)
+moves : (size from : ℕ) (way : Bool) → 1 ≤ size → from ≤ mostMillivolts → Moves size from way (moved from (stepTo way size) .point) (moved from (stepTo way size) .step)
 unfolding moved
 moves size from true some low = moves-up size from some low (ltb mostMillivolts (from + size)) refl
 moves zero from false some low = absurd (omega arith)
 moves (suc e) from false some low = moves-down (suc e) from some low e refl (ltb from (suc e)) refl (moved from (negsuc e)) refl
 
 -- it ends within the ends, and its step is as long
-pub moves-low : (size from : ℕ) (way : Bool) (to : ℕ) (step : ℤ) → from ≤ mostMillivolts → Moves size from way to step → to ≤ mostMillivolts
+moves-low : (size from : ℕ) (way : Bool) (to : ℕ) (step : ℤ) → from ≤ mostMillivolts → Moves size from way to step → to ≤ mostMillivolts
 moves-low size from true to step low (goes-up h e s) = h
 moves-low size from true to step low (stops-above h e s) = omega arith
 moves-low size from false to step low (goes-down e s) = omega arith
 moves-low size from false to step low (stops-below h e s) = omega arith
 
-pub moves-size : (size from : ℕ) (way : Bool) (to : ℕ) (step : ℤ) → Moves size from way to step → natAbs step ≡ size
+moves-size : (size from : ℕ) (way : Bool) (to : ℕ) (step : ℤ) → Moves size from way to step → natAbs step ≡ size
 moves-size size from true to step (goes-up h e s) = ap natAbs s ∙ stepTo-size true size
 moves-size size from true to step (stops-above h e s) = ap natAbs s ∙ stepTo-size false size
 moves-size size from false to step (goes-down e s) = ap natAbs s ∙ stepTo-size false size
