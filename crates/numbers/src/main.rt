@@ -1,5 +1,5 @@
-// The numbers of document 01's "Numbers on either side" that are run and not proved, and the two craft that show why
-// the third demand is not claimed for the core four.
+// The numbers of document 01's "Numbers on either side" that are run and not proved; the longest keying, which fills
+// MOST_UNITS; and the two craft that show why the third demand is not claimed for the core four.
 use frames::answer::Answer;
 use frames::kind::ANTENNAS;
 use frames::kind::BATTERY;
@@ -194,5 +194,6 @@ fn main() {
     say_battery(9000);
     say_battery(9001);
     say_units(b"EMS R 7000");
+    say_units(b"0000000000000000000000000000000000000000000000000000000000000000");
     say_two_craft();
 }
