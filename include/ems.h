@@ -101,7 +101,7 @@ extern "C" {
  * twice. */
 #define EMS_UNITS_FOR(n) (22 * (n) - ((n) == 0 ? 0 : 3))
 
-/* Room enough for the units of any text that is keyed. */
+/* Room enough for the units of any text that is keyed: 1405. */
 #define EMS_UNITS_BYTES EMS_UNITS_FOR(EMS_TEXT_BYTES)
 
 /* The greatest voltage of a panel's reading, and the greatest set point; the greatest
