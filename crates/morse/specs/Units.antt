@@ -57,7 +57,7 @@ unitsOf t = unitsAfter 0 t
 abbrev pub perCharacter : ℕ
 perCharacter = 22
 
--- the most units that n characters take: nothing follows the last
+-- the most units that n characters take: nothing follows the last; of no character 0
 abbrev pub unitsFor : ℕ → ℕ
 unitsFor n = perCharacter * n - betweenSigns
 
