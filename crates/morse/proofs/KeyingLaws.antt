@@ -30,23 +30,27 @@ module _ (units room : List ℕ) where
   unfolding keyUnits
   key-short h = simp (lt-ltb (length room) (length units) h)
 
+  key-within : length units ≤ length room → outcome (Done (length units)) (written units room) ≡ keyUnits units room
+  unfolding keyUnits
+  key-within h = simp (le-ltb (length room) (length units) h)
+
   pub key-stored : {n : ℕ} {later : List ℕ} → Stored 0 units room n later → length units ≤ length room
       → outcome (Done n) later ≡ keyUnits units room
-  unfolding keyUnits
   key-stored {n} s h =
       let e : n ≡ length units = omega arith in
-      rw (e, s .1, sets-front units room h) (simp (le-ltb (length room) (length units) h))
+      rw (e, s .1, sets-front units room h) (key-within h)
 
 -- a text without a fault is keyed where there is room for its units, and is answered 14 where there is less
 module _ (t room : List ℕ) (fine : faultOf t ≡ Nothing) where
+  by-units : keyUnits (unitsOf t) room ≡ keyOf t room
+  by-units = key-by t room Nothing (sym fine) refl
+
   pub keyed-within : length (unitsOf t) ≤ length room
       → keyOf t room ≡ outcome (Done (length (unitsOf t))) (written (unitsOf t) room)
-  unfolding keyOf keyUnits
-  keyed-within h = rw (fine, le-ltb (length room) (length (unitsOf t)) h)
+  keyed-within h = sym (key-within (unitsOf t) room h ∙ by-units)
 
   pub keyed-short : length room < length (unitsOf t) → keyOf t room ≡ outcome NoRoom room
-  unfolding keyOf keyUnits
-  keyed-short h = rw (fine, lt-ltb (length room) (length (unitsOf t)) h)
+  keyed-short h = sym (key-short (unitsOf t) room h ∙ by-units)
 
 -- any text: with room for its units the answer is its own, and no more than its units are counted
 module _ (t room : List ℕ) where

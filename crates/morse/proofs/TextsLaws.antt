@@ -15,7 +15,7 @@ use Rattle.basics.specs.Choice.{if_then_else_}
 use Rattle.basics.specs.Bytes.{space}
 use Rattle.basics.proofs.ChoiceLaws.{is-true, holds, and-left, and-right, neither-left, neither-right}
 use Rattle.morse.specs.declared.signs.Sign.{Sign}
-use Rattle.morse.specs.Answers.{done}
+use Rattle.morse.specs.Answers.{done, noRoom}
 use Rattle.morse.specs.declared.texts.Fault.{Fault}
 use Rattle.morse.specs.declared.texts.Fault.the-variants.{Nothing, TextTooLong, NotKeyable, BadSpace}
 use Rattle.morse.specs.declared.texts.Seen.{Seen}
@@ -96,6 +96,13 @@ keyable-fault t h = by-fault (faultOf t) (eqb→eq (faultNumber (faultOf t)) don
     by-fault TextTooLong e = absurd (omega arith)
     by-fault NotKeyable e = absurd (omega arith)
     by-fault BadSpace e = absurd (omega arith)
+
+-- no fault's number is 14
+pub fault-not-room : (f : Fault) → faultNumber f ≡ noRoom → ⊥
+fault-not-room Nothing e = omega arith
+fault-not-room TextTooLong e = omega arith
+fault-not-room NotKeyable e = omega arith
+fault-not-room BadSpace e = omega arith
 
 pub fairly : (t : List ℕ) → Fair t → faultOf t ≡ Nothing
 unfolding faultOf

@@ -7,15 +7,14 @@ use mathlib.Core.Bool.{true, false}
 use mathlib.Core.List.{List}
 use lib.ListN.{length, replicate}
 use Rattle.basics.specs.Outcome.{Outcome, Reply, reply}
-use Rattle.morse.specs.Answers.{done, noRoom}
+use Rattle.morse.specs.Answers.{done}
 use Rattle.morse.specs.Signs.{firstFigure, alphabet, signOf}
-use Rattle.morse.specs.Texts.{longest, isSpace, known, faultOf, faultNumber}
+use Rattle.morse.specs.Texts.{longest, isSpace, known, faultOf}
 use Rattle.morse.specs.Units.{betweenSigns, signUnits, unitsOf, perCharacter, unitsFor}
 use Rattle.morse.specs.Keying.{keyReply}
 use Rattle.morse.specs.declared.keying.Keyed.{Keyed}
-use Rattle.morse.specs.declared.texts.Fault.{Fault}
-use Rattle.morse.specs.declared.texts.Fault.the-variants.{Nothing, TextTooLong, NotKeyable, BadSpace}
-use Rattle.morse.proofs.TextsLaws.{fairly, repeated}
+use Rattle.morse.specs.declared.texts.Fault.the-variants.{Nothing}
+use Rattle.morse.proofs.TextsLaws.{fault-not-room, fairly, repeated}
 use Rattle.morse.proofs.UnitsLaws.{units-most, repeated-units}
 use Rattle.morse.proofs.KeyingLaws.{keyed-within, keyed-short, key-number, key-count}
 use Rattle.promises.specs.KeyingRoom.{keying, AtMost, Enough, Needs, OfEmsKey, KeyingRoom}
@@ -47,13 +46,6 @@ needs-all c k s long n h =
 in-c : OfEmsKey (λ text room returned. returned ≡ keying text room)
 in-c κs a x learnt = ap (λ (o : Outcome Reply). o .result) learnt
 
--- no text's own answer is 14
-own-number : (f : Fault) → faultNumber f ≡ noRoom → ⊥
-own-number Nothing e = omega arith
-own-number TextTooLong e = omega arith
-own-number NotKeyable e = omega arith
-own-number BadSpace e = omega arith
-
 pub keying-room : KeyingRoom
 unfolding alphabet signOf
 keying-room = record {
@@ -67,5 +59,5 @@ keying-room = record {
   enough-in-c = λ κs a x learnt h full.
       let text = a .0 .now in
       let number = ap (λ (r : Reply). r .number) (in-c κs a x learnt) in
-      own-number (faultOf text) (sym (number ∙ enough (length text) text (a .1 .0 .now) refl h) ∙ full);
+      fault-not-room (faultOf text) (sym (number ∙ enough (length text) text (a .1 .0 .now) refl h) ∙ full);
 }
