@@ -12,10 +12,14 @@
  *     of all; nor do `set_point` and `step`;
  *   - one caller at a time for any one buffer, and for any one such number.
  *
+ * What every call that takes an image catches: one bit turned in a mask, or in a
+ * module so that it is no longer requested, on or failed as it was. Masks and
+ * modules then disagree, and the answer is EMS_BAD_STATE.
+ *
  * What no call catches: an image whose write was interrupted halfway and that
- * happens to be a state in range, and a bit flip that stays within the ranges.
- * A caller that keeps the image over a reset guards it (two copies and a
- * checksum, say).
+ * happens to be a state in range, and any other bit flip that stays within the
+ * ranges (in a serial, in a tension, in a module's tries or seconds). A caller that
+ * keeps the image over a reset guards it (two copies and a checksum, say).
  */
 #ifndef EMS_H
 #define EMS_H
@@ -63,7 +67,11 @@ extern "C" {
  *   36     4    ADCS's end: the seconds until its request goes off, 0 to 86,400;
  *               0 where none runs; then 4 bytes for each of the other ends:
  *               PAYLOAD's at 40, SBAND1's at 44, SBAND2's at 48
- *   52     2    module 0, then 2 bytes for each of the modules 1 to 7; when it
+ *   52     1    the requested mask: bit i, 0 the lowest, is set if module i is
+ *               requested
+ *   53     1    the on mask: the same of the modules that are on
+ *   54     1    the failed mask: the same of those that have failed
+ *   55     2    module 0, then 2 bytes for each of the modules 1 to 7; when it
  *               is requested, 32,768 more (the top bit of its second byte):
  *                 0 to 239          on, 1 to 4 tries left and 0 to 59 seconds of
  *                                   the 60 that bring all tries back: the seconds,
@@ -72,13 +80,14 @@ extern "C" {
  *                 241 to 245        off, 1 to 5 tries left (240 more)
  *                 246 to 846        failed, 0 to 600 seconds left (246 more)
  *
- * Each state in range has one image. Bytes that are none are refused with
- * EMS_BAD_STATE. */
-#define EMS_IMAGE_BYTES 68
-#define EMS_IMAGE_VERSION 5
+ * Each state in range has one image. Bytes that are none, those whose masks are not
+ * the masks of their modules among them, are refused with EMS_BAD_STATE. */
+#define EMS_IMAGE_BYTES 71
+#define EMS_IMAGE_VERSION 6
 
 /* The bytes of a report: 81, kind answered, origin, serial (2), answer, mode,
- * requested mask, on mask, failed mask, beacon. */
+ * requested mask, on mask, failed mask, beacon. The masks are those of the image
+ * after the frame. */
 #define EMS_REPORT_BYTES 11
 
 /* The bytes of a message's text, the zeros past its length included. */
@@ -115,7 +124,8 @@ extern "C" {
  * applies is given. */
 enum ems_answer {
     EMS_DONE = 0,           /* done by the rules; there is a report */
-    EMS_BAD_STATE = 1,      /* the image is not that of a state in range */
+    EMS_BAD_STATE = 1,      /* the image is not that of a state in range, or its
+                               masks and modules disagree */
     EMS_SHORT_ROOM = 2,     /* fewer than EMS_REPORT_BYTES of reply room */
     EMS_NO_INPUT = 3,       /* no input bytes */
     EMS_UNKNOWN_KIND = 4,   /* kind not 01 to 07 */
@@ -193,6 +203,10 @@ uint8_t ems_step(uint8_t *image, size_t image_len,
 uint8_t ems_pass(uint8_t *image, size_t image_len,
                  const uint8_t *frames, size_t frames_len,
                  uint8_t *room, size_t room_len, size_t *reported);
+
+/* Tells how many modules are on, 0 to 8: the ones in the on mask. EMS_DONE with their
+ * number in `*count`; or EMS_BAD_STATE with `*count` 0. */
+uint8_t ems_modules_on(const uint8_t *image, size_t image_len, size_t *count);
 
 /* Write the beacon's text of a state, and its length to `*count`. Answers:
  * EMS_BAD_STATE, then EMS_NO_ROOM, both with `*count` 0 and the text untouched;

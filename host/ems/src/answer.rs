@@ -2,7 +2,7 @@
 
 /// Done by the rules.
 pub const DONE: u8 = 0;
-/// The image is not that of a state in range.
+/// The image is not that of a state in range, or its masks and modules disagree.
 pub const BAD_STATE: u8 = 1;
 /// Fewer bytes of reply room than a report has.
 pub const SHORT_ROOM: u8 = 2;

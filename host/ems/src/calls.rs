@@ -32,6 +32,7 @@ mod c {
             room_len: usize,
             reported: *mut usize,
         ) -> u8;
+        pub fn ems_modules_on(image: *const u8, image_len: usize, count: *mut usize) -> u8;
         pub fn ems_beacon_basic(
             image: *const u8,
             image_len: usize,
@@ -142,6 +143,15 @@ pub fn pass(image: &mut [u8], frames: &[u8], room: &mut [u8]) -> (u8, usize) {
         )
     };
     (answer, reported)
+}
+
+/// How many modules are on, from the ones in the on mask; answer and number.
+pub fn modules_on(image: &[u8]) -> (u8, usize) {
+    // `count` is always written; this value would show if it weren't.
+    let mut count = usize::MAX;
+    // SAFETY: pointers and length are those of one borrowed slice and a local.
+    let answer = unsafe { c::ems_modules_on(image.as_ptr(), image.len(), &mut count) };
+    (answer, count)
 }
 
 /// Writes the basic beacon's text of the state; answer and length.

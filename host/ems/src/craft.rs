@@ -19,12 +19,12 @@ impl Craft {
 
     /// The board that an image was saved from; none if no board saves so.
     ///
-    /// The library is asked, by a beacon's call that has no room: it answers 1
-    /// for an image that isn't one, and 14 otherwise, and writes nothing.
+    /// The library is asked how many modules are on: it has no other refusal than
+    /// that the image isn't one.
     pub fn from_image(image: &[u8]) -> Option<Craft> {
         let image: &[u8; IMAGE_BYTES] = image.try_into().ok()?;
-        match calls::beacon_basic(image, &mut []) {
-            (answer::NO_ROOM, _) => Some(Craft { image: *image }),
+        match calls::modules_on(image) {
+            (answer::DONE, _) => Some(Craft { image: *image }),
             _ => None,
         }
     }
@@ -65,6 +65,12 @@ impl Craft {
             reports: reports.filter_map(Report::read).collect(),
             answer,
         }
+    }
+
+    /// How many modules are on.
+    pub fn modules_on(&self) -> usize {
+        let (_, count) = calls::modules_on(&self.image);
+        count
     }
 
     /// Writes the basic beacon's text; answer and length.

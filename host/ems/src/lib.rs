@@ -47,7 +47,7 @@ pub use reading::{Reading, LONGEST_STEP, MOST_MILLIAMPERES, MOST_MILLIVOLTS};
 pub use report::{Beacon, Report, REPORT_KIND};
 
 /// The bytes of an image; `EMS_IMAGE_BYTES` of the header.
-pub const IMAGE_BYTES: usize = 68;
+pub const IMAGE_BYTES: usize = 71;
 /// The bytes of a report; `EMS_REPORT_BYTES` of the header.
 pub const REPORT_BYTES: usize = 11;
 /// The bytes of a basic beacon's text.

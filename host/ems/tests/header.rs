@@ -100,6 +100,7 @@ const PRINT: &str = "\
 5 02 0 04 10 07 0
 EMS D 7800, 115 units
 EMS D 7800 00 00 HI, SCHOOL, 329 units
+0 4 on, 1 0 on
 0 12000 -250, 16 12000 -250
 ";
 
