@@ -82,7 +82,7 @@ fn repeated(value: &str) -> Option<(&str, usize)> {
 }
 
 /// The bytes that are written so.
-fn hex(text: &str) -> Option<Vec<u8>> {
+pub(crate) fn hex(text: &str) -> Option<Vec<u8>> {
     let digits: Option<Vec<u32>> = text.chars().map(|digit| digit.to_digit(16)).collect();
     let pairs = digits.filter(|digits| digits.len().is_multiple_of(2))?;
     Some(

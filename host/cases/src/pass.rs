@@ -1,6 +1,7 @@
 //! The cases of `pass.txt`: a whole pass in one call.
 
-use crate::{read, text, Case, Result};
+use crate::board::{has_report, REPORT};
+use crate::{read, text, Board, Case, Result};
 
 /// The words of the file.
 const WORDS: [&str; 8] = [
@@ -12,24 +13,9 @@ pub fn cases() -> Result<Vec<Case>> {
     read(&text("pass.txt")?, &WORDS)
 }
 
-/// The calls of one side, with the arguments and answers of `include/ems.h`.
-#[derive(Clone, Copy)]
-pub struct Calls {
-    /// The bytes of an image.
-    pub image_bytes: usize,
-    /// `ems_fresh`
-    pub fresh: fn(&mut [u8]) -> u8,
-    /// `ems_step`
-    pub step: fn(&mut [u8], &[u8], &mut [u8]) -> u8,
-    /// `ems_pass`
-    pub pass: Pass,
-}
-
-/// The answer of a pass, and how many frames got a report.
+/// `ems_pass`: its answer, and how many frames got a report.
 pub type Pass = fn(&mut [u8], &[u8], &mut [u8]) -> (u8, usize);
 
-/// The bytes of a report.
-const REPORT: usize = 11;
 /// The answer to a frame whose length is not its kind's.
 const WRONG_LENGTH: u8 = 5;
 /// A second without shorts.
@@ -40,13 +26,13 @@ const BEFORE: u8 = 0xA5;
 const BEHIND: usize = 2 * REPORT;
 
 /// Makes the calls of a case: what came out otherwise, if anything did.
-pub fn check(case: &Case, calls: &Calls) -> Result<()> {
-    let mut image = start(case, calls)?;
+pub fn check(case: &Case, board: &Board, pass: Pass) -> Result<()> {
+    let mut image = board.start(case)?;
     let before = image.clone();
     let frames = case.one("frames")?.bytes()?;
     let room: usize = case.one("room")?.number()?;
     let mut replies = vec![BEFORE; room + BEHIND];
-    let (answer, reported) = (calls.pass)(&mut image, &frames, &mut replies[..room]);
+    let (answer, reported) = pass(&mut image, &frames, &mut replies[..room]);
 
     let differs = |what: &str, given: &dyn std::fmt::Debug| {
         Err(format!("case at line {}: {what} {given:X?}", case.place()))
@@ -65,7 +51,7 @@ pub fn check(case: &Case, calls: &Calls) -> Result<()> {
     if replies != wanted {
         return differs("room", &replies);
     }
-    let stepped = one_by_one(before, &frames, reported, calls);
+    let stepped = one_by_one(before, &frames, reported, board);
     if stepped.as_ref() != Some(&image) {
         return differs("not the state of single calls:", &image);
     }
@@ -73,7 +59,7 @@ pub fn check(case: &Case, calls: &Calls) -> Result<()> {
         (Some(_), None) => Ok(()),
         (None, Some(next)) => {
             let mut report = [BEFORE; REPORT];
-            (calls.step)(&mut image, &TICK, &mut report);
+            (board.step)(&mut image, &TICK, &mut report);
             match next.bytes()? == report {
                 true => Ok(()),
                 false => differs("next", &report),
@@ -83,39 +69,18 @@ pub fn check(case: &Case, calls: &Calls) -> Result<()> {
     }
 }
 
-/// The image that a case starts from.
-fn start(case: &Case, calls: &Calls) -> Result<Vec<u8>> {
-    let mut image = vec![0; calls.image_bytes];
-    (calls.fresh)(&mut image);
-    let from = case.one("from")?;
-    for frame in from.frames()? {
-        let answer = (calls.step)(&mut image, &frame, &mut [0; REPORT]);
-        if !has_report(answer) {
-            return Err(from.wrong(&format!("done: {frame:02X?} is answered with {answer}")));
-        }
-    }
-    if let Some(line) = case.optional("image")? {
-        match line.value()? {
-            "short" => image.truncate(calls.image_bytes - 1),
-            "damaged" => image.fill(0xFF),
-            _ => return Err(line.wrong("short or damaged")),
-        }
-    }
-    Ok(image)
-}
-
 /// The image after the first so many frames by single calls; none where one of
 /// them gets no report. A frame ends where a step doesn't find its length wrong.
 fn one_by_one(
     mut image: Vec<u8>,
     mut frames: &[u8],
     reported: usize,
-    calls: &Calls,
+    board: &Board,
 ) -> Option<Vec<u8>> {
     for _ in 0..reported {
         let step = |length: usize| {
             let mut next = image.clone();
-            let answer = (calls.step)(&mut next, &frames[..length], &mut [0; REPORT]);
+            let answer = (board.step)(&mut next, &frames[..length], &mut [0; REPORT]);
             (answer != WRONG_LENGTH).then_some((answer, next, length))
         };
         let (answer, next, length) = (1..=frames.len()).find_map(step)?;
@@ -126,9 +91,4 @@ fn one_by_one(
         frames = &frames[length..];
     }
     Some(image)
-}
-
-/// Whether a step that gave this answer has written a report.
-fn has_report(answer: u8) -> bool {
-    matches!(answer, 0 | 8..=10)
 }

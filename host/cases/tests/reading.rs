@@ -1,6 +1,6 @@
 //! How a file of cases is read, and that nothing in it is passed over.
 
-use cases::{read, track, Line};
+use cases::{modules_on, read, track, Board, Line};
 
 const WORDS: [&str; 2] = ["frames", "room"];
 
@@ -121,5 +121,54 @@ fn what_is_no_case_of_a_tracker_is_told() {
     ] {
         let said = "line 1: track is not numbers";
         assert_eq!(tracked(line), Err(said.into()), "{line}");
+    }
+}
+
+/// A board whose images are zeros, whatever it takes.
+const ZEROS: Board = Board {
+    image_bytes: 71,
+    fresh: |_| 0,
+    step: |_, _, _| 0,
+};
+
+/// What is said of a case of a count, by one that answers an image's length and counts
+/// what its masks are, one behind the other.
+fn counted(lines: &str) -> Result<(), String> {
+    let words = ["from", "image", "damage", "answer", "count"];
+    let cases = read(lines, &words).expect("a case");
+    modules_on::check(&cases[0], &ZEROS, |image| {
+        let masks = image[52..55].iter();
+        let count = masks.fold(0, |count, mask| 256 * count + usize::from(*mask));
+        (image.len() as u8, count)
+    })
+}
+
+#[test]
+fn a_count_is_asked_of_the_image_that_is_told() {
+    for lines in [
+        "from 0100*3 0301\nanswer 71\ncount 0\n",
+        "from -\nimage short\nanswer 70\ncount 0\n",
+        "from -\nimage damaged\nanswer 71\ncount 16777215\n",
+        "from -\ndamage requested 01\nanswer 71\ncount 65536\n",
+        "from -\ndamage on 04\nanswer 71\ncount 1024\n",
+        "from -\ndamage failed 81\nanswer 71\ncount 129\n",
+    ] {
+        assert_eq!(counted(lines), Ok(()), "{lines}");
+    }
+    for lines in [
+        "from -\nanswer 72\ncount 0\n",
+        "from -\nanswer 71\ncount 1\n",
+    ] {
+        let said = "case at line 1: (71, 0)";
+        assert_eq!(counted(lines), Err(said.into()), "{lines}");
+    }
+}
+
+#[test]
+fn what_is_no_damage_is_told() {
+    for damage in ["off 04", "on", "on 4", "on 0400", "on 04 04", "on XX", "-"] {
+        let said = "line 2: damage is not a mask and a byte in hex";
+        let lines = format!("from -\ndamage {damage}\nanswer 71\ncount 0\n");
+        assert_eq!(counted(&lines), Err(said.into()), "{damage}");
     }
 }

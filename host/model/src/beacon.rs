@@ -18,7 +18,7 @@ fn letter(mode: Mode) -> char {
 
 /// The complete text.
 pub fn complete(state: &State) -> String {
-    let (on, failed) = (state.on_mask(), state.failed_mask());
+    let (on, failed) = (state.masks.on, state.masks.failed);
     format!("{} {on:02X} {failed:02X}", basic(state))
 }
 

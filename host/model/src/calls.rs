@@ -39,6 +39,14 @@ pub fn pass(bytes: &mut [u8], frames: &[u8], room: &mut [u8]) -> (u8, usize) {
     (passed.answer, passed.reports.len())
 }
 
+/// How many modules are on.
+pub fn modules_on(bytes: &[u8]) -> (u8, usize) {
+    match image::load(bytes) {
+        Some(state) => (0, state.masks.modules_on()),
+        None => (1, 0),
+    }
+}
+
 /// The basic beacon's text.
 pub fn beacon_basic(bytes: &[u8], text: &mut [u8]) -> (u8, usize) {
     beacon(bytes, text, |state| Ok(beacon::basic(state)))

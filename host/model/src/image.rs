@@ -1,12 +1,13 @@
-//! The state as 68 bytes, as `include/ems.h` lays them out.
+//! The state as 71 bytes, as `include/ems.h` lays them out.
 
+use crate::masks::Masks;
 use crate::message::{self, Message};
 use crate::state::{Last, Mode, Module, Power, State, CLEAN_SECONDS};
 
 /// The bytes of an image.
-pub const BYTES: usize = 68;
+pub const BYTES: usize = 71;
 /// The layout's version, an image's first byte.
-pub const VERSION: u8 = 5;
+pub const VERSION: u8 = 6;
 
 /// Where the fields begin.
 pub mod at {
@@ -38,8 +39,14 @@ pub mod at {
     pub const TEXT: usize = 20;
     /// The ends of the mission four, 4 bytes each.
     pub const ENDS: usize = 36;
+    /// The requested mask.
+    pub const REQUESTED: usize = 52;
+    /// The on mask.
+    pub const ON: usize = 53;
+    /// The failed mask.
+    pub const FAILED: usize = 54;
     /// The modules, 2 bytes each.
-    pub const MODULES: usize = 52;
+    pub const MODULES: usize = 55;
 }
 
 /// The numbers of modes and modules.
@@ -61,7 +68,7 @@ pub mod code {
 
 /// Where each end begins.
 fn ends() -> impl Iterator<Item = usize> {
-    (at::ENDS..at::MODULES).step_by(4)
+    (at::ENDS..at::REQUESTED).step_by(4)
 }
 
 /// Where each module begins.
@@ -95,6 +102,9 @@ pub fn save(state: &State) -> [u8; BYTES] {
     for (begin, end) in ends().zip(&state.ends) {
         put(begin, &end.to_le_bytes());
     }
+    put(at::REQUESTED, &[state.masks.requested]);
+    put(at::ON, &[state.masks.on]);
+    put(at::FAILED, &[state.masks.failed]);
     for (begin, module) in modules().zip(&state.modules) {
         let power = match module.power {
             Power::On { tries, seconds } => CLEAN_SECONDS * (tries - 1) + seconds,
@@ -146,6 +156,11 @@ fn guess(image: &[u8; BYTES]) -> State {
             repeats: image[at::REPEATS],
             length: image[at::LENGTH],
             bytes: text,
+        },
+        masks: Masks {
+            requested: image[at::REQUESTED],
+            on: image[at::ON],
+            failed: image[at::FAILED],
         },
         ..State::fresh()
     };

@@ -1,6 +1,7 @@
 //! The rules a second time, in plain Rust: document 01's, and of document 02 the
 //! orders with an end, the pass, the tries that a module keeps, the four signs more,
-//! the greetings, the panel tracker, and the bound on keying room.
+//! the greetings, the panel tracker, the bound on keying room, and the masks that are
+//! kept.
 //!
 //! It is written from their words alone and shares nothing with the proved
 //! library, so that a slip in either shows as a difference. It goes for being
@@ -18,6 +19,7 @@ pub mod calls;
 pub mod frame;
 pub mod image;
 mod log;
+pub mod masks;
 pub mod message;
 pub mod morse;
 pub mod pass;

@@ -44,9 +44,9 @@ impl Report {
             serial: sender.serial,
             answer,
             mode: state.mode.number(),
-            requested: state.requested_mask(),
-            on: state.on_mask(),
-            failed: state.failed_mask(),
+            requested: state.masks.requested,
+            on: state.masks.on,
+            failed: state.masks.failed,
             beacon: due,
         }
     }

@@ -3,6 +3,7 @@
 //! Numbers are kept as wide as the image holds them, so that a state out of
 //! range can be told from the one it would be cut to.
 
+use crate::masks::Masks;
 use crate::message::Message;
 use crate::table::{FROM_PAYLOAD, HIGHEST, LOWEST, MISSION, MODULES};
 
@@ -130,6 +131,8 @@ pub struct State {
     /// The ends of the mission four, in the order of [`MISSION`]: the seconds until
     /// the request goes off, 0 where none runs.
     pub ends: [u32; 4],
+    /// The masks, kept beside the modules.
+    pub masks: Masks,
     /// The modules by number.
     pub modules: [Module; 8],
 }
@@ -137,6 +140,10 @@ pub struct State {
 impl State {
     /// The fresh start.
     pub fn fresh() -> State {
+        let modules = MODULES.map(|row| Module {
+            power: Power::Off(TRIES),
+            requested: row.core,
+        });
         State {
             mode: Mode::Waiting(0),
             control: 0,
@@ -151,10 +158,8 @@ impl State {
             },
             message: Message::NONE,
             ends: [0; 4],
-            modules: MODULES.map(|row| Module {
-                power: Power::Off(TRIES),
-                requested: row.core,
-            }),
+            masks: Masks::of(&modules),
+            modules,
         }
     }
 
@@ -182,35 +187,18 @@ impl State {
         });
         let ends = self.ends.iter().all(|&end| end <= END_SECONDS);
         let message = self.message.in_range();
-        phase && counts && still && tension && thresholds && modules && ends && message
+        let masks = self.masks == Masks::of(&self.modules);
+        phase && counts && still && tension && thresholds && modules && ends && message && masks
+    }
+
+    /// Makes the masks anew, so that they are true of the modules.
+    pub fn gather_masks(&mut self) {
+        self.masks = Masks::of(&self.modules);
     }
 
     /// A module's end; none for one of the core four.
     pub fn end_of(&mut self, module: u8) -> Option<&mut u32> {
         let mut ends = self.ends.iter_mut().zip(MISSION);
         ends.find(|(_, own)| *own == module).map(|(end, _)| end)
-    }
-
-    /// The mask of the modules of which something holds.
-    fn mask(&self, holds: impl Fn(&Module) -> bool) -> u8 {
-        let rows = self.modules.iter().zip(&MODULES);
-        rows.filter(|(module, _)| holds(module))
-            .map(|(_, row)| row.bit())
-            .sum()
-    }
-
-    /// The requested mask.
-    pub fn requested_mask(&self) -> u8 {
-        self.mask(|module| module.requested)
-    }
-
-    /// The on mask.
-    pub fn on_mask(&self) -> u8 {
-        self.mask(|module| matches!(module.power, Power::On { .. }))
-    }
-
-    /// The failed mask.
-    pub fn failed_mask(&self) -> u8 {
-        self.mask(|module| matches!(module.power, Power::Failed(_)))
     }
 }

@@ -20,6 +20,7 @@ pub fn step(state: &mut State, input: &[u8], room: usize) -> Result<Report, u8> 
         Some(answer) => (answer, 0),
         None => act(state, &frame),
     };
+    state.gather_masks();
     Ok(Report::of(state, &frame, answer, due))
 }
 

@@ -49,6 +49,7 @@ fn running(ends: [u32; 4]) -> State {
             seconds: 0,
         };
     }
+    state.gather_masks();
     state.ends = ends;
     state
 }
@@ -154,12 +155,12 @@ fn an_end_of_1_and_of_2() {
     let mut state = running([1, 2, 0, 86_400]);
     ticks(&mut state, 1);
     assert_eq!(state.ends, [0, 1, 0, 86_399]);
-    assert_eq!(state.requested_mask(), 0xF7);
-    assert_eq!(state.on_mask(), 0xF7);
+    assert_eq!(state.masks.requested, 0xF7);
+    assert_eq!(state.masks.on, 0xF7);
     ticks(&mut state, 1);
     assert_eq!(state.ends, [0, 0, 0, 86_398]);
-    assert_eq!(state.requested_mask(), 0xE7);
-    assert_eq!(state.on_mask(), 0xE7);
+    assert_eq!(state.masks.requested, 0xE7);
+    assert_eq!(state.masks.on, 0xE7);
 }
 
 #[test]
@@ -169,19 +170,20 @@ fn a_minute_is_60_ticks() {
         answer(&mut state, &timed(FROM_PAYLOAD, 1, PAYLOAD, 1)),
         DONE
     );
-    assert_eq!(state.on_mask(), 0);
+    assert_eq!(state.masks.on, 0);
     ticks(&mut state, 59);
-    assert_eq!(state.requested_mask(), 0x37);
-    assert_eq!(state.on_mask(), 0x37);
+    assert_eq!(state.masks.requested, 0x37);
+    assert_eq!(state.masks.on, 0x37);
     ticks(&mut state, 1);
-    assert_eq!(state.requested_mask(), 0x27);
-    assert_eq!(state.on_mask(), 0x27);
+    assert_eq!(state.masks.requested, 0x27);
+    assert_eq!(state.masks.on, 0x27);
 }
 
 #[test]
 fn a_failed_module_stays_failed_as_its_end_comes() {
     let mut state = running([0, 0, 0, 1]);
     state.modules[7].power = Power::Failed(0);
+    state.gather_masks();
     ticks(&mut state, 1);
     assert!(!state.modules[7].requested);
     assert_eq!(state.modules[7].power, Power::Failed(0));
@@ -195,14 +197,14 @@ fn ends_stand_still_in_deploy_wait_and_in_no_other_mode() {
         state.mode = mode;
         ticks(&mut state, 1);
         assert_eq!(state.ends, ends, "{mode:?}");
-        assert_eq!(state.requested_mask(), 0xFF, "{mode:?}");
+        assert_eq!(state.masks.requested, 0xFF, "{mode:?}");
     }
     let mut state = running(ends);
     state.mode = Mode::Recovery;
     state.tension = 7_200;
     ticks(&mut state, 1);
     assert_eq!(state.ends, [0, 1, 59, 86_399]);
-    assert_eq!(state.requested_mask(), 0xF7);
+    assert_eq!(state.masks.requested, 0xF7);
 }
 
 #[test]

@@ -1,8 +1,9 @@
 //! Tries that a module keeps: both sides of every number, what takes one, and what
 //! brings them back.
 
+use model::image::{self, at};
 use model::state::{Mode, Power};
-use model::{image, report, step, State};
+use model::{report, step, State};
 
 /// The module that the tests look at, and its bit: the S-band board.
 const SBAND1: usize = 6;
@@ -16,9 +17,15 @@ fn on(tries: u16, seconds: u16) -> Power {
 fn board(power: Power) -> State {
     let mut state = State::fresh();
     (state.mode, state.tension) = (Mode::Safe, 8_000);
-    state.modules[SBAND1].requested = true;
     state.modules[SBAND1].power = power;
+    request(&mut state, true);
     state
+}
+
+/// Has the module requested or not, as an order does.
+fn request(state: &mut State, wanted: bool) {
+    state.modules[SBAND1].requested = wanted;
+    state.gather_masks();
 }
 
 /// A second with these shorts: the module's power after it.
@@ -39,7 +46,7 @@ fn clean(state: &mut State, seconds: u16) -> Power {
 /// The power after a second in which the module is wanted or not, and short or not.
 fn after(power: Power, wanted: bool, short: bool) -> Power {
     let mut state = board(power);
-    state.modules[SBAND1].requested = wanted;
+    request(&mut state, wanted);
     second(&mut state, if short { SHORT } else { 0 })
 }
 
@@ -126,9 +133,9 @@ fn a_short_in_the_60th_second_takes_from_the_tries_before_it() {
 #[test]
 fn a_restart_counts_from_0() {
     let mut state = board(on(3, 59));
-    state.modules[SBAND1].requested = false;
+    request(&mut state, false);
     assert_eq!(clean(&mut state, 10), Power::Off(3));
-    state.modules[SBAND1].requested = true;
+    request(&mut state, true);
     assert_eq!(clean(&mut state, 60), on(3, 59));
     assert_eq!(second(&mut state, SHORT), Power::Off(2));
     assert_eq!(clean(&mut state, 60), on(2, 59));
@@ -170,12 +177,12 @@ fn starts_and_fails(ticks: u32) -> (Vec<u32>, Vec<u32>) {
     let mut state = board(Power::Off(5));
     let (mut starts, mut fails) = (Vec::new(), Vec::new());
     for tick in 1..=ticks {
-        let (was_on, had_failed) = (state.on_mask() & SHORT, state.failed_mask() & SHORT);
+        let (was_on, had_failed) = (state.masks.on & SHORT, state.masks.failed & SHORT);
         second(&mut state, was_on);
-        if state.on_mask() & SHORT > was_on {
+        if state.masks.on & SHORT > was_on {
             starts.push(tick);
         }
-        if state.failed_mask() & SHORT > had_failed {
+        if state.masks.failed & SHORT > had_failed {
             fails.push(tick);
         }
     }
@@ -265,6 +272,7 @@ fn a_module_s_number() {
             let mut state = State::fresh();
             state.modules[7].power = power;
             state.modules[7].requested = requested;
+            state.gather_masks();
             let saved = image::save(&state);
             let number: u16 = number + if requested { 32_768 } else { 0 };
             assert_eq!(saved[last..], number.to_le_bytes());
@@ -273,13 +281,19 @@ fn a_module_s_number() {
     }
 }
 
-/// Each number up to 846 is that of a state in range, and none above it is.
+/// Each number up to 846 is that of a state in range, if the masks say so too, and none
+/// above it is.
 #[test]
 fn every_number_of_a_module() {
     let mut saved = image::save(&State::fresh());
     let last = image::BYTES - 2;
+    // The core four are requested, and of all others but the last nothing is said.
+    let mask = |core: u8, holds: bool| core | if holds { 0x80 } else { 0 };
     for number in 0..=u16::MAX {
         saved[last..].copy_from_slice(&number.to_le_bytes());
+        saved[at::REQUESTED] = mask(0x27, number >= 32_768);
+        saved[at::ON] = mask(0, number % 32_768 <= 240);
+        saved[at::FAILED] = mask(0, number % 32_768 >= 246);
         let loaded = image::load(&saved);
         assert_eq!(loaded.is_some(), number % 32_768 <= 846, "{number}");
         assert!(loaded.is_none_or(|state| state.in_range() && image::save(&state) == saved));

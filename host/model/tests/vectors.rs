@@ -2,7 +2,7 @@
 //! shares nothing with this one: the log must be theirs, byte for byte, and so
 //! must all that a call leaves behind.
 
-use cases::{pass, track};
+use cases::{modules_on, pass, track, Board};
 use model::track::Reading;
 use model::{calls, image};
 use std::{fs, path::Path};
@@ -26,18 +26,28 @@ fn every_vector_gives_its_log() {
     }
 }
 
+const MODEL: Board = Board {
+    image_bytes: image::BYTES,
+    fresh: calls::fresh,
+    step: calls::step,
+};
+
 #[test]
 fn every_case_of_a_pass_comes_out() {
-    let model = pass::Calls {
-        image_bytes: image::BYTES,
-        fresh: calls::fresh,
-        step: calls::step,
-        pass: calls::pass,
-    };
     let cases = pass::cases().expect("the cases are there");
     assert!(cases.len() >= 230, "only {} cases", cases.len());
     for case in cases {
-        assert_eq!(pass::check(&case, &model), Ok(()));
+        assert_eq!(pass::check(&case, &MODEL, calls::pass), Ok(()));
+    }
+}
+
+#[test]
+fn every_case_of_a_count_comes_out() {
+    let cases = modules_on::cases().expect("the cases are there");
+    assert!(cases.len() >= 200, "only {} cases", cases.len());
+    for case in cases {
+        let checked = modules_on::check(&case, &MODEL, calls::modules_on);
+        assert_eq!(checked, Ok(()));
     }
 }
 
