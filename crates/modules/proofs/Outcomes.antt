@@ -20,10 +20,12 @@ use Rattle.modules.proofs.stage.request as request
 use Rattle.modules.proofs.stage.request.Reads as request-reads
 use Rattle.modules.proofs.stage.request_one as one-request
 use Rattle.modules.proofs.stage.request_one.Reads as one-request-reads
-use Rattle.modules.proofs.stage.in_range as in-range
-use Rattle.modules.proofs.stage.in_range.Reads as in-range-reads
-use Rattle.modules.proofs.masks.masks_of as masks-of
-use Rattle.modules.proofs.masks.masks_of.Reads as masks-of-reads
+use Rattle.modules.proofs.masks.in_range as in-range
+use Rattle.modules.proofs.masks.in_range.Reads as in-range-reads
+use Rattle.modules.proofs.masks.one_bit as one-bit
+use Rattle.modules.proofs.masks.one_bit.Reads as one-bit-reads
+use Rattle.modules.proofs.masks.Masks.request as masks-request
+use Rattle.modules.proofs.masks.Masks.request.Reads as masks-request-reads
 use Rattle.modules.proofs.ends.none as none
 use Rattle.modules.proofs.ends.none.Reads as none-reads
 use Rattle.modules.proofs.ends.Ends.fall as fall
@@ -63,10 +65,13 @@ pub one-request-one : OneOutcome one-request.ended one-request-reads.Asked one-r
 one-request-one = record { taken = λ κs a. tt; one = λ κs a x y p q i. ((p ∙ sym q) i, (tt, (tt, (tt, tt)))) }
 
 pub in-range-one : OneOutcome in-range.ended in-range-reads.Asked in-range-reads.Learnt
-in-range-one = record { taken = λ κs a. tt; one = λ κs a x y p q i. ((p ∙ sym q) i, (tt, tt)) }
+in-range-one = record { taken = λ κs a. tt; one = λ κs a x y p q i. ((p ∙ sym q) i, (tt, (tt, tt))) }
 
-pub masks-of-one : OneOutcome masks-of.ended masks-of-reads.Asked masks-of-reads.Learnt
-masks-of-one = record { taken = λ κs a. tt; one = λ κs a x y p q i. ((p ∙ sym q) i, (tt, tt)) }
+pub one-bit-one : OneOutcome one-bit.ended one-bit-reads.Asked one-bit-reads.Learnt
+one-bit-one = record { taken = λ κs a. tt; one = λ κs a x y p q i. ((p ∙ sym q) i, (tt, tt)) }
+
+pub masks-request-one : OneOutcome masks-request.ended masks-request-reads.Asked masks-request-reads.Learnt
+masks-request-one = record { taken = λ κs a. tt; one = λ κs a x y p q i. ((p ∙ sym q) i, (tt, (tt, (tt, tt)))) }
 
 pub none-one : OneOutcome none.ended none-reads.Asked none-reads.Learnt
 none-one = record { taken = λ κs a. tt; one = λ κs a x y p q i. ((p ∙ sym q) i, tt) }

@@ -21,6 +21,14 @@ moduleSecond allowed shorts i m = withPower (switched (isWanted allowed i m) (bi
 unfoldable pub stageOf : (allowed shorts : ℕ) → List Module → List Module
 stageOf allowed shorts modules = each (moduleSecond allowed shorts) modules
 
+-- a module's second, with its bits of the mask of those wanted and of the short mask
+abbrev pub moduleSwitched : (wanted shorts : ℕ) → ℕ → Module → Module
+moduleSwitched wanted shorts i m = withPower (switched (bit i wanted) (bit i shorts) (m .power)) m
+
+-- all eight
+unfoldable pub switchedBy : (wanted shorts : ℕ) → List Module → List Module
+switchedBy wanted shorts modules = each (moduleSwitched wanted shorts) modules
+
 -- the modules of a mask are requested on, or off; the others keep their request
 abbrev pub moduleRequested : (mask : ℕ) (on : Bool) → ℕ → Module → Module
 moduleRequested mask on i m = withRequest (if bit i mask then on else m .requested) m

@@ -1,12 +1,26 @@
-// All eight modules: the module stage of a tick, requests set by a mask or a number, and the ranges of check 1.
+// All eight modules: the module stage of a tick, and requests set by a mask or a number.
 ghost use mathlib.Core.Path.{_≡_};
 ghost use Rattle.basics.specs.Choice.{bit};
-ghost use Rattle.modules.specs.Stage.{stageOf, requestedBy, requestedOne, modulesInRange};
+ghost use Rattle.modules.specs.Stage.{switchedBy, requestedBy, requestedOne};
+ghost use Rattle.modules.specs.Masks.{staged};
+use crate::masks::FAILED;
+use crate::masks::ON;
+use crate::masks::power_bits;
 use crate::power::Module;
+
+// The modules after the stage, with the masks of those on and those failed. It leaves the requests as they are.
+pub struct Staged {
+    pub modules: [Module; 8],
+    pub on: u8,
+    pub failed: u8,
+}
 
 // A mark above the eight bits of a mask. Halving down to it takes eight turns, which a compiler does not see: the loops
 // below stay loops, and the modules an array (docs/PERFORMANCE.md).
 const MARK: u32 = 256;
+
+// The highest bit of a mask. A bit that is put there, and halved with those put in before it, comes down to its place.
+const TOP: u32 = 128;
 
 // Whether module i is in a mask: its bit i. No mask has a module from 8 on.
 pub fn has(mask: u8, i: usize) -> bool
@@ -15,25 +29,31 @@ pub fn has(mask: u8, i: usize) -> bool
     if i < 8 { (mask >> i) % 2 == 1 } else { false }
 }
 
-// The modules after one second, given the mask of those allowed and the mask of shorts. Both masks are halved as it
-// goes: the lowest bit of each is module i's.
-pub fn stage(modules: [Module; 8], allowed: u8, shorts: u8) -> [Module; 8]
-    ensures { λ r. ⌜ r ≡ stageOf allowed shorts modules ⌝ }
+// The modules after one second, given the mask of those wanted and the mask of shorts. Both are halved as it goes, so that
+// the lowest bit of each is module i's; and each module's bits among those on and failed are put in on the way.
+pub fn stage(modules: [Module; 8], wanted: u8, shorts: u8) -> Staged
+    ensures { λ r. ⌜ r ≡ staged (switchedBy wanted shorts modules) ⌝ }
 {
     let mut next = modules;
     let mut rest = MARK + (shorts as u32);
-    let mut may = allowed;
+    let mut want = wanted;
+    let mut all: u32 = 0;
     let mut i: usize = 0;
     while rest != 1 {
         let m = next[i];
         let power = m.power;
-        let wanted = m.requested & (may % 2 == 1);
-        next[i] = m.with_power(power.second(wanted, rest % 2 == 1));
+        let after = power.second(want % 2 == 1, rest % 2 == 1);
+        next[i] = m.with_power(after);
+        all = all / 2 + TOP * power_bits(after);
         rest = rest / 2;
-        may = may / 2;
+        want = want / 2;
         i += 1;
     }
-    next
+    Staged {
+        modules: next,
+        on: (all / ON % 256) as u8,
+        failed: (all / FAILED % 256) as u8,
+    }
 }
 
 // The modules with the request of each module of the mask set to on or off.
@@ -65,20 +85,4 @@ pub fn request_one(modules: [Module; 8], which: u8, on: bool) -> [Module; 8]
         asked[i] = m.with_request(on);
     }
     asked
-}
-
-// Whether every module's tries or seconds are in their range.
-pub fn in_range(modules: [Module; 8]) -> bool
-    ensures { λ r. ⌜ r ≡ modulesInRange modules ⌝ }
-{
-    let mut i: usize = 8;
-    while 0 < i {
-        i -= 1;
-        let m = modules[i];
-        let power = m.power;
-        if !power.in_range() {
-            return false;
-        }
-    }
-    true
 }
