@@ -152,6 +152,11 @@ impl Board {
         self.image
     }
 
+    /// How many modules are on.
+    pub fn modules_on(&self) -> usize {
+        self.craft.modules_on()
+    }
+
     /// A beacon's text, or the number that it is refused with. One that is due has a
     /// text.
     pub fn beacon(&self, which: Beacon) -> Result<String, u8> {

@@ -33,6 +33,16 @@ fn help_says_how_a_greeting_is_read() {
 }
 
 #[test]
+fn help_says_what_is_shown_of_an_image_and_counted() {
+    run(&["image", "--help"])
+        .status(0)
+        .prints("how many modules are on, as the\nboard's own call ems_modules_on counts them.\n")
+        .prints("which modules are requested, on and failed: where one disagrees\nwith a module,")
+        .prints("both are named, with what each of them says.\n")
+        .prints("\n  ems image --after examples/dawn.pass\n");
+}
+
+#[test]
 fn help_says_what_the_room_is_enough_for() {
     run(&["room", "--help"])
         .status(0)

@@ -1,19 +1,12 @@
-//! `ems image`: what a board's state is, in words. The images are made here, byte
-//! by byte.
+//! `ems image`: what a board's state is, in words.
 
 mod common;
 
-use common::{bash, fed, place, run, scratch, Ran};
-
-/// The fresh start: version 5, waiting for no second, thresholds of 7,400 and
-/// 7,000 mV, no greeting, no end, every module off with 5 tries, the core four
-/// requested.
-const FRESH: [u8; 68] = [
-    5, 0, 0, 0, 0, 0, 0, 0, 0, 0, 0xE8, 0x1C, 0x58, 0x1B, 0, 0, 0, 0, //
-    0, 0, 0, 0, 0, 0, 0, 0, 0, 0, 0, 0, 0, 0, 0, 0, 0, 0, //
-    0, 0, 0, 0, 0, 0, 0, 0, 0, 0, 0, 0, 0, 0, 0, 0, //
-    0xF5, 0x80, 0xF5, 0x80, 0xF5, 0x80, 0xF5, 0, 0xF5, 0, 0xF5, 0x80, 0xF5, 0, 0xF5, 0,
-];
+use ::ems::Module;
+use common::images::{
+    safe_with, shown, with, with_module_and_masks, FRESH, MODULES, NO_STATE, REQUESTED,
+};
+use common::{bash, fed, place, run, scratch};
 
 /// Where the ends begin, and whose they are.
 const ENDS: [(usize, &str); 4] = [
@@ -22,24 +15,6 @@ const ENDS: [(usize, &str); 4] = [
     (44, "SBAND1"),
     (48, "SBAND2"),
 ];
-
-/// The fresh start with other bytes from a place on.
-fn with(at: usize, bytes: &[u8]) -> [u8; 68] {
-    let mut image = FRESH;
-    image[at..at + bytes.len()].copy_from_slice(bytes);
-    image
-}
-
-/// In SAFE, with other bytes from a place on.
-fn safe_with(at: usize, bytes: &[u8]) -> [u8; 68] {
-    let mut image = with(1, &[0x05, 0x55, 0x01]);
-    image[at..at + bytes.len()].copy_from_slice(bytes);
-    image
-}
-
-fn shown(image: &[u8]) -> Ran {
-    fed(&["image", "-"], image)
-}
 
 /// Asserts a line of what is shown of an image.
 fn says(image: &[u8], line: &str) {
@@ -50,7 +25,7 @@ fn says(image: &[u8], line: &str) {
 fn every_field_is_shown_with_its_bytes() {
     let wanted = "\
 at  bytes        field          says
- 0  05           version        5
+ 0  06           version        6
  1  00 00 00     mode           DEPLOY_WAIT, 0 seconds waited for the antennas
  4  00           control        0 of 30 seconds
  5  00 00        beacon         0 of 300 seconds
@@ -70,14 +45,19 @@ at  bytes        field          says
 40  00 00 00 00  PAYLOAD's end  none
 44  00 00 00 00  SBAND1's end   none
 48  00 00 00 00  SBAND2's end   none
-52  F5 80        MCS            off, 5 tries left, requested
-54  F5 80        COMM1          off, 5 tries left, requested
-56  F5 80        COMM2          off, 5 tries left, requested
-58  F5 00        ADCS           off, 5 tries left, not requested
-60  F5 00        PAYLOAD        off, 5 tries left, not requested
-62  F5 80        I2C            off, 5 tries left, requested
-64  F5 00        SBAND1         off, 5 tries left, not requested
-66  F5 00        SBAND2         off, 5 tries left, not requested
+52  27           requested mask MCS, COMM1, COMM2 and I2C
+53  00           on mask        none
+54  00           failed mask    none
+55  F5 80        MCS            off, 5 tries left, requested
+57  F5 80        COMM1          off, 5 tries left, requested
+59  F5 80        COMM2          off, 5 tries left, requested
+61  F5 00        ADCS           off, 5 tries left, not requested
+63  F5 00        PAYLOAD        off, 5 tries left, not requested
+65  F5 80        I2C            off, 5 tries left, requested
+67  F5 00        SBAND1         off, 5 tries left, not requested
+69  F5 00        SBAND2         off, 5 tries left, not requested
+
+The board has 0 modules on.
 ";
     assert_eq!(shown(&FRESH).status(0).text(), wanted);
     let file = scratch("saved.bin", FRESH);
@@ -105,8 +85,8 @@ fn every_number_is_put_in_words() {
     mode(87_301, "SAFE");
     let module = |number: u16, said: &str| {
         let [low, high] = number.to_le_bytes();
-        let line = format!("66  {low:02X} {high:02X}        SBAND2         {said}");
-        says(&with(66, &[low, high]), &line);
+        let line = format!("69  {low:02X} {high:02X}        SBAND2         {said}");
+        says(&with_module_and_masks(FRESH, Module::Sband2, number), &line);
     };
     for (number, power) in [
         (0, "on, 1 try left, 0 of 60 seconds"),
@@ -168,13 +148,11 @@ fn every_number_is_put_in_words() {
 fn bytes_that_are_no_image_are_told_why() {
     let wrong = |image: &[u8], why: &str| {
         let ran = shown(image).status(1);
-        assert_eq!(ran.text().lines().count(), 29, "{}", ran.text());
-        ran.says(&format!(
-            "ems: standard input: no state has this image: {why}\n"
-        ));
+        assert_eq!(ran.text().lines().count(), 32, "{}", ran.text());
+        ran.says(&format!("{NO_STATE} {why}\n"));
     };
-    wrong(&with(0, &[4]), "version is 4, not 5");
-    wrong(&with(0, &[6]), "version is 6, not 5");
+    wrong(&with(0, &[5]), "version is 5, not 6");
+    wrong(&with(0, &[7]), "version is 7, not 6");
     wrong(
         &with(1, &[0x06, 0x55, 0x01]),
         "mode is 87,302, not 0 to 87,301",
@@ -212,17 +190,17 @@ fn bytes_that_are_no_image_are_told_why() {
         );
     }
     let module = "not 0 to 846, nor so much and 32,768";
-    wrong(&with(52, &[0x4F, 0x03]), &format!("MCS is 847, {module}"));
+    wrong(&with(55, &[0x4F, 0x03]), &format!("MCS is 847, {module}"));
     wrong(
-        &with(52, &[0xFF, 0x7F]),
+        &with(55, &[0xFF, 0x7F]),
         &format!("MCS is 32,767, {module}"),
     );
     wrong(
-        &with(66, &[0x4F, 0x83]),
+        &with(69, &[0x4F, 0x83]),
         &format!("SBAND2 is 33,615, {module}"),
     );
     wrong(
-        &with(66, &[0xFF, 0xFF]),
+        &with(69, &[0xFF, 0xFF]),
         &format!("SBAND2 is 65,535, {module}"),
     );
     shown(&with(7, &[2]))
@@ -235,17 +213,30 @@ fn bytes_that_are_no_image_are_told_why() {
 
 #[test]
 fn other_lengths_are_no_image() {
-    for length in [0, 1, 34, 50, 67, 69] {
-        let bytes = vec![5; length];
+    for length in [0, 1, 34, 50, 68, 70, 72] {
+        let bytes = vec![6; length];
         let said = if length == 1 {
             "1 byte".to_string()
         } else {
             format!("{length} bytes")
         };
-        shown(&bytes)
-            .status(1)
-            .says(&format!("standard input has {said}, and an image has 68\n"));
+        shown(&bytes).status(1).says(&format!(
+            "standard input has {said}, and an image of version 6 has 71\n"
+        ));
     }
+}
+
+/// The layout before the masks, version 5: neither as it is, nor with the bytes made up.
+#[test]
+fn an_image_without_masks_is_no_image() {
+    let mut earlier = FRESH.to_vec();
+    earlier[0] = 5;
+    earlier.drain(REQUESTED..MODULES);
+    let ran = shown(&earlier).status(1);
+    assert!(ran.out.is_empty());
+    ran.says("ems: standard input has 68 bytes, and an image of version 6 has 71\n");
+    let ran = shown(&[&earlier[..], &[0; 3]].concat()).status(1);
+    ran.says_first(&format!("{NO_STATE} version is 5, not 6"));
 }
 
 #[test]
@@ -272,7 +263,10 @@ fn an_image_can_be_written_in_hex() {
     };
     wrong("04 0", "standard input: the last byte has one digit");
     wrong("04 0x", "standard input: `x` is no hexadecimal digit");
-    wrong("04 00", "standard input has 2 bytes, and an image has 68");
+    wrong(
+        "04 00",
+        "standard input has 2 bytes, and an image of version 6 has 71",
+    );
 }
 
 #[test]
@@ -292,8 +286,12 @@ fn a_flight_ends_with_an_image() {
         "16  03 00        payload        last number 3\n",
         "36  00 00 00 00  ADCS's end     none\n",
         "40  99 04 00 00  PAYLOAD's end  in 1,177 seconds\n",
-        "52  F0 80        MCS            on, 5 tries left, requested\n",
-        "60  F2 80        PAYLOAD        off, 2 tries left, requested\n",
+        "52  37           requested mask MCS, COMM1, COMM2, PAYLOAD and I2C\n",
+        "53  27           on mask        MCS, COMM1, COMM2 and I2C\n",
+        "54  00           failed mask    none\n",
+        "55  F0 80        MCS            on, 5 tries left, requested\n",
+        "63  F2 80        PAYLOAD        off, 2 tries left, requested\n",
+        "\n\nThe board has 4 modules on.\n",
     ] {
         assert!(ran.text().contains(line), "{} lacks {line}", ran.text());
     }
@@ -349,9 +347,7 @@ fn a_greeting_is_shown_with_what_is_left_of_it() {
 fn a_greeting_that_no_board_keeps_is_told_why() {
     let wrong = |length: u8, text: &[u8], why: &str| {
         let ran = shown(&with(18, &[&[3, length][..], text].concat())).status(1);
-        ran.says(&format!(
-            "ems: standard input: no state has this image: {why}\n"
-        ))
+        ran.says(&format!("{NO_STATE} {why}\n"))
     };
     wrong(17, b"HELLO FROM 4B", "length is 17, not 0 to 16")
         .prints("19  11           length         17, which no state has\n");
@@ -437,5 +433,5 @@ fn an_image_or_a_flight_and_not_both() {
     }
     bash("$ems image examples/dawn.pass")
         .status(1)
-        .says(" bytes, and an image has 68");
+        .says(" bytes, and an image of version 6 has 71");
 }

@@ -381,8 +381,16 @@ fn an_image_that_is_none_is_told_why() {
         "wrong.bin: no state has this image: antennas is 2, not 0 or 1\n",
     );
     wrong(
-        &bytes[..67],
-        "wrong.bin has 67 bytes, and an image has 68\n",
+        &bytes[..70],
+        "wrong.bin has 70 bytes, and an image of version 6 has 71\n",
+    );
+    // The on mask has PAYLOAD, and nothing else has changed.
+    let mut bytes = *Craft::fresh().image();
+    bytes[53] = 0x10;
+    wrong(
+        &bytes,
+        "wrong.bin: no state has this image: on mask is 10, with PAYLOAD, which is off, \
+         5 tries left, not requested\n",
     );
 }
 

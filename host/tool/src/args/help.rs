@@ -119,8 +119,12 @@ Example:
   ems compare examples/sister-craft-a.pass examples/sister-craft-b.pass";
 
 pub const IMAGE: &str = "\
-The layout is that of include/ems.h. For bytes that are no state's image, every field
-that is wrong is named, with status 1.
+The layout is that of include/ems.h. Under it stands how many modules are on, as the
+board's own call ems_modules_on counts them.
+
+For bytes that are no state's image, every field that is wrong is named, with status 1.
+The masks say once more which modules are requested, on and failed: where one disagrees
+with a module, both are named, with what each of them says.
 
 Examples:
   ems image --after examples/dawn.pass

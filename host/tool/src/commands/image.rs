@@ -4,7 +4,7 @@ use crate::args;
 use crate::board::Board;
 use crate::failure::{Failure, USAGE};
 use crate::flight::Flight;
-use crate::image::{fields, Field, Image, BYTES};
+use crate::image::{fields, Field, Image, BYTES, LAYOUT};
 use crate::output::Output;
 use crate::source;
 use crate::words::{count, hex, visible};
@@ -31,21 +31,27 @@ fn read(file: &Path, is_hex: bool) -> Result<(), Failure> {
         false => content,
     };
     let image = Image::maybe(&bytes).ok_or_else(|| other_length(&name, &bytes))?;
+    let board = saved(&name, &image);
     let mut output = Output::standard()?;
     print(&mut output, &image)?;
-    output.flush()?;
-    match image.faults().is_empty() {
-        true => Ok(()),
-        false => Err(no_state(&name, &image)),
+    if let Ok(board) = &board {
+        count_on(&mut output, board)?;
     }
+    output.flush()?;
+    board.map(|_| ())
 }
 
 /// The board that an image in a file was saved from.
 pub fn board(file: &Path) -> Result<Board, Failure> {
     let (name, bytes) = source::whole(file)?;
     let image = Image::maybe(&bytes).ok_or_else(|| other_length(&name, &bytes))?;
-    let craft = Craft::from_image(&bytes);
-    craft.map(Board::of).ok_or_else(|| no_state(&name, &image))
+    saved(&name, &image)
+}
+
+/// The board that an image was saved from.
+fn saved(name: &str, image: &Image) -> Result<Board, Failure> {
+    let craft = Craft::from_image(image.whole());
+    craft.map(Board::of).ok_or_else(|| no_state(name, image))
 }
 
 /// Why an image is no state's: all that is wrong with it.
@@ -67,6 +73,7 @@ fn after(file: &Path, args: &args::Image) -> Result<(), Failure> {
     while flight.step()?.is_some() {}
     let mut output = Output::standard()?;
     print(&mut output, &flight.board.image())?;
+    count_on(&mut output, &flight.board)?;
     output.flush()?;
     flight.end()
 }
@@ -87,6 +94,12 @@ fn print(output: &mut Output, image: &Image) -> io::Result<()> {
         }
     }
     Ok(())
+}
+
+/// How many modules are on, as the board counts them.
+fn count_on(output: &mut Output, board: &Board) -> io::Result<()> {
+    let on = count(board.modules_on() as u64, "module");
+    writeln!(output, "\nThe board has {on} on.")
 }
 
 /// The bytes that a text has in hexadecimal digits, with blanks between or none.
@@ -114,7 +127,7 @@ fn unhexed(name: &str, text: &[u8]) -> Result<Vec<u8>, Failure> {
 /// Bytes that are too few or too many; and what they may be.
 fn other_length(name: &str, bytes: &[u8]) -> Failure {
     let length = count(bytes.len() as u64, "byte");
-    let message = format!("{name} has {length}, and an image has {BYTES}");
+    let message = format!("{name} has {length}, and an image of version {LAYOUT} has {BYTES}");
     let is_text = |byte: &u8| byte.is_ascii_hexdigit() || byte.is_ascii_whitespace();
     let like_hex = !bytes.is_empty() && bytes.iter().all(is_text);
     let hint = like_hex.then_some("; it looks like hex: `--hex` reads it so");

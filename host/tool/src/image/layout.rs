@@ -6,7 +6,9 @@ use crate::words::{count, thousands};
 use ems::{Mode, Module, MESSAGE_BYTES};
 
 /// The bytes of an image.
-pub const BYTES: usize = 68;
+pub const BYTES: usize = 71;
+/// The version of the layout: an image's first byte.
+pub const LAYOUT: u32 = 6;
 
 /// A field: its name, where it begins, its bytes, and what they say.
 #[derive(Clone, Copy)]
@@ -29,9 +31,11 @@ pub enum Says {
     },
     /// A text, as long as another field says, and zeros.
     Text,
+    /// The modules whose bits are set.
+    Mask,
 }
 
-pub const VERSION: Field = field("version", 0, 1, version, "5");
+pub const VERSION: Field = field("version", 0, 1, version, "6");
 pub const MODE: Field = field("mode", 1, 3, mode, "0 to 87,301");
 pub const CONTROL: Field = field("control", 4, 1, control, "0 to 29");
 pub const BEACON: Field = field("beacon", 5, 2, beacon, "0 to 299");
@@ -58,8 +62,12 @@ const ENDS: [(Module, Field); 4] = [
     (Module::Sband2, end("SBAND2's end", 48)),
 ];
 
+pub const REQUESTED: Field = mask("requested mask", 52);
+pub const ON: Field = mask("on mask", 53);
+pub const FAILED: Field = mask("failed mask", 54);
+
 /// The first of the modules; each next one follows the one before.
-const MODULE: Field = field("", 52, 2, module, "0 to 846, nor so much and 32,768");
+const MODULE: Field = field("", 55, 2, module, "0 to 846, nor so much and 32,768");
 
 const fn field(
     name: &'static str,
@@ -80,6 +88,15 @@ const fn end(name: &'static str, at: usize) -> Field {
     field(name, at, 4, seconds_to_go, "0 to 86,400")
 }
 
+const fn mask(name: &'static str, at: usize) -> Field {
+    Field {
+        name,
+        at,
+        bytes: 1,
+        says: Says::Mask,
+    }
+}
+
 /// The fields before the ends.
 const HEAD: [Field; 13] = [
     VERSION, MODE, CONTROL, BEACON, ANTENNAS, TENSION, ASCEND, DESCEND, GROUND, PAYLOAD, REPEATS,
@@ -91,6 +108,7 @@ pub fn fields() -> impl Iterator<Item = Field> {
     let ends = ENDS.map(|(_, field)| field);
     HEAD.into_iter()
         .chain(ends)
+        .chain([REQUESTED, ON, FAILED])
         .chain(Module::ALL.map(of_module))
 }
 
@@ -110,7 +128,7 @@ pub fn of_module(module: Module) -> Field {
 }
 
 fn version(number: u32) -> Option<String> {
-    (number == 5).then(|| "5".to_string())
+    (number == LAYOUT).then(|| LAYOUT.to_string())
 }
 
 fn mode(number: u32) -> Option<String> {

@@ -1,17 +1,18 @@
 //! The board's state, read off an image.
 
 mod layout;
+mod masks;
 mod supply;
 
-pub use layout::{fields, Field, BYTES};
+pub use layout::{fields, Field, BYTES, LAYOUT};
 pub use supply::Power;
 
 use crate::morse;
-use crate::words::{thousands, visible};
+use crate::words::{hex, list, modules, thousands, visible};
 use ems::{Mode, Module};
 use layout::{
-    of_end, of_module, Says, Watch, ANTENNAS, ASCEND, BEACON, CONTROL, DESCEND, GROUND, LENGTH,
-    MODE, PAYLOAD, REPEATS, TENSION, TEXT,
+    of_end, of_module, Says, Watch, ANTENNAS, ASCEND, BEACON, CONTROL, DESCEND, FAILED, GROUND,
+    LENGTH, MODE, ON, PAYLOAD, REPEATS, REQUESTED, TENSION, TEXT,
 };
 use supply::Supply;
 
@@ -62,6 +63,7 @@ impl Image {
             Says::Text if self.unkept().is_some() => None,
             Says::Text if self.text().is_some_and(<[u8]>::is_empty) => Some("none".to_string()),
             Says::Text => Some(self.shown(field)),
+            Says::Mask => Some(list(&modules(self.mask(field)))),
         }
     }
 
@@ -70,6 +72,7 @@ impl Image {
         match field.says {
             Says::Number { .. } => thousands(u64::from(self.number(field))),
             Says::Text => quoted(self.text().unwrap_or(self.bytes(field))),
+            Says::Mask => hex(self.bytes(field)),
         }
     }
 
@@ -81,6 +84,7 @@ impl Image {
                 not_said.then(|| (field, format!("not {range}")))
             }
             Says::Text => self.unkept().map(|why| (field, why)),
+            Says::Mask => None,
         };
         let strays: Vec<(Field, String)> = fields().filter_map(stray).collect();
         match strays.is_empty() {
@@ -113,6 +117,7 @@ impl Image {
         if self.descend() > self.ascend() {
             faults.push((DESCEND, "above ascend".to_string()));
         }
+        faults.extend(masks::disagreements(self));
         faults
     }
 
@@ -189,22 +194,21 @@ impl Image {
 
     /// The modules that are requested on, as a mask.
     pub fn requests(&self) -> u8 {
-        self.mask(|supply| supply.requested)
+        self.mask(&REQUESTED)
     }
 
     /// The modules that are on, as a mask.
     pub fn on(&self) -> u8 {
-        self.mask(|supply| matches!(supply.power, Power::On { .. }))
+        self.mask(&ON)
     }
 
     /// The modules that have failed, as a mask.
     pub fn failed(&self) -> u8 {
-        self.mask(|supply| matches!(supply.power, Power::Failed(_)))
+        self.mask(&FAILED)
     }
 
-    fn mask(&self, is: impl Fn(Supply) -> bool) -> u8 {
-        let set = |module: &Module| self.supply(*module).is_some_and(&is);
-        Module::ALL.into_iter().filter(set).map(Module::bit).sum()
+    fn mask(&self, field: &Field) -> u8 {
+        self.number(field) as u8
     }
 
     fn two(&self, field: &Field) -> u16 {
@@ -257,9 +261,9 @@ mod tests {
             let end = end.filter(|(_, own)| *own == module.number());
             assert_eq!(image.end(module), end.map(|(end, _)| end).sum(), "{module}");
         }
-        assert_eq!(image.requests(), state.requested_mask());
-        assert_eq!(image.on(), state.on_mask());
-        assert_eq!(image.failed(), state.failed_mask());
+        assert_eq!(image.requests(), state.masks.requested);
+        assert_eq!(image.on(), state.masks.on);
+        assert_eq!(image.failed(), state.masks.failed);
     }
 
     #[test]
@@ -293,6 +297,7 @@ mod tests {
             for (module, power) in state.modules.iter_mut().zip(powers) {
                 module.power = *power;
             }
+            state.gather_masks();
             is_read(&state);
         }
     }

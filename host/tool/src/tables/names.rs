@@ -35,7 +35,10 @@ pub fn loses_the_cut(refusal: u8) -> bool {
 fn row(number: u8) -> (&'static str, &'static str) {
     match number {
         answer::DONE => ("done", "done by the rules"),
-        answer::BAD_STATE => ("bad state", "the state is outside its ranges"),
+        answer::BAD_STATE => (
+            "bad state",
+            "the state is outside its ranges, or its masks and modules disagree",
+        ),
         answer::SHORT_ROOM => ("short room", "there is no room for the report"),
         answer::NO_INPUT => ("no input", "there are no input bytes"),
         answer::UNKNOWN_KIND => (

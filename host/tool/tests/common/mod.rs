@@ -2,6 +2,7 @@
 
 #![allow(dead_code)] // Each test file is a program and uses its part.
 
+pub mod images;
 pub mod picture;
 
 use assert_cmd::Command;
