@@ -64,6 +64,8 @@ pub struct Passed {
     pub reports: Vec<Report>,
     /// The board after it.
     pub image: Image,
+    /// How many modules it then has on.
+    pub modules_on: usize,
 }
 
 impl Board {
@@ -112,6 +114,7 @@ impl Board {
             reported,
             reports: reports.filter_map(Report::read).collect(),
             image: Image::of(craft.image()),
+            modules_on: craft.modules_on(),
         }
     }
 

@@ -40,6 +40,9 @@ fn help_says_what_is_shown_of_an_image_and_counted() {
         .prints("which modules are requested, on and failed: where one disagrees\nwith a module,")
         .prints("both are named, with what each of them says.\n")
         .prints("\n  ems image --after examples/dawn.pass\n");
+    run(&["uplink", "--help"])
+        .status(0)
+        .prints("Last comes how many modules\nthe board is left with on, and which.\n");
 }
 
 #[test]

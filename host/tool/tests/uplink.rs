@@ -12,10 +12,18 @@ fn handed(script: &str, more: &[&str]) -> Ran {
     fed(&args, script.as_bytes())
 }
 
-/// What stands under the frames.
+/// What stands under the frames, but for the modules that are on then.
 fn verdict(ran: &Ran) -> Vec<&str> {
     let (_, verdict) = ran.text().split_once("\n\n").expect("an empty line");
-    verdict.lines().collect()
+    let last = left_on(ran);
+    verdict.lines().take_while(|line| *line != last).collect()
+}
+
+/// The last line: the modules that are on then.
+fn left_on(ran: &Ran) -> &str {
+    let last = ran.text().lines().last();
+    let left = last.filter(|last| last.starts_with("The board is left with "));
+    left.expect("how many modules are on")
 }
 
 /// What stands above it: the frames that have a report.
@@ -128,6 +136,7 @@ fn a_pass_that_is_done_says_so() {
 00:00:03          5  2 ticks, frames 4 to 5: nothing changed
 
 5 reports come back, 55 bytes: one for every frame.
+The board is left with 0 modules on.
 "
     );
     assert!(ran.err.is_empty());
@@ -141,6 +150,30 @@ fn a_pass_that_is_done_says_so() {
         verdict(&ran),
         ["0 reports come back, 0 bytes of a room of 0: one for every frame."]
     );
+}
+
+/// Last come the modules that are on: how many by the call, and which by the on mask of
+/// the image that it leaves; also where the pass stops before its end.
+#[test]
+fn it_ends_with_the_modules_that_are_on() {
+    let begin = "antennas deployed\nbattery 7800\n";
+    let left = |script: &str, status: i32, said: &str| {
+        let ran = handed(&format!("{begin}{script}"), &[]).status(status);
+        assert_eq!(left_on(&ran), format!("The board is left with {said}."));
+    };
+    left("tick 901\n", 0, "0 modules on");
+    let core = "4 modules on: MCS, COMM1, COMM2 and I2C";
+    left("tick 902\n", 0, core);
+    left("tick 902\nbattery 4999\n", 2, core);
+    let off = "order ground 1 COMM1 off\norder ground 2 COMM2 off\norder ground 3 I2C off\n";
+    left(&format!("tick 901\n{off}tick\n"), 0, "1 module on: MCS");
+    let on = "order ground 4 PAYLOAD on\n";
+    left(
+        &format!("tick 931\n{on}tick\n"),
+        0,
+        "5 modules on: MCS, COMM1, COMM2, PAYLOAD and I2C",
+    );
+    left(&format!("tick 931\n{on}tick 6 shorts PAYLOAD\n"), 0, core);
 }
 
 /// A greeting's beacons are told without their text, as others are; one that can't be

@@ -37,7 +37,8 @@ pub const UPLINK: &str = "\
 Every frame that gets a report, in the words of `log --explain`; how many reports come
 back; and where and why the pass stops: at its end, where there is no room for the next
 report (2), or before a frame that is refused with 4 to 7. A report with 8, 9 or 10
-stops nothing. The status is 2 if it stops before its end.
+stops nothing. The status is 2 if it stops before its end. Last comes how many modules
+the board is left with on, and which.
 
 The answer is that of one call of ems_pass, with the bytes that `ems frames` writes.
 Frames and seconds are counted from the pass's begin. What was done stands: with -o the

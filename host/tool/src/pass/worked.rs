@@ -5,7 +5,7 @@ use crate::board::{Board, Passed};
 use crate::refusal::reason;
 use crate::script::in_words;
 use crate::stream::Sent;
-use crate::words::{count, thousands};
+use crate::words::{count, list, modules, thousands};
 use ems::{answer, REPORT_BYTES};
 
 /// A pass with what one call gives for it, and what it would give with room for
@@ -52,6 +52,7 @@ impl<'a> Worked<'a> {
             said.extend(self.with_more_room());
             said.extend(self.enough());
         }
+        said.push(self.left_on());
         said
     }
 
@@ -91,6 +92,16 @@ impl<'a> Worked<'a> {
         Some(format!(
             "For a report on every frame, {frames} in all, it takes {room} of room."
         ))
+    }
+
+    /// The modules that are on after it: how many, and which.
+    fn left_on(&self) -> String {
+        let number = count(self.passed.modules_on as u64, "module");
+        let which = match self.passed.image.on() {
+            0 => String::new(),
+            on => format!(": {}", list(&modules(on))),
+        };
+        format!("The board is left with {number} on{which}.")
     }
 }
 
