@@ -51,6 +51,7 @@ static void pass(void) {
 
 static void nothing(void) {}
 static void fresh(void) { ems_fresh(image, sizeof image); }
+static void modules_on(void) { ems_modules_on(image, sizeof image, &count); }
 static void basic(void) { ems_beacon_basic(image, sizeof image, text, sizeof text, &count); }
 static void complete(void) { ems_beacon_complete(image, sizeof image, text, sizeof text, &count); }
 static void extended(void) { ems_beacon_extended(image, sizeof image, text, sizeof text, &count); }
@@ -101,6 +102,7 @@ int main(void) {
     measure("ems_fresh", fresh);
     measure("ems_step", step);
     measure("ems_pass", pass);
+    measure("ems_modules_on", modules_on);
     measure("ems_beacon_basic", basic);
     measure("ems_beacon_complete", complete);
     measure("ems_beacon_extended", extended);
