@@ -1,7 +1,8 @@
 //! The wrapper's `Craft`: only what the library takes becomes one.
 
 use ems::{
-    answer, Craft, Passed, Report, BEACON_EXTENDED_BYTES, IMAGE_BYTES, MESSAGE_BYTES, REPORT_BYTES,
+    answer, calls, Craft, Module, Passed, Report, BEACON_EXTENDED_BYTES, IMAGE_BYTES,
+    MESSAGE_BYTES, REPORT_BYTES,
 };
 use model::image::at;
 
@@ -19,7 +20,7 @@ fn bytes_that_are_no_image_become_none() {
     let fresh = *Craft::fresh().image();
     assert_eq!(Craft::from_image(&[]), None);
     assert_eq!(Craft::from_image(&fresh[..IMAGE_BYTES - 1]), None);
-    for version in [4, 6] {
+    for version in [5, 7] {
         let mut other_version = fresh;
         other_version[at::VERSION] = version;
         assert_eq!(Craft::from_image(&other_version), None);
@@ -39,14 +40,61 @@ fn an_end_of_a_day_is_the_longest() {
     assert_eq!(Craft::from_image(&image), None);
 }
 
+/// The fresh craft with this number for MCS, which its masks have failed and not requested.
+fn with_mcs_failed(number: u16) -> Option<Craft> {
+    let [low, high] = number.to_le_bytes();
+    // The masks stand right before it.
+    with(at::REQUESTED, &[0x26, 0x00, 0x01, low, high])
+}
+
 #[test]
 fn a_module_failed_for_600_seconds_has_the_last_number() {
-    let mut image = *Craft::fresh().image();
-    let module = at::MODULES..at::MODULES + 2;
-    image[module.clone()].copy_from_slice(&846_u16.to_le_bytes());
-    assert!(Craft::from_image(&image).is_some());
-    image[module].copy_from_slice(&847_u16.to_le_bytes());
-    assert_eq!(Craft::from_image(&image), None);
+    assert!(with_mcs_failed(846).is_some());
+    assert_eq!(with_mcs_failed(847), None);
+}
+
+#[test]
+fn a_module_that_its_masks_have_otherwise_is_no_image() {
+    // Off, on, failed and requested; failed is what they say.
+    for number in [245, 240, 0x8000 + 846] {
+        assert_eq!(with_mcs_failed(number), None, "{number}");
+    }
+}
+
+#[test]
+fn a_mask_with_a_bit_turned_is_no_image() {
+    for mask in [at::REQUESTED, at::ON, at::FAILED] {
+        for bit in 0..8 {
+            let mut image = *Craft::fresh().image();
+            image[mask] ^= 1 << bit;
+            assert_eq!(Craft::from_image(&image), None, "byte {mask}, bit {bit}");
+            let count = calls::modules_on(&image);
+            assert_eq!(count, (answer::BAD_STATE, 0), "byte {mask}, bit {bit}");
+        }
+    }
+}
+
+/// Into SAFE, with one more of the mission four on after each order, and all eight shorted.
+#[test]
+fn as_many_modules_are_on_as_the_reports_say() {
+    let mut craft = Craft::fresh();
+    let mut counts = vec![craft.modules_on()];
+    let order = |number: u8, module: Module| vec![0x04, 1, 0, number, module.number(), 1];
+    let mut frames = vec![vec![0x03, 1], vec![0x02, 0x1E, 0x78]];
+    frames.extend(vec![vec![0x01, 0]; 931]);
+    for (number, module) in (1..).zip(Module::in_mask(Module::MISSION)) {
+        frames.extend([order(number, module), vec![0x01, 0]]);
+    }
+    frames.push(vec![0x01, 0xFF]);
+    for frame in frames {
+        let report = craft.report_on(&frame).expect("a report");
+        let on = Module::in_mask(report.on).count();
+        assert_eq!(craft.modules_on(), on);
+        assert_eq!(calls::modules_on(craft.image()), (answer::DONE, on));
+        counts.push(on);
+    }
+    counts.dedup();
+    assert_eq!(counts, [0, 4, 5, 6, 7, 8, 0]);
 }
 
 /// A craft with an image's bytes from a place on put in the place of its own.
