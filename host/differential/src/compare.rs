@@ -4,8 +4,9 @@
 
 use crate::shrink::Move;
 use crate::sides::{Calls, Counted};
+use model::frame;
+use model::report::{self, Report};
 use model::track::Reading;
-use model::{frame, report};
 use std::fmt::{self, Write};
 
 /// The longest image and reply room that a step is given.
@@ -59,6 +60,17 @@ impl Stepped {
     pub fn image(&self) -> &[u8] {
         &self.image[..self.image_len]
     }
+
+    /// The report, if the step has left one.
+    pub fn report(&self) -> Option<Report> {
+        let bytes = self.room.first_chunk()?;
+        has_report(self.answer).then(|| Report::from_bytes(bytes))
+    }
+}
+
+/// Whether a step that gave this answer has left a report.
+fn has_report(answer: u8) -> bool {
+    matches!(answer, 0 | 8..=10)
 }
 
 impl fmt::Display for Stepped {
@@ -145,12 +157,11 @@ impl Passed {
         let written = report::BYTES * self.reported;
         let image = &mut self.image[..self.image_len];
         let answer = (calls.step)(image, frame, &mut self.room[written..room]);
-        let has_report = matches!(answer, 0 | 8..=10);
-        match has_report {
+        match has_report(answer) {
             true => self.reported += 1,
             false => self.answer = answer,
         }
-        has_report
+        has_report(answer)
     }
 }
 

@@ -1,9 +1,11 @@
 //! Images from a seed: of states in range, at the ranges' ends, and outside.
 
 use crate::compare::LONGEST;
+use crate::masks::{some_bits, told, turn, MASKS};
 use crate::messages;
 use crate::rng::Rng;
 use model::image::{self, at, code};
+use model::masks::Masks;
 use model::message::Message;
 use model::state::{
     Last, Mode, Module, Power, CLEAN_SECONDS, CONTROL_TICKS, END_SECONDS, FAILED_SECONDS,
@@ -40,6 +42,7 @@ pub fn state_in(rng: &mut Rng, mode: Mode) -> State {
         4 => (descend - 1).max(LOWEST),
         _ => number(rng, LOWEST, HIGHEST),
     };
+    let modules = std::array::from_fn(|_| module(rng));
     State {
         mode,
         control: (moving * number(rng, 0, u16::from(CONTROL_TICKS) - 1)) as u8,
@@ -54,7 +57,8 @@ pub fn state_in(rng: &mut Rng, mode: Mode) -> State {
         },
         message: messages::good(rng),
         ends: std::array::from_fn(|_| end(rng)),
-        modules: std::array::from_fn(|_| module(rng)),
+        masks: Masks::of(&modules),
+        modules,
     }
 }
 
@@ -85,7 +89,7 @@ fn on(rng: &mut Rng) -> Power {
 }
 
 /// A number in a range, with its ends favoured.
-fn number(rng: &mut Rng, low: u16, high: u16) -> u16 {
+pub fn number(rng: &mut Rng, low: u16, high: u16) -> u16 {
     match rng.below(4) {
         0 => low,
         1 => high,
@@ -172,8 +176,17 @@ pub fn set_message(bytes: &mut [u8], message: &Message) {
     bytes[at::TEXT..at::ENDS].copy_from_slice(&message.bytes);
 }
 
-/// Sets a module of an image by its number.
+/// Sets a module of an image by its number, and its bits of the masks with it.
 pub fn set_module(bytes: &mut [u8], place: usize, number: u16) {
+    set_module_alone(bytes, place, number);
+    let bit = 1 << place;
+    for (mask, holds) in MASKS.into_iter().zip(told(number)) {
+        bytes[mask] = bytes[mask] & !bit | if holds { bit } else { 0 };
+    }
+}
+
+/// Sets a module of an image by its number; the masks stay.
+pub fn set_module_alone(bytes: &mut [u8], place: usize, number: u16) {
     let begin = at::MODULES + 2 * place;
     bytes[begin..begin + 2].copy_from_slice(&number.to_le_bytes());
 }
@@ -184,11 +197,11 @@ pub fn clear_counts(bytes: &mut [u8]) {
 }
 
 /// Bytes that often are no image: a number of a mode, of ends or of modules at an
-/// edge, a message with one thing wrong, a tag beside the right ones, a byte or two
-/// changed, another length, noise.
+/// edge, masks and modules that disagree, a message with one thing wrong, a tag beside
+/// the right ones, a byte or two changed, another length, noise.
 pub fn damaged(rng: &mut Rng) -> Vec<u8> {
     let mut bytes = good(rng);
-    match rng.below(12) {
+    match rng.below(13) {
         0 => {
             let length = rng.below(LONGEST + 1);
             bytes.resize(length, 0);
@@ -211,11 +224,12 @@ pub fn damaged(rng: &mut Rng) -> Vec<u8> {
             for _ in 0..=rng.below(3) {
                 let requested = rng.pick(&[0, code::REQUESTED]);
                 let number = requested + rng.pick(&POWERS);
-                set_module(&mut bytes, rng.below(8), number);
+                let set = rng.pick(&[set_module, set_module_alone]);
+                set(&mut bytes, rng.below(8), number);
             }
         }
         5 => match rng.below(2) {
-            0 => bytes[at::VERSION] = rng.pick(&[0, 1, 2, 3, 4, 6]),
+            0 => bytes[at::VERSION] = rng.pick(&[0, 1, 2, 3, 4, 5, 7]),
             _ => bytes[at::ANTENNAS] = rng.pick(&[2, 3, 128, 255]),
         },
         6 => {
@@ -224,6 +238,7 @@ pub fn damaged(rng: &mut Rng) -> Vec<u8> {
             }
         }
         7 => set_message(&mut bytes, &messages::bad(rng)),
+        8 => turn(&mut bytes, some_bits(rng)),
         _ => {
             for _ in 0..=rng.below(2) {
                 let place = rng.below(bytes.len());

@@ -11,6 +11,7 @@ pub mod compare;
 pub mod frames;
 pub mod groups;
 pub mod images;
+pub mod masks;
 pub mod messages;
 pub mod passes;
 pub mod rng;

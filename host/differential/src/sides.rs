@@ -11,6 +11,8 @@ pub struct Calls {
     pub step: fn(&mut [u8], &[u8], &mut [u8]) -> u8,
     /// `ems_pass`
     pub pass: Pass,
+    /// `ems_modules_on`, which counts and writes no bytes
+    pub modules_on: Counted,
     /// `ems_beacon_basic`
     pub beacon_basic: Counted,
     /// `ems_beacon_complete`
@@ -39,6 +41,7 @@ pub const LIBRARY: Calls = Calls {
     fresh: ems::calls::fresh,
     step: ems::calls::step,
     pass: ems::calls::pass,
+    modules_on: |image, _| ems::calls::modules_on(image),
     beacon_basic: ems::calls::beacon_basic,
     beacon_complete: ems::calls::beacon_complete,
     beacon_extended: ems::calls::beacon_extended,
@@ -58,6 +61,7 @@ pub const MODEL: Calls = Calls {
     fresh: model::calls::fresh,
     step: model::calls::step,
     pass: model::calls::pass,
+    modules_on: |image, _| model::calls::modules_on(image),
     beacon_basic: model::calls::beacon_basic,
     beacon_complete: model::calls::beacon_complete,
     beacon_extended: model::calls::beacon_extended,

@@ -1,30 +1,23 @@
 //! The differential tests' own test: faults planted in one side are found, and
-//! come out short.
+//! come out short. `harness_masks.rs` has those of the masks.
 
 mod common;
 mod kept;
 mod keyers;
 mod signs;
+mod told;
 mod wrong;
 
 use common::{named, run};
 use differential::frames::{Maker, Stream};
+use differential::images::set_module;
 use differential::rng::Rng;
 use differential::shrink::tell_flight;
 use differential::sides::{Calls, MODEL};
 use model::image::{self, at};
 use model::state::{Mode, CONTROL_TICKS, END_SECONDS, FAILED_SECONDS};
 use model::{report, table, State};
-
-/// What a group says of a faulty side.
-fn told(group: &str, faulty: Calls) -> String {
-    run(group, &[faulty, MODEL]).expect_err("the fault is found")
-}
-
-/// The frames of a told flight.
-fn frames(told: &str) -> usize {
-    told.lines().filter(|line| line.starts_with("  ")).count()
-}
+use told::{frames, told};
 
 /// One of the page's "errors that look right": reply 10 leaves the serial.
 fn keeps_the_serial(image: &mut [u8], frame: &[u8], room: &mut [u8]) -> u8 {
@@ -204,7 +197,7 @@ fn keeps_the_end(image: &mut [u8], frame: &[u8], room: &mut [u8]) -> u8 {
     let before = image.to_vec();
     let answer = model::calls::step(image, frame, room);
     if answer == 0 && matches!(frame, [table::ORDER, .., 1]) {
-        let ends = at::ENDS..at::MODULES;
+        let ends = at::ENDS..at::REQUESTED;
         image[ends.clone()].copy_from_slice(&before[ends]);
     }
     answer
@@ -271,10 +264,8 @@ fn a_short_that_counts_at_the_wrong_time_is_found() {
 /// be the same number.
 fn takes_five_tries_and_a_second(image: &mut [u8], frame: &[u8], room: &mut [u8]) -> u8 {
     let past = (image::code::OFF + 1).to_le_bytes();
-    if let Some(module) = image.get_mut(at::MODULES..at::MODULES + 2) {
-        if *module == past {
-            module[0] -= 1;
-        }
+    if image.get(at::MODULES..at::MODULES + 2) == Some(&past) {
+        set_module(image, 0, image::code::OFF);
     }
     model::calls::step(image, frame, room)
 }
@@ -364,7 +355,7 @@ fn every_wrong_extended_beacon_is_found() {
             ..MODEL
         };
         let told = told("extended beacons in every room", faulty);
-        assert!(told.starts_with("input:   05 "), "{name}\n{told}");
+        assert!(told.starts_with("input:   06 "), "{name}\n{told}");
     }
 }
 

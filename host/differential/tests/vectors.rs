@@ -1,9 +1,10 @@
 //! The streams and cases of `tests/vectors` through the compiled library: the log
 //! must be theirs, byte for byte, and so must all that a call leaves behind.
 
+mod masks;
 mod wrong;
 
-use cases::{pass, track, Case};
+use cases::{modules_on, pass, track, Board, Case};
 use differential::sides::{Calls, Track, LIBRARY, MODEL};
 use ems::{answer, Craft, IMAGE_BYTES, REPORT_BYTES};
 use model::track::Reading;
@@ -90,13 +91,25 @@ fn every_other_wrong_greeting_gives_another_log_of_some_stream() {
     }
 }
 
-/// The calls that a case of a pass makes.
-fn calls_of(side: Calls) -> pass::Calls {
-    pass::Calls {
+/// From the fresh start none of the mission four gets to be requested in RECOVERY.
+const UNREACHED: [&str; 1] = ["has in the requested mask what RECOVERY allows"];
+
+#[test]
+fn every_other_frame_that_leaves_a_mask_gives_another_log_of_some_stream() {
+    let streams = streams();
+    for (name, step) in masks::frames::LEFT {
+        let differs = |stream: &Stream| log_by(step, &stream.input) != stream.log;
+        let seen = streams.iter().any(differs);
+        assert_eq!(seen, !UNREACHED.contains(&name), "{name}");
+    }
+}
+
+/// What leads a side to the image that a case starts from.
+fn board_of(side: Calls) -> Board {
+    Board {
         image_bytes: IMAGE_BYTES,
         fresh: side.fresh,
         step: side.step,
-        pass: side.pass,
     }
 }
 
@@ -105,7 +118,8 @@ fn every_case_of_a_pass_comes_out() {
     let cases = pass::cases().expect("the cases are there");
     assert!(cases.len() >= 230, "only {} cases", cases.len());
     for case in cases {
-        assert_eq!(pass::check(&case, &calls_of(LIBRARY)), Ok(()));
+        let checked = pass::check(&case, &board_of(LIBRARY), LIBRARY.pass);
+        assert_eq!(checked, Ok(()));
     }
 }
 
@@ -113,9 +127,54 @@ fn every_case_of_a_pass_comes_out() {
 fn every_wrong_pass_comes_out_otherwise_in_some_case() {
     let cases = pass::cases().expect("the cases are there");
     for (name, pass) in wrong::PASSES {
-        let wrong = calls_of(Calls { pass, ..MODEL });
-        let mut outcomes = cases.iter().map(|case| pass::check(case, &wrong));
+        let check = |case| pass::check(case, &board_of(MODEL), pass);
+        let mut outcomes = cases.iter().map(check);
         assert!(outcomes.any(|outcome| outcome.is_err()), "{name}");
+    }
+}
+
+/// What comes of a case of a count on a side.
+fn counted(case: &Case, side: &Calls) -> cases::Result<()> {
+    let count = |image: &[u8]| (side.modules_on)(image, &mut []);
+    modules_on::check(case, &board_of(*side), count)
+}
+
+#[test]
+fn every_case_of_a_count_comes_out() {
+    let cases = modules_on::cases().expect("the cases are there");
+    assert!(cases.len() >= 200, "only {} cases", cases.len());
+    for case in cases {
+        assert_eq!(counted(&case, &LIBRARY), Ok(()));
+    }
+}
+
+/// In no case are two bits turned, or is a module on that is not requested, or that its mode
+/// does not allow.
+const UNCOUNTED: [&str; 5] = [
+    "goes by the ones of each mask",
+    "goes by the sum of the masks",
+    "counts those requested and on",
+    "leaves the mission four out in RECOVERY",
+    "counts none in DEPLOY_WAIT",
+];
+
+#[test]
+fn every_other_wrong_count_comes_out_otherwise_in_some_case() {
+    let cases = modules_on::cases().expect("the cases are there");
+    let counts = masks::counts::COUNTED.into_iter();
+    let counts = counts
+        .chain(masks::counts::REFUSED)
+        .map(|(name, modules_on)| {
+            let wrong = Calls {
+                modules_on,
+                ..MODEL
+            };
+            (name, wrong)
+        });
+    for (name, wrong) in counts.chain(masks::checks::TAKEN) {
+        let mut outcomes = cases.iter().map(|case| counted(case, &wrong));
+        let seen = outcomes.any(|outcome| outcome.is_err());
+        assert_eq!(seen, !UNCOUNTED.contains(&name), "{name}");
     }
 }
 

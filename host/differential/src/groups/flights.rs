@@ -1,6 +1,6 @@
 //! Frames: whole flights, every room, every serial.
 
-use super::{beacons, fly, Verdict, ROOM};
+use super::{asked, fly, Verdict, ROOM};
 use crate::compare::hex;
 use crate::frames::{Maker, Stream};
 use crate::images;
@@ -34,7 +34,7 @@ pub fn of(sides: &[Calls; 2], rng: &mut Rng, maker: Maker, calls: u64) -> Verdic
             image::save(&state).to_vec()
         };
         let (steps, end) = fly(sides, &start, shots)?;
-        made += steps + beacons(sides, rng, &end)?;
+        made += steps + asked(sides, rng, &end)?;
     }
     Ok(made)
 }

@@ -1,7 +1,7 @@
 //! Greetings: their fields about every limit, every byte in every place, messages that
 //! are kept, sent and used up, and the extended beacon's text.
 
-use super::{beacons, call, fly, Verdict, MODES, ROOM};
+use super::{asked, call, fly, Verdict, MODES, ROOM};
 use crate::compare::hex;
 use crate::images;
 use crate::messages::{self, Fault};
@@ -147,7 +147,7 @@ pub fn messages_run_out(sides: &[Calls; 2], rng: &mut Rng) -> Verdict {
     while made < 1_200_000 {
         let (start, shots) = sending::flight(rng);
         let (steps, end) = fly(sides, &image::save(&start), shots)?;
-        made += steps + beacons(sides, rng, &end)?;
+        made += steps + asked(sides, rng, &end)?;
     }
     Ok(made)
 }

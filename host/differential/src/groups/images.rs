@@ -1,6 +1,6 @@
 //! Images: the fresh one, and those in and out of range.
 
-use super::{beacons, fly, Verdict, ROOM};
+use super::{asked, fly, Verdict, ROOM};
 use crate::compare;
 use crate::frames::{Maker, Stream};
 use crate::images;
@@ -25,7 +25,7 @@ pub fn fresh_starts(sides: &[Calls; 2], rng: &mut Rng) -> Verdict {
 }
 
 /// Images that differ from a good one in one byte, by every value: a tick's
-/// step and a beacon.
+/// step, and all that is asked.
 pub fn image_bytes(sides: &[Calls; 2], rng: &mut Rng) -> Verdict {
     let mut made = 0;
     for _ in 0..50 {
@@ -36,14 +36,15 @@ pub fn image_bytes(sides: &[Calls; 2], rng: &mut Rng) -> Verdict {
                 bytes[place] = value;
                 made += fly(sides, &bytes, vec![(vec![TICK, value], ROOM)])?.0;
             }
-            made += beacons(sides, rng, &good)?;
+            made += asked(sides, rng, &good)?;
         }
     }
     Ok(made)
 }
 
 /// Every number of a mode and of each end up to some beyond the last, then others,
-/// and every number of a module: a tick's step.
+/// and every number of a module, with the masks that it has and with those of another:
+/// a tick's step.
 pub fn codes(sides: &[Calls; 2], rng: &mut Rng) -> Verdict {
     let mut made = 0;
     let mut step = |bytes: &[u8], shorts: u8| -> Result<(), String> {
@@ -63,14 +64,17 @@ pub fn codes(sides: &[Calls; 2], rng: &mut Rng) -> Verdict {
         step(&bytes, 0)?;
     }
     for number in 0..=u16::MAX {
-        let mut bytes = images::good(rng);
-        images::set_module(&mut bytes, rng.below(8), number);
-        step(&bytes, rng.byte())?;
+        for set in [images::set_module, images::set_module_alone] {
+            let mut bytes = images::good(rng);
+            set(&mut bytes, rng.below(8), number);
+            step(&bytes, rng.byte())?;
+        }
     }
     Ok(made)
 }
 
-/// Images in and out of range, of any length: a frame of any kind and beacons.
+/// Images in and out of range, of any length: a frame of any kind, and all that is
+/// asked.
 pub fn damaged_images(sides: &[Calls; 2], rng: &mut Rng) -> Verdict {
     let mut made = 0;
     while made < 1_000_000 {
@@ -78,7 +82,7 @@ pub fn damaged_images(sides: &[Calls; 2], rng: &mut Rng) -> Verdict {
         let kind = rng.one(&KINDS);
         let frame = Stream::new(Maker::Structured).of_kind(rng, kind);
         made += fly(sides, &bytes, vec![(frame, ROOM)])?.0;
-        made += beacons(sides, rng, &bytes)?;
+        made += asked(sides, rng, &bytes)?;
     }
     Ok(made)
 }

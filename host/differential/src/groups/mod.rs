@@ -4,6 +4,7 @@ mod flights;
 mod greetings;
 mod images;
 mod keying_room;
+mod masks;
 mod passes;
 mod texts;
 mod timed;
@@ -37,7 +38,7 @@ pub type Verdict = Result<u64, String>;
 pub type Group = (&'static str, fn(&[Calls; 2], &mut Rng) -> Verdict);
 
 /// All groups.
-pub const GROUPS: [Group; 36] = [
+pub const GROUPS: [Group; 40] = [
     ("fresh start, every length", images::fresh_starts),
     ("flights by the table", |sides, rng| {
         flights::of(sides, rng, Maker::Structured, 4_000_000)
@@ -79,6 +80,13 @@ pub const GROUPS: [Group; 36] = [
     ("every value of every image byte", images::image_bytes),
     ("every number of a mode, an end and a module", images::codes),
     ("damaged images", images::damaged_images),
+    ("every three masks that agree", masks::every_mask),
+    ("every bit of a mask turned", masks::turned_bits),
+    (
+        "modules changed with and without their masks",
+        masks::changed_modules,
+    ),
+    ("frames that change the masks", masks::frames),
     ("every text of up to 2 bytes", texts::short_texts),
     ("every byte in every place of a text", texts::every_place),
     ("every sign of up to 7 marks", texts::every_sign),
@@ -112,10 +120,12 @@ fn call(
         .map_err(|_| tell_counted(sides, call, input.to_vec(), room))
 }
 
-/// All beacons of an image, in rooms of a length around theirs.
-fn beacons(sides: &[Calls; 2], rng: &mut Rng, image: &[u8]) -> Verdict {
+/// All that is asked of an image without a frame: its beacons, in rooms of a length
+/// around theirs, and how many modules are on.
+fn asked(sides: &[Calls; 2], rng: &mut Rng, image: &[u8]) -> Verdict {
     call(sides, |calls| calls.beacon_basic, image, rng.below(20))?;
     call(sides, |calls| calls.beacon_complete, image, rng.below(20))?;
     call(sides, |calls| calls.beacon_extended, image, rng.below(37))?;
-    Ok(3)
+    call(sides, |calls| calls.modules_on, image, 0)?;
+    Ok(4)
 }

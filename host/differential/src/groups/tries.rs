@@ -51,11 +51,12 @@ pub fn starts_and_shorts(sides: &[Calls; 2], _: &mut Rng) -> Verdict {
     for module in &mut state.modules {
         module.requested = true;
     }
+    state.gather_masks();
     let mut image = image::save(&state).to_vec();
     let (mut made, mut on) = (0, 0);
     for second in 1..=4_000_u32 {
         let (steps, after) = fly(sides, &image, vec![(vec![TICK, on], ROOM)])?;
-        let masks = image::load(&after).map(|state| (state.on_mask(), state.failed_mask()));
+        let masks = image::load(&after).map(|state| (state.masks.on, state.masks.failed));
         let wanted = match second.checked_sub(10).map(|since| since % 602) {
             None if second % 2 == 0 => (0, 0),
             None | Some(601) => (0xFF, 0),

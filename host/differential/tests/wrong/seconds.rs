@@ -143,9 +143,10 @@ fn by(
         let other = rule(earlier.power, wanted, shorts & row.bit() != 0);
         module.power = other.unwrap_or(module.power);
     }
+    after.gather_masks();
     image.copy_from_slice(&image::save(&after));
     if let Some(bytes) = room.first_chunk_mut::<{ report::BYTES }>() {
-        let (on, failed) = (after.on_mask(), after.failed_mask());
+        let (on, failed) = (after.masks.on, after.masks.failed);
         let right = Report::from_bytes(bytes);
         *bytes = Report {
             on,
