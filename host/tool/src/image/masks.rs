@@ -5,8 +5,11 @@ use super::supply::{Power, Supply};
 use super::Image;
 use ems::Module;
 
+/// Whether a module with such a supply is in a mask.
+type Has = fn(Supply) -> bool;
+
 /// The masks, and which modules each of them has.
-const MASKS: [(Field, fn(Supply) -> bool); 3] = [
+const MASKS: [(Field, Has); 3] = [
     (REQUESTED, |supply| supply.requested),
     (ON, |supply| matches!(supply.power, Power::On { .. })),
     (FAILED, |supply| matches!(supply.power, Power::Failed(_))),
@@ -30,7 +33,7 @@ pub fn disagreements(image: &Image) -> Vec<(Field, String)> {
 }
 
 /// A mask by what the modules say.
-fn gathered(image: &Image, has: fn(Supply) -> bool) -> u8 {
+fn gathered(image: &Image, has: Has) -> u8 {
     let own = |module: &Module| image.supply(*module).is_some_and(has);
     Module::ALL.into_iter().filter(own).map(Module::bit).sum()
 }
