@@ -3,8 +3,9 @@
  * twice: over the library, and with -DPEER over the C version in peer/.
  *
  * A stream: what is called ('s' step, 'p' pass, 'o' step for one frame of a pass
- * after the other, 'e' extended beacon, 'k' key, 'r' read, 't' tracker), an image, the
- * number of inputs (2 bytes, big-endian), and for each its length (2) and its bytes. */
+ * after the other, 'n' number of modules on, 'e' extended beacon, 'k' key, 'r' read, 't'
+ * tracker), an image, the number of inputs (2 bytes, big-endian), and for each its length
+ * (2) and its bytes. */
 #define _POSIX_C_SOURCE 199309L
 #include <stdio.h>
 #include <stdlib.h>
@@ -14,7 +15,7 @@
 #include "peer/ems.h"
 #include "peer/morse.h"
 #include "peer/track.h"
-#define IMAGE_BYTES 68
+#define IMAGE_BYTES 71
 #define KEY peer_key
 #define READ peer_read
 #define TRACK peer_track
@@ -53,12 +54,13 @@ static void put_back(const uint8_t *image)
         .ascend = (uint16_t)low(image + 10), .descend = (uint16_t)low(image + 12),
         .last = { (uint16_t)low(image + 14), (uint16_t)low(image + 16) },
         .message = { .repeats = image[18], .length = image[19] },
+        .requested = image[52], .on = image[53], .failed = image[54],
     };
     memcpy(state.message.text, image + 20, sizeof state.message.text);
     for (int i = 0; i < 4; i++)
         state.end[i] = low(image + 36 + 4 * i) + ((uint32_t)low(image + 38 + 4 * i) << 16);
     for (int i = 0; i < 8; i++) {
-        unsigned code = low(image + 52 + 2 * i), power = code % REQUESTED;
+        unsigned code = low(image + 55 + 2 * i), power = code % REQUESTED;
         state.m[i] = (struct module){
             .power = power <= OFF ? PW_ON : power < FAILED ? PW_OFF : PW_FAILED, .requested = code >= REQUESTED,
             .tries = (uint8_t)(power <= OFF ? power / 60 + 1 : power < FAILED ? power - OFF : 0),
@@ -72,6 +74,8 @@ static uint8_t step(const uint8_t *frame, size_t length, uint8_t *report, size_t
     return peer_step(&state, frame, length, report, left);
 }
 
+static uint8_t modules_on(size_t *count) { return peer_modules_on(&state, count); }
+
 static uint8_t extended(size_t *written) { return peer_beacon_extended(&state, room, sizeof room, written); }
 #else
 static uint8_t state[EMS_IMAGE_BYTES];
@@ -82,6 +86,8 @@ static uint8_t step(const uint8_t *frame, size_t length, uint8_t *report, size_t
 {
     return ems_step(state, sizeof state, frame, length, report, left);
 }
+
+static uint8_t modules_on(size_t *count) { return ems_modules_on(state, sizeof state, count); }
 
 static uint8_t extended(size_t *written)
 {
@@ -123,6 +129,14 @@ static uint8_t pass(const uint8_t *frames, size_t length, size_t *written)
 }
 #endif
 
+/* How many modules are on, and the answer, as one number. */
+static uint32_t number_on(void)
+{
+    size_t count;
+    uint32_t answer = modules_on(&count);
+    return answer + 31 * (uint32_t)count;
+}
+
 /* The six numbers of a move, as they stand in memory: what the tracker makes of it, as
  * one number. */
 static uint32_t track(const uint8_t *move)
@@ -160,6 +174,7 @@ int main(int argc, char **argv)
         if (call == 's') sum += step(bytes, length, room, 11);
         else if (call == 'k') sum += KEY(bytes, length, room, sizeof room, &written);
         else if (call == 'r') sum += READ(bytes, length, room, sizeof room, &written);
+        else if (call == 'n') sum += number_on();
         else if (call == 'e') sum += extended(&written);
         else if (call == 'p') sum += pass(bytes, length, &written);
         else if (call == 'o') sum += one_by_one(bytes, length, &written);

@@ -8,6 +8,9 @@ use crate::streams::{self, streams, Stream};
 /// How the names of its calls begin, and no other function's.
 pub const EXPORTED: &str = "ems_";
 
+/// Its step by value, as it is named there: what a step costs without the image.
+pub const BY_VALUE: &str = "supervisor::step::step";
+
 /// What it costs: instructions a call, bytes of code and of constants, bytes of
 /// stack.
 pub fn costs(bench: &Bench) -> Result<Vec<Row>> {

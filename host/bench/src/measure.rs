@@ -103,8 +103,14 @@ impl Program {
 
     /// The instructions of a whole run with so many calls.
     pub fn instructions(&self, calls: u64) -> Result<f64> {
+        self.collected(calls, &[])
+    }
+
+    /// The same, as callgrind counts them with these options.
+    fn collected(&self, calls: u64, options: &[String]) -> Result<f64> {
         let mut valgrind = Command::new("valgrind");
         valgrind.args(["--tool=callgrind", "--callgrind-out-file=/dev/null"]);
+        valgrind.args(options);
         valgrind
             .arg(&self.path)
             .arg(&self.stream)
@@ -121,6 +127,15 @@ impl Program {
         let (calls, tenth) = (stream.counted, stream.counted / 10);
         let all = self.instructions(calls + tenth)?;
         Ok((all - self.instructions(tenth)?) / calls as f64)
+    }
+
+    /// Those of them within one function, all that it calls included.
+    pub fn instructions_within(&self, function: &str, stream: &Stream) -> Result<f64> {
+        let within = [format!("--toggle-collect={function}")];
+        match self.collected(stream.counted, &within)? {
+            0.0 => Err(format!("{}: {function} isn't called", stream.name).into()),
+            all => Ok(all / stream.counted as f64),
+        }
     }
 
     /// The nanoseconds of a run with so many calls, and the sum that it gives.

@@ -13,7 +13,8 @@ pub struct Stream {
     /// What it says there.
     pub name: &'static str,
     /// What is called: `s` step, `p` pass, `o` step for one frame of a pass after
-    /// the other, `e` extended beacon, `k` key, `r` read, `t` tracker.
+    /// the other, `n` number of modules on, `e` extended beacon, `k` key, `r` read, `t`
+    /// tracker.
     pub call: u8,
     /// The image to start from.
     pub image: [u8; image::BYTES],
@@ -65,6 +66,7 @@ fn board(mode: Mode) -> State {
         };
         *module = Module { power, requested };
     }
+    state.gather_masks();
     state
 }
 
@@ -228,12 +230,24 @@ pub fn streams() -> Vec<Stream> {
         step("timed order, done", board(Mode::Safe), all(timed)),
         step("greeting, done", board(Mode::Safe), all(greeting)),
         step(
+            "battery, done",
+            board(Mode::Safe),
+            vec![vec![BATTERY, 0x1F, 0x40]],
+        ),
+        step(
             "battery, refused (6)",
             board(Mode::Safe),
             vec![vec![BATTERY, 0x13, 0x87]],
         ),
         passes("pass of 100 frames", b'p'),
         passes("the same 100 frames, one call each", b'o'),
+        Stream {
+            name: "modules on",
+            call: b'n',
+            image: image::save(&board(Mode::Safe)),
+            inputs: vec![vec![]],
+            counted: 1_000,
+        },
         Stream {
             name: "extended beacon of 33 characters",
             call: b'e',
@@ -277,6 +291,7 @@ pub fn drive(stream: &Stream, calls: u64) -> (u128, u64) {
             b's' => calls::step(&mut image, input, &mut room[..report::BYTES]).into(),
             b'p' => reported(calls::pass(&mut image, input, &mut room), &mut written),
             b'o' => reported(one_by_one(&mut image, input, &mut room), &mut written),
+            b'n' => number_on(calls::modules_on(&image)),
             b'e' => counted(calls::beacon_extended(&image, &mut room), &mut written),
             b'k' => counted(calls::key(input, &mut room), &mut written),
             _ => counted(calls::read(input, &mut room), &mut written),
@@ -297,6 +312,11 @@ fn counted((answer, count): (u8, usize), written: &mut usize) -> u32 {
 
 fn reported((answer, reports): (u8, usize), written: &mut usize) -> u32 {
     counted((answer, report::BYTES * reports), written)
+}
+
+/// How many modules are on, and the answer, as one number: as `drive.c`.
+fn number_on((answer, count): (u8, usize)) -> u32 {
+    u32::from(answer) + 31 * count as u32
 }
 
 /// What the tracker makes of a move, as one number: as `drive.c`.

@@ -1,7 +1,7 @@
 //! The tables of `docs/PERFORMANCE.md`: the library, the C version and the
 //! model, measured in one run.
 
-use crate::library::EXPORTED;
+use crate::library::{BY_VALUE, EXPORTED};
 use crate::measure::{self, Bench, Program, Result};
 use crate::stack;
 use crate::streams::{streams, Stream};
@@ -39,9 +39,10 @@ pub fn measured(bench: &Bench) -> Result<String> {
 /// The cost of a call, stream by stream.
 fn calls(bench: &Bench, library: &Path, c: &Path, lines: &mut Lines) -> Result<()> {
     lines.push(
-        "| call | instructions: library | C | model | library / C | ns: library | C | model |",
+        "| call | instructions: library | of it by value | C | model | library / C | \
+         ns: library | C | model |",
     );
-    lines.push("|---|---:|---:|---:|---:|---:|---:|---:|");
+    lines.push("|---|---:|---:|---:|---:|---:|---:|---:|---:|");
     let own = env::current_exe()?;
     for (place, stream) in streams().iter().enumerate() {
         let file = bench.stream_file(place, stream)?;
@@ -58,7 +59,7 @@ fn calls(bench: &Bench, library: &Path, c: &Path, lines: &mut Lines) -> Result<(
 /// The stream's row, once all sides agree on what they have done.
 fn row(stream: &Stream, programs: &[Program; 3]) -> Result<String> {
     let timed = match stream.call {
-        b's' | b't' => 1_000_000,
+        b's' | b't' | b'n' => 1_000_000,
         _ => 20_000,
     };
     let mut counts = Vec::new();
@@ -77,13 +78,25 @@ fn row(stream: &Stream, programs: &[Program; 3]) -> Result<String> {
         return Err("not three programs".into());
     };
     Ok(format!(
-        "| {} | {library:.0} | {c:.0} | {model:.0} | {:.2} | {:.1} | {:.1} | {:.1} |",
+        "| {} | {library:.0} | {} | {c:.0} | {model:.0} | {:.2} | {:.1} | {:.1} | {:.1} |",
         stream.name,
+        by_value(stream, &programs[0])?,
         library / c,
         times[0],
         times[1],
         times[2]
     ))
+}
+
+/// What the library's step takes by value, of a stream of frames.
+fn by_value(stream: &Stream, library: &Program) -> Result<String> {
+    Ok(match stream.call {
+        b's' | b'p' | b'o' => {
+            let instructions = library.instructions_within(BY_VALUE, stream)?;
+            format!("{instructions:.0}")
+        }
+        _ => String::new(),
+    })
 }
 
 /// Ten times the frames, on the library.
