@@ -168,12 +168,17 @@ fn it_ends_with_the_modules_that_are_on() {
     let off = "order ground 1 COMM1 off\norder ground 2 COMM2 off\norder ground 3 I2C off\n";
     left(&format!("tick 901\n{off}tick\n"), 0, "1 module on: MCS");
     let on = "order ground 4 PAYLOAD on\n";
+    let camera = format!("tick 931\n{on}tick\n");
     left(
-        &format!("tick 931\n{on}tick\n"),
+        &camera,
         0,
         "5 modules on: MCS, COMM1, COMM2, PAYLOAD and I2C",
     );
     left(&format!("tick 931\n{on}tick 6 shorts PAYLOAD\n"), 0, core);
+    // With room for all reports but the last, the camera is not on yet.
+    let room = (934 * REPORT_BYTES).to_string();
+    let ran = handed(&format!("{begin}{camera}"), &["--room", &room]).status(2);
+    assert_eq!(left_on(&ran), format!("The board is left with {core}."));
 }
 
 /// A greeting's beacons are told without their text, as others are; one that can't be
