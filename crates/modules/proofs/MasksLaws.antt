@@ -11,9 +11,9 @@ use lib.Bits.{bitAnd, bitOr, and-step, or-step, and-le-l, or-zero-l}
 use lib.Count.{ones, onesIn, ones-step}
 use lib.Dec.{T, eqb, ltb, lit<, eqb-refl, eqb→eq}
 use lib.ListN.{length, drop, take, getD, length-drop}
-use lib.Pow.{pow-mono, shr-shr}
+use lib.Pow.{pow-lt, pow-mono, shr-shr}
 use lib.Seq.{take-suc, length-take-le}
-use borrow.Author.Tests.{eqb-true, eqb-false, ltb-false, ne-eqb, eq-eqb}
+use borrow.Author.Tests.{eqb-true, eqb-false, ltb-true, ltb-false, ne-eqb, eq-eqb}
 use Rattle.basics.specs.Choice.{if_then_else_, bit}
 use Rattle.basics.specs.Each.{each, eachFrom}
 use Rattle.basics.proofs.BitLaws.{bit-half, bit-power, bit-and}
@@ -236,7 +236,7 @@ module _ (test : Module → Bool) (f : ℕ → Module → Module) (keeps : (i : 
   kept-from k [] = refl
   kept-from k (m ∷ ms) = rw (keeps k m, kept-from (suc k) ms)
 
-pub requests-set : (mask : ℕ) (on : Bool) (ms : List Module) → mask < 2 ^ length ms → masksOf (requestedBy mask on ms) ≡ requestsSet mask on (masksOf ms)
+requests-set : (mask : ℕ) (on : Bool) (ms : List Module) → mask < 2 ^ length ms → masksOf (requestedBy mask on ms) ≡ requestsSet mask on (masksOf ms)
 unfolding masksOf requestedBy each
 requests-set mask on ms h =
     same
@@ -244,8 +244,12 @@ requests-set mask on ms h =
     (kept-from isPowered (moduleRequested mask on) (λ i m. refl) 0 ms)
     (kept-from isGivenUp (moduleRequested mask on) (λ i m. refl) 0 ms)
 
+-- eight modules' masks stay true where their bits are set as their requests are
+pub masks-asked : (mask : ℕ) (on : Bool) (ms : List Module) (masks : Masks) → length ms ≡ 8 → mask < 256 → masks ≡ masksOf ms → requestsSet mask on masks ≡ masksOf (requestedBy mask on ms)
+masks-asked mask on ms masks eight small own = ap (requestsSet mask on) own ∙ sym (requests-set mask on ms (rw eight small))
+
 -- one module's request is that of the mask of it alone
-pub requested-one : (which : ℕ) (on : Bool) (ms : List Module) → length ms ≡ 8 → requestedOne which on ms ≡ requestedBy (oneBit which) on ms
+requested-one : (which : ℕ) (on : Bool) (ms : List Module) → length ms ≡ 8 → requestedOne which on ms ≡ requestedBy (oneBit which) on ms
 unfolding requestedOne requestedBy
 requested-one which on ms eight = by (ltb which moduleCount) refl
   where
@@ -255,6 +259,17 @@ requested-one which on ms eight = by (ltb which moduleCount) refl
     by : (few : Bool) → ltb which moduleCount ≡ few → requestedOne which on ms ≡ requestedBy (if few then 2 ^ which else 0) on ms
     by true e = each-at (moduleAsked which on) (moduleRequested (2 ^ which) on) ms noModule (λ i h. asked i (getD ms i noModule))
     by false e = sym (request-past which on ms noModule (omega (arith, ltb-false which moduleCount e, eight))) ∙ sym (requested-none on ms)
+
+one-bit-small : (which : ℕ) → oneBit which < 256
+one-bit-small which = by (ltb which moduleCount) refl
+  where
+    by : (few : Bool) → ltb which moduleCount ≡ few → (if few then 2 ^ which else 0) < 256
+    by true e = pow-lt {j = 8} (ltb-true which moduleCount e)
+    by false e = lit< tt
+
+pub masks-asked-one : (which : ℕ) (on : Bool) (ms : List Module) (masks : Masks) → length ms ≡ 8 → masks ≡ masksOf ms → requestsSet (oneBit which) on masks ≡ masksOf (requestedOne which on ms)
+masks-asked-one which on ms masks eight own =
+    masks-asked (oneBit which) on ms masks eight (one-bit-small which) own ∙ ap masksOf (sym (requested-one which on ms eight))
 
 -- ---- the ones of a mask
 

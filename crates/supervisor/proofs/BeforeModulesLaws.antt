@@ -10,7 +10,7 @@ use Rattle.modules.specs.Stage.{modulesInRange}
 use Rattle.modules.proofs.EndsLaws.{fallen-in-range}
 use Rattle.modules.proofs.StageLaws.{requested-in-range}
 use Rattle.supervisor.specs.Range.{judgeTicks}
-use Rattle.supervisor.specs.State.{isDeployWait, moduleAt, withControl, withEnds}
+use Rattle.supervisor.specs.State.{HasMasks, isDeployWait, moduleAt, withControl, withEnds}
 use Rattle.supervisor.specs.Ending.{ended}
 use Rattle.supervisor.specs.Control.{controlled}
 use Rattle.supervisor.specs.Tick.{beforeModules}
@@ -55,6 +55,11 @@ module _ (s : State) where
   modules-by h (level count low none w) = rw w h
   modules-by h (upward j e t w) = rw w (requested-in-range coreFour true (s .modules) h)
   modules-by h (downward j e t w) = rw w (requested-in-range missionFour false (s .modules) h)
+
+  masks-by : HasMasks s → Controls s → HasMasks (controlled s)
+  masks-by h (level count low none w) = rw w h
+  masks-by h (upward j e t w) = rw w refl
+  masks-by h (downward j e t w) = rw w refl
 
   ends-by : T (endsInRange (s .ends)) → Controls s → T (endsInRange (controlled s .ends))
   unfolding endsInRange
@@ -116,6 +121,11 @@ module _ (s : State) where
   unfolding beforeModules ended
   before-modules-in-range h =
       modules-by (ended s) (requested-in-range (endsOver (s .ends)) false (s .modules) h) (controls (ended s))
+
+  -- their masks are true
+  pub before-masks : HasMasks (beforeModules s)
+  unfolding beforeModules ended
+  before-masks = masks-by (ended s) refl (controls (ended s))
 
   module _ (eight : Eight s) where
     -- eight modules

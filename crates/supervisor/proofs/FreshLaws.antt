@@ -12,6 +12,7 @@ use Rattle.modules.specs.Groups.{moduleCount, isMission}
 use Rattle.modules.specs.Power.{isOn}
 use Rattle.modules.specs.Ends.{endsInRange}
 use Rattle.modules.specs.Stage.{requestedBy, modulesInRange}
+use Rattle.modules.specs.Masks.{maskOf, masksOf, areMasksOf}
 use Rattle.morse.specs.Texts.{faultOf}
 use Rattle.frames.specs.Greeting.{isGreeting}
 use Rattle.supervisor.specs.State.{moduleAt}
@@ -20,7 +21,7 @@ use Rattle.supervisor.specs.Range.{inRange}
 use Rattle.supervisor.proofs.ModuleLaws.{Eight}
 
 pub fresh-in-range : T (inRange freshState)
-unfolding inRange freshState requestedBy each eachFrom modulesInRange endsInRange isGreeting faultOf
+unfolding inRange freshState requestedBy each eachFrom modulesInRange endsInRange isGreeting faultOf masksOf maskOf areMasksOf
 fresh-in-range = tt
 
 pub fresh-eight : Eight freshState

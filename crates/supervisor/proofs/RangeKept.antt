@@ -2,7 +2,7 @@
 -- Assumes nothing.
 use Prim.Native.Nat.{ℕ, _+_, _-_}
 use native.Mathlib.Omega.{arith}
-use mathlib.Core.Path.{_≡_}
+use mathlib.Core.Path.{_≡_, refl}
 use mathlib.Core.Bool.{Bool, false, _||_}
 use mathlib.Core.List.{List}
 use lib.Dec.{T, eqb, ltb→lt, lt→ltb}
@@ -15,9 +15,10 @@ use Rattle.modules.proofs.StageLaws.{stage-in-range, asked-in-range}
 use Rattle.frames.specs.Reading.{isReading, areThresholds}
 use Rattle.frames.specs.About.{about, isTick}
 use Rattle.frames.specs.declared.frame.Frame.{Frame}
+use Rattle.frames.specs.declared.frame.Frame.the-variants as frame
 use Rattle.frames.specs.declared.reading.Reading.the-variants.{Accepted}
 use Rattle.frames.proofs.ReadingLaws.{Fits}
-use Rattle.supervisor.specs.State.{isDeployWait}
+use Rattle.supervisor.specs.State.{isDeployWait, HasMasks}
 use Rattle.supervisor.specs.Range.{inRange, watchInRange, phaseInRange, batteryInRange, messageInRange, waitSeconds, settleSeconds}
 use Rattle.supervisor.specs.Deploy.{phaseTicked}
 use Rattle.supervisor.specs.Message.{isToBeSent}
@@ -34,7 +35,7 @@ use Rattle.supervisor.specs.declared.state.State.{State}
 use Rattle.supervisor.proofs.RangeLaws.{Valid, parts, whole, phase-in-range, counts-zero, phase-watch, Low, low-tested, counts-watch}
 use Rattle.supervisor.proofs.RangeLaws.{counts-of}
 use Rattle.supervisor.proofs.BeforeModulesLaws.{before-flies, before-control, before-beacon, before-battery, before-message, before-ends-in-range}
-use Rattle.supervisor.proofs.BeforeModulesLaws.{before-modules-in-range}
+use Rattle.supervisor.proofs.BeforeModulesLaws.{before-modules-in-range, before-masks}
 use Rattle.supervisor.proofs.MessageLaws.{kept-in-range}
 use Rattle.supervisor.proofs.DueLaws.{count-low}
 use Rattle.supervisor.proofs.TickLaws.{Ticks, waits, runs, ticks}
@@ -50,6 +51,7 @@ Running s =
       message : T (messageInRange (s .message));
       ends : T (endsInRange (s .ends));
       modules : T (modulesInRange (s .modules));
+      masks : HasMasks s;
     }
 
 -- what the module stage finds
@@ -62,6 +64,7 @@ before-running s v =
       message = rw (before-message s) (v .message);
       ends = before-ends-in-range s (v .ends);
       modules = before-modules-in-range s (v .modules);
+      masks = before-masks s;
     }
 
 -- modules
@@ -75,6 +78,7 @@ stage-running shorts s v =
       message = v .message;
       ends = v .ends;
       modules = stage-in-range (allowedIn (s .watch .mode)) shorts (s .modules) (v .modules);
+      masks = refl;
     }
 
 -- beacon
@@ -89,6 +93,7 @@ beacon-valid s v =
       message = v .message;
       ends = v .ends;
       modules = v .modules;
+      masks = v .masks;
     }
 
 -- in DEPLOY_WAIT
@@ -118,13 +123,14 @@ by-ticks shorts s h (waits phase e w) =
       message = v .message;
       ends = v .ends;
       modules = v .modules;
+      masks = v .masks;
     })
 by-ticks shorts s h (runs e w) =
     let v : Valid s = parts s h in
     rw w
     (beacon-valid (moduleStage shorts (beforeModules s))
     (stage-running shorts (beforeModules s)
-    (before-running s (record { flies = e; low = counts-of s h e; battery = v .battery; message = v .message; ends = v .ends; modules = v .modules }))))
+    (before-running s (record { flies = e; low = counts-of s h e; battery = v .battery; message = v .message; ends = v .ends; modules = v .modules; masks = v .masks }))))
 
 pub ticked-in-range : (shorts : ℕ) (s : State) → T (inRange s) → T (inRange (ticked shorts s .state))
 ticked-in-range shorts s h = whole (ticked shorts s .state) (by-ticks shorts s h (ticks shorts s))
@@ -148,7 +154,7 @@ valid-still : Still Valid
 unfolding requestSet
 valid-still =
     record {
-      tension = λ millivolts r s v. record { watch = v .watch; battery = tension-valid millivolts (s .battery) r (v .battery); message = v .message; ends = v .ends; modules = v .modules };
+      tension = λ millivolts r s v. record { watch = v .watch; battery = tension-valid millivolts (s .battery) r (v .battery); message = v .message; ends = v .ends; modules = v .modules; masks = v .masks };
       antennas = λ deployed s v. v;
       serial = λ sender s v. v;
       request =
@@ -158,8 +164,9 @@ valid-still =
             message = v .message;
             ends = set-in-range which end (s .ends) low (v .ends);
             modules = asked-in-range which on (s .modules) (v .modules);
+            masks = refl;
           };
-      thresholds = λ ascend descend r s v. record { watch = v .watch; battery = thresholds-valid ascend descend (s .battery) r (v .battery); message = v .message; ends = v .ends; modules = v .modules };
+      thresholds = λ ascend descend r s v. record { watch = v .watch; battery = thresholds-valid ascend descend (s .battery) r (v .battery); message = v .message; ends = v .ends; modules = v .modules; masks = v .masks };
       message =
           λ repeats length text fair s v. record {
             watch = v .watch;
@@ -167,9 +174,18 @@ valid-still =
             message = kept-in-range repeats length text fair;
             ends = v .ends;
             modules = v .modules;
+            masks = v .masks;
           };
     }
 
 pub act-in-range :
     (f : Frame) (text : List ℕ) → Fits f text → isTick (about (Accepted f)) ≡ false → (s : State) → T (inRange s) → T (inRange (actOf f text s .state))
 act-in-range f text fits e s h = whole (actOf f text s .state) (act-still Valid valid-still f text fits e s (parts s h))
+
+-- every frame leaves the masks true
+pub acted-masks : (f : Frame) (text : List ℕ) → Fits f text → (s : State) → T (inRange s) → HasMasks (actOf f text s .state)
+unfolding actOf
+acted-masks (frame.Tick shorts) text fits s h = parts (ticked shorts s .state) (ticked-in-range shorts s h) .masks
+acted-masks (frame.Battery tension) text fits s h = parts _ (act-in-range (frame.Battery tension) text fits refl s h) .masks
+acted-masks (frame.Antennas deployed) text fits s h = parts _ (act-in-range (frame.Antennas deployed) text fits refl s h) .masks
+acted-masks (frame.Command sender command) text fits s h = parts _ (act-in-range (frame.Command sender command) text fits refl s h) .masks

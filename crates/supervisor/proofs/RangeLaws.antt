@@ -7,7 +7,9 @@ use lib.Dec.{T, ltb, ltb→lt, lt→ltb, eqb→eq}
 use Rattle.basics.proofs.ChoiceLaws.{and-left, and-right, and-both}
 use Rattle.modules.specs.Ends.{endsInRange}
 use Rattle.modules.specs.Stage.{modulesInRange}
-use Rattle.supervisor.specs.State.{isDeployWait}
+use Rattle.modules.specs.Masks.{areMasksOf}
+use Rattle.modules.proofs.MasksLaws.{masks-agree, masks-own}
+use Rattle.supervisor.specs.State.{isDeployWait, HasMasks}
 use Rattle.supervisor.specs.Range.{judgeTicks, basicTicks, watchInRange, batteryInRange, phaseInRange, messageInRange, inRange}
 use Rattle.supervisor.specs.declared.state.Phase.{Phase}
 use Rattle.supervisor.specs.declared.state.Mode.{Mode}
@@ -23,22 +25,27 @@ Valid s =
       message : T (messageInRange (s .message));
       ends : T (endsInRange (s .ends));
       modules : T (modulesInRange (s .modules));
+      masks : HasMasks s;
     }
 
 pub parts : (s : State) → T (inRange s) → Valid s
 unfolding inRange
 parts s h =
+    let agree : T (areMasksOf (s .modules) (s .masks)) = search (and-left, and-right) in
     record {
       watch = search (and-left, and-right);
       battery = search (and-left, and-right);
       message = search (and-left, and-right);
       ends = search (and-left, and-right);
       modules = search (and-left, and-right);
+      masks = masks-agree (s .modules) (s .masks) agree;
     }
 
 pub whole : (s : State) → Valid s → T (inRange s)
 unfolding inRange
-whole s v = search (and-both, v) depth 10
+whole s v =
+    let agree : T (areMasksOf (s .modules) (s .masks)) = rw (v .masks) (masks-own (s .modules)) in
+    search (and-both, v, agree) depth 12
 
 -- in DEPLOY_WAIT: the phase, and both counts 0
 pub phase-in-range : (phase : Phase) (control beacon : ℕ) → T (watchInRange (DeployWait phase) control beacon) → T (phaseInRange phase)

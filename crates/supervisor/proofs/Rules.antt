@@ -4,7 +4,7 @@ use Rattle.basics.specs.Each.{each, eachFrom}
 use Rattle.modules.specs.Power.{switched}
 use Rattle.modules.specs.Ends.{endOf, endsFallen, endsOver, withEnd, endsInRange}
 use Rattle.modules.specs.Stage.{stageOf, requestedBy, requestedOne, modulesInRange}
-use Rattle.modules.specs.Masks.{maskOf, masksOf}
+use Rattle.modules.specs.Masks.{maskOf, masksOf, areMasksOf}
 use Rattle.morse.specs.Signs.{alphabet, signOf}
 use Rattle.morse.specs.Texts.{faultOf}
 use Rattle.frames.specs.Kind.{totalOf}
@@ -25,7 +25,7 @@ use Rattle.supervisor.specs.Step.{stepOf}
 
 -- of the modules
 modules : Unit {0}
-unfolding each eachFrom switched endOf endsFallen endsOver withEnd endsInRange stageOf requestedBy requestedOne modulesInRange maskOf masksOf
+unfolding each eachFrom switched endOf endsFallen endsOver withEnd endsInRange stageOf requestedBy requestedOne modulesInRange maskOf masksOf areMasksOf
 modules = tt
 
 -- of the frames

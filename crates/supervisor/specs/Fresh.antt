@@ -7,6 +7,7 @@ use lib.ListN.{replicate}
 use Rattle.modules.specs.Groups.{moduleCount, coreFour}
 use Rattle.modules.specs.Ends.{noEnds}
 use Rattle.modules.specs.Stage.{requestedBy}
+use Rattle.modules.specs.Masks.{masksOf}
 use Rattle.modules.specs.declared.power.Module.{Module}
 use Rattle.supervisor.specs.State.{offModule, noMessage}
 use Rattle.supervisor.specs.declared.state.Phase.the-variants.{Waiting}
@@ -32,6 +33,7 @@ freshState =
     record {
       watch = record { mode = DeployWait (Waiting 0); control = 0; beacon = 0 };
       antennas = false;
+      masks = masksOf freshModules;
       battery = record { tension = 0; ascend = freshAscend; descend = freshDescend };
       serials = record { ground = 0; payload = 0 };
       message = noMessage;

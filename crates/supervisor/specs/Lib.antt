@@ -2,6 +2,7 @@ pub mod State
 pub mod Message
 pub mod Fresh
 pub mod Range
+pub mod Counting
 pub mod Acted
 pub mod Deploy
 pub mod Ending

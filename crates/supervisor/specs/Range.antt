@@ -8,6 +8,7 @@ use Rattle.frames.specs.Reading.{isReading, areThresholds}
 use Rattle.frames.specs.Greeting.{isGreeting}
 use Rattle.modules.specs.Ends.{endsInRange}
 use Rattle.modules.specs.Stage.{modulesInRange}
+use Rattle.modules.specs.Masks.{areMasksOf}
 use Rattle.supervisor.specs.declared.state.Phase.{Phase}
 use Rattle.supervisor.specs.declared.state.Phase.the-variants.{Waiting, Settling}
 use Rattle.supervisor.specs.declared.state.Mode.{Mode}
@@ -55,9 +56,9 @@ watchInRange Safe control beacon = ltb control judgeTicks && ltb beacon basicTic
 abbrev pub messageInRange : Message → Bool
 messageInRange m = isGreeting (m .length) (m .text)
 
--- check 1 passes
+-- check 1 passes: every part is in its range, and the masks are those of the modules
 unfoldable pub inRange : State → Bool
 inRange s =
     watchInRange (s .watch .mode) (s .watch .control) (s .watch .beacon)
     && batteryInRange (s .battery) && messageInRange (s .message) && endsInRange (s .ends)
-    && modulesInRange (s .modules)
+    && modulesInRange (s .modules) && areMasksOf (s .modules) (s .masks)

@@ -1,11 +1,13 @@
 -- The state: modes by number, a module by its number, and the state with one part changed.
 -- Assumes nothing.
 use Prim.Native.Nat.{ℕ}
+use mathlib.Core.Path.{_≡_}
 use mathlib.Core.Bool.{Bool, true, false}
 use mathlib.Core.List.{List}
 use lib.ListN.{getD, replicate}
 use Rattle.modules.specs.Power.{fullTries}
 use Rattle.modules.specs.Ends.{endOf}
+use Rattle.modules.specs.Masks.{masksOf}
 use Rattle.modules.specs.declared.power.Power.the-variants.{Off}
 use Rattle.modules.specs.declared.power.Module.{Module}
 use Rattle.modules.specs.declared.ends.Ends.{Ends}
@@ -58,6 +60,10 @@ moduleAt i s = getD (s .modules) i offModule
 abbrev pub endAt : ℕ → State → ℕ
 endAt i s = endOf i (s .ends)
 
+-- the masks that are kept are true: those of the modules
+abbrev pub HasMasks : State → Type 0
+HasMasks s = s .masks ≡ masksOf (s .modules)
+
 -- no message: all zeros
 abbrev pub noMessage : Message
 noMessage = record { repeats = 0; length = 0; text = replicate longestGreeting 0 }
@@ -68,6 +74,7 @@ withWatch watch s =
     record {
       watch = watch;
       antennas = s .antennas;
+      masks = s .masks;
       battery = s .battery;
       serials = s .serials;
       message = s .message;
@@ -81,6 +88,7 @@ withAntennas deployed s =
     record {
       watch = s .watch;
       antennas = deployed;
+      masks = s .masks;
       battery = s .battery;
       serials = s .serials;
       message = s .message;
@@ -94,6 +102,7 @@ withBattery battery s =
     record {
       watch = s .watch;
       antennas = s .antennas;
+      masks = s .masks;
       battery = battery;
       serials = s .serials;
       message = s .message;
@@ -107,6 +116,7 @@ withSerials serials s =
     record {
       watch = s .watch;
       antennas = s .antennas;
+      masks = s .masks;
       battery = s .battery;
       serials = serials;
       message = s .message;
@@ -120,6 +130,7 @@ withMessage message s =
     record {
       watch = s .watch;
       antennas = s .antennas;
+      masks = s .masks;
       battery = s .battery;
       serials = s .serials;
       message = message;
@@ -133,6 +144,7 @@ withEnds ends s =
     record {
       watch = s .watch;
       antennas = s .antennas;
+      masks = s .masks;
       battery = s .battery;
       serials = s .serials;
       message = s .message;
@@ -140,12 +152,13 @@ withEnds ends s =
       modules = s .modules;
     }
 
--- with other modules
+-- with other modules, and their masks
 abbrev pub withModules : List Module → State → State
 withModules modules s =
     record {
       watch = s .watch;
       antennas = s .antennas;
+      masks = masksOf modules;
       battery = s .battery;
       serials = s .serials;
       message = s .message;

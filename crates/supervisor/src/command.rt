@@ -1,6 +1,7 @@
 // What a command does: its serial is judged, once for every command, and then it is taken.
 // No command switches a module or changes the mode.
 ghost use mathlib.Core.Path.{_≡_};
+ghost use Rattle.supervisor.specs.State.{HasMasks};
 ghost use Rattle.supervisor.specs.Command.{isIllTimed, orderTaken, thresholdsTaken, greetingTaken};
 ghost use Rattle.supervisor.specs.Command.{taken, bySerial};
 use crate::acted::Acted;
@@ -14,6 +15,7 @@ use frames::greeting::LONGEST;
 use frames::sender::Sender;
 use frames::serial::Class;
 use modules::groups::is_mission;
+use modules::masks::one_bit;
 
 // The seconds of a minute.
 const MINUTE: u32 = 60;
@@ -28,21 +30,25 @@ impl Mode {
 }
 
 impl State {
-    // An order: 10, or the module's request is set, and its end.
+    // An order: 10, or the module's request is set, with its bit, and its end.
     fn order(mut self, which: u8, on: bool, seconds: u32) -> Acted
+        requires { ⌜ HasMasks self ⌝ }
         ensures { λ r. ⌜ r ≡ orderTaken which on seconds self ⌝ }
     {
         let watch = self.watch;
         let mode = watch.mode;
         let modules = self.modules;
+        let kept = self.masks;
         let mut asked = modules;
+        let mut masks = kept;
         let mut answer = Answer::NotNow;
         if !mode.is_ill_timed(which, on) {
             asked = modules::stage::request_one(modules, which, on);
+            masks = kept.request(one_bit(which), on);
             self.ends = self.ends.with_end(which, seconds);
             answer = Answer::Done;
         }
-        silent(answer, self.with_modules(asked))
+        silent(answer, self.with_modules(asked, masks))
     }
 
     // Thresholds: both are stored.
@@ -64,6 +70,7 @@ impl State {
 
     // A command whose serial is fresh, by what it is; a greeting's text stands beside it.
     fn take(self, command: Command, text: [u8; LONGEST]) -> Acted
+        requires { ⌜ HasMasks self ⌝ }
         ensures { λ r. ⌜ r ≡ taken command text self ⌝ }
     {
         match command {
@@ -76,6 +83,7 @@ impl State {
 
     // 8 or 9 by the serial; a fresh one is used up, and the command is taken.
     pub(crate) fn command(mut self, sender: Sender, command: Command, text: [u8; LONGEST]) -> Acted
+        requires { ⌜ HasMasks self ⌝ }
         ensures { λ r. ⌜ r ≡ bySerial sender command text self ⌝ }
     {
         let origin = sender.origin;

@@ -1,6 +1,7 @@
 // The control stage of a tick: the mode is judged by the battery.
 ghost use mathlib.Core.Path.{_≡_};
 ghost use Prim.Native.Nat.{_<_};
+ghost use Rattle.supervisor.specs.State.{HasMasks};
 ghost use Rattle.supervisor.specs.Range.{judgeTicks};
 ghost use Rattle.basics.specs.Choice.{if_then_else_};
 ghost use Rattle.supervisor.specs.Control.{crossingOf, isUpward, crossed, controlled};
@@ -59,6 +60,7 @@ impl Crossing {
 impl State {
     // The state after a crossing, upward or downward: one walk over the modules for both.
     fn crossed(mut self, up: bool) -> State
+        requires { ⌜ HasMasks self ⌝ }
         ensures { λ r. ⌜ r ≡ crossed (if up then Upward else Downward) self ⌝ }
     {
         let mut mode = Mode::Recovery;
@@ -71,13 +73,14 @@ impl State {
         }
         let modules = self.modules;
         let asked = modules::stage::request(modules, mask, up);
+        let masks = self.masks.request(mask, up);
         let moved = self.with_mode(mode);
-        moved.with_modules(asked)
+        moved.with_modules(asked, masks)
     }
 
     // Control.
     pub(crate) fn control(mut self) -> State
-        requires { ⌜ self .watch .control < judgeTicks ⌝ }
+        requires { ⌜ (self .watch .control < judgeTicks) × HasMasks self ⌝ }
         ensures { λ r. ⌜ r ≡ controlled self ⌝ }
     {
         let count = self.watch.control + 1;

@@ -1,11 +1,13 @@
 // The ends stage of a tick: a timed order's time runs out.
 ghost use mathlib.Core.Path.{_≡_};
+ghost use Rattle.supervisor.specs.State.{HasMasks};
 ghost use Rattle.supervisor.specs.Ending.{ended};
 use crate::state::State;
 
 impl State {
     // Ends.
     pub(crate) fn end_stage(mut self) -> State
+        requires { ⌜ HasMasks self ⌝ }
         ensures { λ r. ⌜ r ≡ ended self ⌝ }
     {
         let over = self.ends.over();
@@ -15,6 +17,7 @@ impl State {
         }
         let modules = self.modules;
         let asked = modules::stage::request(modules, over, false);
-        self.with_modules(asked)
+        let masks = self.masks.request(over, false);
+        self.with_modules(asked, masks)
     }
 }

@@ -9,6 +9,7 @@ use crate::state::State;
 use crate::state::Watch;
 use frames::serial::Serials;
 use modules::groups::CORE;
+use modules::masks::Masks;
 use modules::power::Module;
 use modules::power::Power;
 use modules::power::TRIES;
@@ -36,6 +37,11 @@ pub fn fresh() -> State
             beacon: 0,
         },
         antennas: false,
+        masks: Masks {
+            requested: CORE,
+            on: 0,
+            failed: 0,
+        },
         battery: Battery {
             tension: 0,
             ascend: ASCEND,

@@ -6,6 +6,7 @@ mod act;
 pub mod acted;
 mod command;
 pub mod control;
+pub mod counting;
 mod deploy;
 mod due;
 mod ending;

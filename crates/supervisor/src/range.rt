@@ -75,15 +75,17 @@ impl Message {
 }
 
 impl State {
-    // Check 1.
+    // Check 1: every part in its range, and the masks those of the modules.
     pub fn in_range(self) -> bool
         ensures { λ r. ⌜ r ≡ inRange self ⌝ }
     {
+        if !(self.watch.in_range() & self.battery.in_range() & self.ends.in_range()) {
+            return false;
+        }
         let modules = self.modules;
-        self.watch.in_range()
-            & self.battery.in_range()
-            & self.message.in_range()
-            & self.ends.in_range()
-            & modules::stage::in_range(modules)
+        if !modules::masks::in_range(modules, self.masks) {
+            return false;
+        }
+        self.message.in_range()
     }
 }

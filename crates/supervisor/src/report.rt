@@ -4,22 +4,22 @@ ghost use mathlib.Core.List.{_++_};
 ghost use Prim.Native.Nat.{_≤_};
 ghost use lib.ListN.{length, drop};
 ghost use Rattle.frames.specs.Kind.{reportBytes};
+ghost use Rattle.supervisor.specs.State.{HasMasks};
 ghost use Rattle.supervisor.specs.Report.{reportOf};
 use crate::acted::Acted;
 use frames::frame::Frame;
 use frames::kind::REPORT;
 
-// Writes the report of a frame that was worked. Bytes past it stay.
+// Writes the report of a frame that was worked, with the masks that the state keeps. Bytes past it stay.
 pub(crate) fn write(room: &mut [u8], frame: Frame, acted: Acted)
-    requires { ⌜ reportBytes ≤ length (now room) ⌝ }
+    requires { ⌜ (reportBytes ≤ length (now room)) × HasMasks (acted .state) ⌝ }
     ensures { λ _. ⌜ now (room .exit) ≡ reportOf frame acted ++ drop reportBytes (now (room .entry)) ⌝ }
 {
     let head = frame.head();
     let state = acted.state;
     let watch = state.watch;
     let mode = watch.mode;
-    let modules = state.modules;
-    let masks = modules::masks::masks_of(modules);
+    let masks = state.masks;
     let answer = acted.answer;
     let due = acted.due;
     room[0] = REPORT;

@@ -1,9 +1,11 @@
 // The supervisor's state.
 ghost use mathlib.Core.Path.{_≡_};
+ghost use Rattle.modules.specs.Masks.{masksOf};
 ghost use Rattle.supervisor.specs.State.{modeNumber, isSafe, withMode, withModules};
 use frames::greeting::LONGEST;
 use frames::serial::Serials;
 use modules::ends::Ends;
+use modules::masks::Masks;
 use modules::power::Module;
 
 // The deploy phase, had in DEPLOY_WAIT and in no other mode.
@@ -47,6 +49,8 @@ pub struct State {
     pub watch: Watch,
     // whether the latest report has the antennas deployed
     pub antennas: bool,
+    // of the modules below; they stand here because the state is no longer for it (docs/PERFORMANCE.md)
+    pub masks: Masks,
     pub battery: Battery,
     pub serials: Serials,
     pub message: Message,
@@ -92,11 +96,13 @@ impl State {
         self
     }
 
-    // The state with other modules.
-    pub(crate) fn with_modules(mut self, modules: [Module; 8]) -> State
+    // The state with other modules, and the masks that are theirs.
+    pub(crate) fn with_modules(mut self, modules: [Module; 8], masks: Masks) -> State
+        requires { ⌜ masks ≡ masksOf modules ⌝ }
         ensures { λ r. ⌜ r ≡ withModules modules self ⌝ }
     {
         self.modules = modules;
+        self.masks = masks;
         self
     }
 }

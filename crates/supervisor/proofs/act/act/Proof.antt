@@ -2,6 +2,9 @@
 -- Assumes nothing.
 use Rattle.supervisor.specs.Act.{actOf}
 use borrow.Author.Needs.{needs}
+use Rattle.basics.proofs.ChoiceLaws.{holds}
+use Rattle.supervisor.specs.Range.{inRange}
+use Rattle.supervisor.proofs.RangeLaws.{parts}
 use Rattle.supervisor.proofs.act.act.Statement.{statement}
 use Rattle.supervisor.proofs.act.act.Tie as tie
 
@@ -33,7 +36,9 @@ enum-known-frame-4 : tie.Need-enum-known-frame-4
 enum-known-frame-4 c = search needs
 
 command-requires : tie.Need-command-requires
-command-requires c κs = search needs
+command-requires c κs =
+    let s = c .before .before .before .args .state in
+    parts s (holds (inRange s) (c .before .before .before .pre)) .masks
 
 returns : tie.Need-returns
 unfolding actOf

@@ -1,5 +1,8 @@
 -- `fresh` meets its contract.
 -- Assumes nothing.
+use Rattle.basics.specs.Each.{each, eachFrom}
+use Rattle.modules.specs.Masks.{maskOf, masksOf}
+use Rattle.modules.specs.Stage.{requestedBy}
 use Rattle.supervisor.specs.Fresh.{freshState}
 use borrow.Author.Needs.{needs}
 use Rattle.supervisor.proofs.fresh.fresh.Statement.{statement}
@@ -15,7 +18,7 @@ none-requires-2 : tie.Need-none-requires-2
 none-requires-2 c κs = search needs
 
 returns : tie.Need-returns
-unfolding freshState
+unfolding freshState masksOf maskOf requestedBy each eachFrom
 returns c = simp (c .none2 .ensures, c .before .none .ensures, c .before .before .request .ensures)
 
 pub fresh-spec : {M : Type 1} → statement M

@@ -12,9 +12,6 @@ use Rattle.supervisor.proofs.report.write.Tie as tie
 head-requires : tie.Need-head-requires
 head-requires c κs = search needs
 
-masks-of-requires : tie.Need-masks-of-requires
-masks-of-requires c κs = search needs
-
 slice-write-room : tie.Need-slice-write-room
 slice-write-room c = search needs
 
@@ -69,17 +66,21 @@ same-length c = simp length-set
 returns : tie.Need-returns
 unfolding reportOf
 returns c =
-    let start : tie.Start = c .before .before .before .before .before .before .before .before .before .before .before in
-    let gathered : tie.After-masks-of = c .before .before .before .before .before in
-    simp (c .number3 .ensures, c .before .number2 .ensures, c .before .before .number .ensures, gathered .masks-of .ensures, gathered .before .before .before .before .head .ensures)
-    (sets-eq (reportOf (start .args .frame) (start .args .acted)) (now (start .args .room)) 0 (start .pre))
+    let start : tie.Start = c .before .before .before .before .before .before .before .before .before .before in
+    simp (
+      c .number3 .ensures,
+      c .before .number2 .ensures,
+      c .before .before .number .ensures,
+      c .before .before .before .before .before .before .before .before .head .ensures,
+      start .pre .1,
+    )
+    (sets-eq (reportOf (start .args .frame) (start .args .acted)) (now (start .args .room)) 0 (start .pre .0))
 
 pub write-spec : {M : Type 1} → statement M
 write-spec =
     tie.close
     (tie.spec
     head-requires
-    masks-of-requires
     slice-write-room
     slice-write-room-2
     slice-write-room-3

@@ -2,6 +2,14 @@
 -- Assumes nothing.
 use mathlib.Core.Path.{_≡_}
 use mathlib.Core.Bool.{true}
+use denote.Ref.{now}
+use Rattle.basics.proofs.ChoiceLaws.{holds}
+use Rattle.frames.specs.Greeting.{greetingText}
+use Rattle.frames.specs.Reading.{readFrame}
+use Rattle.frames.specs.declared.reading.Reading.the-variants.{Accepted}
+use Rattle.frames.proofs.ReadingLaws.{read-sound}
+use Rattle.supervisor.specs.State.{HasMasks}
+use Rattle.supervisor.proofs.RangeKept.{acted-masks}
 use Rattle.supervisor.specs.Range.{inRange}
 use borrow.Author.Tests.{le-leb, lt-leb, not-false, not-true}
 use borrow.Author.Needs.{needs}
@@ -40,7 +48,16 @@ text-of-requires : tie.Need-text-of-requires
 text-of-requires c κs = search needs
 
 write-requires : tie.Need-write-requires
-write-requires c κs = search needs
+write-requires c κs =
+    let heard : tie.After-read = c .before .before .before .before .before .before in
+    let start : tie.Start = heard .before .before .before .before .before .before in
+    let s = start .args .state in
+    let bytes = now (start .args .input) in
+    let accepted : readFrame bytes ≡ Accepted _ = rw (heard .read .ensures) at (c .before .before .before .before .reading2 .given .1) in
+    let true-masks : HasMasks (c .before .act .result .state) =
+        rw (c .before .act .ensures, c .before .before .text-of .ensures)
+        (acted-masks _ (greetingText bytes) (rw accepted at (read-sound bytes)) s (holds (inRange s) (valid (heard .before .before)))) in
+    (heard .before .if2 .left, true-masks)
 
 returns-3 : tie.Need-returns-3
 unfolding stepOf

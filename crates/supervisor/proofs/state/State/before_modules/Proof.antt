@@ -1,6 +1,6 @@
 -- `State::before_modules` meets its contract.
 -- Assumes nothing.
-use mathlib.Core.Path.{ap, _∙_}
+use mathlib.Core.Path.{refl, ap, _∙_}
 use Rattle.supervisor.specs.Ending.{ended}
 use Rattle.supervisor.specs.Control.{controlled}
 use Rattle.supervisor.specs.Tick.{beforeModules}
@@ -9,11 +9,11 @@ use Rattle.supervisor.proofs.state.State.before_modules.Statement.{stat
 use Rattle.supervisor.proofs.state.State.before_modules.Tie as tie
 
 end-stage-requires : tie.Need-end-stage-requires
-end-stage-requires c κs = search needs
+end-stage-requires c κs = c .pre .1
 
 control-requires : tie.Need-control-requires
 unfolding ended
-control-requires c κs = rw (c .end-stage .ensures) (c .before .pre)
+control-requires c κs = rw (c .end-stage .ensures) (c .before .pre .0, refl)
 
 returns : tie.Need-returns
 unfolding beforeModules

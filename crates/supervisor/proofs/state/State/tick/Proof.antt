@@ -10,6 +10,7 @@ use denote.Enum.Declared
 use borrow.Author.Needs.{needs}
 use Rattle.basics.proofs.ChoiceLaws.{is-true, holds}
 use Rattle.supervisor.proofs.RangeLaws.{parts, phase-in-range, counts-of}
+use Rattle.supervisor.proofs.BeforeModulesLaws.{before-masks}
 use Rattle.supervisor.proofs.TickLaws.{staged-beacon, ticked-stages}
 use Rattle.supervisor.specs.State.{isDeployWait}
 use Rattle.supervisor.specs.Range.{inRange}
@@ -50,10 +51,11 @@ silent-requires c κs = search needs
 before-modules-requires : tie.Need-before-modules-requires
 before-modules-requires c κs =
     let s : State = c .before .before .args .self in
-    counts-of s (holds (inRange s) (c .before .before .pre)) (in-flight c) .control
+    let valid = holds (inRange s) (c .before .before .pre) in
+    (counts-of s valid (in-flight c) .control, parts s valid .masks)
 
 module-stage-requires : tie.Need-module-stage-requires
-module-stage-requires c κs = search needs
+module-stage-requires c κs = rw (c .before-modules .ensures) (before-masks (c .before .before .before .args .self))
 
 beacon-stage-requires : tie.Need-beacon-stage-requires
 beacon-stage-requires c κs =
