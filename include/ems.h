@@ -17,9 +17,10 @@
  * modules then disagree, and the answer is EMS_BAD_STATE.
  *
  * What no call catches: an image whose write was interrupted halfway and that
- * happens to be a state in range, and any other bit flip that stays within the
- * ranges (in a serial, in a tension, in a module's tries or seconds). A caller that
- * keeps the image over a reset guards it (two copies and a checksum, say).
+ * happens to be a state in range; a bit flip elsewhere that stays within the ranges
+ * (in a serial, a tension, a module's tries or seconds); and flips of a module and
+ * of its masks that go together. A caller that keeps the image over a reset guards
+ * it (two copies and a checksum, say).
  */
 #ifndef EMS_H
 #define EMS_H
