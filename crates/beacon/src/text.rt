@@ -3,10 +3,10 @@ ghost use mathlib.Core.Path.{_≡_};
 ghost use mathlib.Core.List.{_∷_, _++_};
 ghost use Prim.Native.Nat.{_<_};
 ghost use Rattle.basics.specs.Bytes.{hexDigit, space};
+ghost use Rattle.supervisor.specs.State.{HasMasks};
 ghost use Rattle.beacon.specs.Text.{modeLetter, figure, hasText, formBytes};
 ghost use Rattle.beacon.specs.Text.{completeText, fullText};
 use frames::greeting::LONGEST;
-use modules::masks::masks_of;
 use supervisor::state::Mode;
 use supervisor::state::State;
 
@@ -86,15 +86,15 @@ fn digit(n: u8) -> u8
     if n < 10 { b'0' + n } else { b'A' + (n - 10) }
 }
 
-// The complete text of any state.
+// The complete text of a state, with the masks that it keeps.
 fn complete_text(state: State) -> [u8; COMPLETE_BYTES]
+    requires { ⌜ HasMasks state ⌝ }
     ensures { λ r. ⌜ r ≡ completeText state ⌝ }
 {
     let watch = state.watch;
     let mode = watch.mode;
     let tension = state.battery.tension;
-    let modules = state.modules;
-    let masks = masks_of(modules);
+    let masks = state.masks;
     [
         b'E',
         b'M',
@@ -125,8 +125,9 @@ fn greeted(complete: [u8; COMPLETE_BYTES], message: [u8; LONGEST]) -> [u8; MOST_
     all
 }
 
-// The complete text of any state, a space, and all bytes of its message.
+// The complete text of a state, a space, and all bytes of its message.
 pub(crate) fn full_text(state: State) -> [u8; MOST_BYTES]
+    requires { ⌜ HasMasks state ⌝ }
     ensures { λ r. ⌜ r ≡ fullText state ⌝ }
 {
     let complete = complete_text(state);

@@ -15,6 +15,7 @@ use Rattle.frames.specs.Answer.{answerNumber, isReported}
 use Rattle.frames.specs.declared.answer.Answer.{Answer}
 use Rattle.frames.specs.declared.answer.Answer.the-variants as answer
 use Rattle.supervisor.specs.Range.{inRange}
+use Rattle.supervisor.specs.Counting.{modulesOnOf}
 use Rattle.supervisor.specs.Step.{stepOf}
 use Rattle.supervisor.specs.History.{Call, called}
 use Rattle.supervisor.specs.declared.step.Stepped.{Stepped}
@@ -33,10 +34,24 @@ use Rattle.tracker.specs.Tracker.{trackNumber}
 use Rattle.tracker.specs.declared.Tracked.{Tracked}
 use Rattle.flight.specs.Saving.{saved}
 use Rattle.flight.specs.Loading.{hasLayout, decoded, loaded}
-use Rattle.flight.specs.Calls.{imaged, badState, steppedTo, stepImage, passedTo, passImage, beaconImage, replied, ReadReplied}
+use Rattle.flight.specs.Calls.{imaged, badState, steppedTo, stepImage, passedTo, passImage, modulesOnReply, modulesOnImage, beaconImage}
+use Rattle.flight.specs.Calls.{replied, ReadReplied}
 use Rattle.flight.specs.Calls.{tracks, trackedTo}
 use Rattle.flight.proofs.FieldsLaws.{AllBytes}
 use Rattle.flight.proofs.LoadingLaws.{layout, saved-decoded}
+
+-- counting asks for no room
+pub count-foreign : (image : List ℕ) → hasLayout image ≡ false → reply badState 0 ≡ modulesOnImage image
+unfolding modulesOnImage loaded
+count-foreign image other = simp other
+
+pub count-worked : (image : List ℕ) → hasLayout image ≡ true → (s : State) → s ≡ decoded image → modulesOnReply (modulesOnOf s) ≡ modulesOnImage image
+unfolding modulesOnImage modulesOnOf loaded
+count-worked image own s says = by-range (inRange s) refl
+  where
+    by-range : (t : Bool) → inRange s ≡ t → modulesOnReply (modulesOnOf s) ≡ modulesOnImage image
+    by-range true e = simp (own, sym says, e)
+    by-range false e = simp (own, sym says, e)
 
 -- bytes of another layout
 module _ (image room : List ℕ) (other : hasLayout image ≡ false) where

@@ -25,14 +25,14 @@ use Rattle.supervisor.proofs.RangeLaws.{parts}
 use Rattle.supervisor.proofs.ModuleLaws.{Eight}
 use Rattle.flight.specs.Fields.{pairBytes, pairAt, quadAt}
 use Rattle.flight.specs.Codes.{moduleCode, moduleFrom}
-use Rattle.flight.specs.Saving.{imageBytes, layoutVersion, messagePlace, textPlace, endsPlace, modulesPlace}
-use Rattle.flight.specs.Saving.{messageBytes, endsBytes, modulesBytes, headBytes, saved}
-use Rattle.flight.specs.Loading.{hasLayout, blank, messageIn, endsIn, modulesIn, decoded}
+use Rattle.flight.specs.Saving.{imageBytes, layoutVersion, messagePlace, textPlace, endsPlace, masksPlace, modulesPlace}
+use Rattle.flight.specs.Saving.{messageBytes, endsBytes, masksBytes, modulesBytes, headBytes, saved}
+use Rattle.flight.specs.Loading.{hasLayout, blank, messageIn, endsIn, masksIn, modulesIn, decoded}
 use Rattle.flight.proofs.FieldsLaws.{AllBytes, flag-back, pair-back, triple-back, quad-back, flag-stored}
 use Rattle.flight.proofs.FieldsLaws.{pair-small, pair-low, pair-high, triple-low, triple-middle, triple-high}
 use Rattle.flight.proofs.FieldsLaws.{quad-first, quad-second, quad-third, quad-fourth}
 use Rattle.flight.proofs.CodesLaws.{mode-code, mode-back, module-code, module-back}
-use Rattle.flight.proofs.SavingLaws.{mode-in-range, sixteen, frontBytes, length-front, length-ends}
+use Rattle.flight.proofs.SavingLaws.{mode-in-range, sixteen, frontBytes, beforeModulesBytes, length-front, length-ends, length-masks}
 
 module _ (bytes : List ℕ) where
   length-in : length (modulesIn bytes) ≡ moduleCount
@@ -62,26 +62,37 @@ module-of (m ∷ ms) (suc i) h r =
     ∙ module-of ms i (le-of-suc-le-suc h) (and-right (powerInRange (m .power)) (modulesInRange ms) r)
 
 module _ (s : State) (e : inRange s ≡ true) where
-  abbrev front : List ℕ
-  front = frontBytes s ++ endsBytes (s .ends)
-
   modules-back : Eight s → modulesIn (saved s) ≡ s .modules
   unfolding saved
   modules-back eight =
       let n = length-in (saved s) in
       ext-getD blank (modulesIn (saved s)) (s .modules) (n ∙ sym eight)
       (λ i h. module-in (saved s) i (omega arith)
-      ∙ ap (λ at. moduleFrom (pairAt (at + 2 * i) (saved s))) (sym (length-ends s e))
-      ∙ ap moduleFrom (pair-shift front (modulesBytes (s .modules)) (2 * i))
+      ∙ ap (λ at. moduleFrom (pairAt (at + 2 * i) (saved s))) (sym (length-masks s e))
+      ∙ ap moduleFrom (pair-shift (beforeModulesBytes s) (modulesBytes (s .modules)) (2 * i))
       ∙ module-of (s .modules) i (omega arith) (parts s (holds (inRange s) e) .modules))
 
+  -- the mask that stands k past the first
+  mask-back : (k : ℕ) → byteAt (masksPlace + k) (saved s) ≡ byteAt k (masksBytes (s .masks) ++ modulesBytes (s .modules))
+  unfolding saved
+  mask-back k =
+      ap (λ at. byteAt (at + k) (saved s)) (sym (length-ends s e))
+      ∙ ap (byteAt (length (frontBytes s ++ endsBytes (s .ends)) + k)) (append-assoc (frontBytes s ++ endsBytes (s .ends)) (masksBytes (s .masks)) (modulesBytes (s .modules)))
+      ∙ getD-append-add (frontBytes s ++ endsBytes (s .ends)) (masksBytes (s .masks) ++ modulesBytes (s .modules)) k 0
+
+  masks-back : masksIn (saved s) ≡ s .masks
+  unfolding masksIn masksBytes
+  masks-back = simp (mask-back 0, mask-back 1, mask-back 2)
+
   -- the end whose bytes stand k past the first's
-  end-back : (k : ℕ) → quadAt (endsPlace + k) (saved s) ≡ quadAt k (endsBytes (s .ends) ++ modulesBytes (s .modules))
+  end-back : (k : ℕ) → quadAt (endsPlace + k) (saved s) ≡ quadAt k (endsBytes (s .ends) ++ (masksBytes (s .masks) ++ modulesBytes (s .modules)))
   unfolding saved
   end-back k =
+      let rest = masksBytes (s .masks) ++ modulesBytes (s .modules) in
       ap (λ at. quadAt (at + k) (saved s)) (sym (length-front s e))
-      ∙ ap (quadAt (length (frontBytes s) + k)) (append-assoc (frontBytes s) (endsBytes (s .ends)) (modulesBytes (s .modules)))
-      ∙ quad-shift (frontBytes s) (endsBytes (s .ends) ++ modulesBytes (s .modules)) k
+      ∙ ap (quadAt (length (frontBytes s) + k))
+      (append-assoc (frontBytes s ++ endsBytes (s .ends)) (masksBytes (s .masks)) (modulesBytes (s .modules)) ∙ append-assoc (frontBytes s) (endsBytes (s .ends)) rest)
+      ∙ quad-shift (frontBytes s) (endsBytes (s .ends) ++ rest) k
 
   ends-back : endsIn (saved s) ≡ s .ends
   unfolding endsIn endsBytes
@@ -92,15 +103,19 @@ module _ (s : State) (e : inRange s ≡ true) where
   message-back =
       let text = s .message .text in
       let ends = endsBytes (s .ends) in
+      let masks = masksBytes (s .masks) in
       let long : longestGreeting ≤ length (text ++ ends) = rw (length-append text ends) (omega (arith, sixteen s e)) in
+      let longer : longestGreeting ≤ length (text ++ ends ++ masks) = rw (length-append (text ++ ends) masks) (omega (arith, long)) in
       let back : take longestGreeting (drop textPlace (saved s)) ≡ text =
-      take-append-le longestGreeting (text ++ ends) (modulesBytes (s .modules)) long ∙ take-at text ends longestGreeting (sixteen s e) in
+      take-append-le longestGreeting (text ++ ends ++ masks) (modulesBytes (s .modules)) longer
+      ∙ take-append-le longestGreeting (text ++ ends) masks long
+      ∙ take-at text ends longestGreeting (sixteen s e) in
       simp back
 
   pub decoded-saved : Eight s → decoded (saved s) ≡ s
   unfolding decoded saved headBytes
   decoded-saved eight =
-      simp (modules-back eight, ends-back, message-back, pair-back, triple-back, flag-back, mode-back (s .watch .mode) (mode-in-range s e))
+      simp (modules-back eight, masks-back, ends-back, message-back, pair-back, triple-back, flag-back, mode-back (s .watch .mode) (mode-in-range s e))
 
 -- what the fields of an image say saves to that image
 
@@ -153,6 +168,10 @@ module _ (bytes : List ℕ) (small : AllBytes bytes) where
   unfolding endsBytes endsIn listed
   ends-stored = simp (quad-first bytes small, quad-second bytes small, quad-third bytes small, quad-fourth bytes small)
 
+  masks-stored : masksBytes (masksIn bytes) ≡ listed 3 masksPlace bytes
+  unfolding masksBytes masksIn listed
+  masks-stored = refl
+
   modules-stored :
       (n k : ℕ) →
       modulesBytes (eachFrom (λ i m. moduleFrom (pairAt (modulesPlace + 2 * i) bytes)) k (replicate n blank)) ≡ listed (2 * n) (modulesPlace + 2 * k) bytes
@@ -170,4 +189,4 @@ module _ (bytes : List ℕ) (small : AllBytes bytes) where
   saved-decoded l =
       let size = l .size in
       let whole : bytes ≡ listed imageBytes 0 bytes = sym (take-all imageBytes bytes (omega arith)) ∙ part-listed imageBytes 0 bytes (omega arith) in
-      rw (head-stored l, message-stored l, ends-stored, modules-stored moduleCount 0) (sym whole)
+      rw (head-stored l, message-stored l, ends-stored, masks-stored, modules-stored moduleCount 0) (sym whole)

@@ -18,6 +18,8 @@ use Rattle.flight.proofs.calls.ems_beacon_complete as ems-beacon-comple
 use Rattle.flight.proofs.calls.ems_beacon_complete.Reads as ems-beacon-complete-reads
 use Rattle.flight.proofs.calls.ems_beacon_extended as ems-beacon-extended
 use Rattle.flight.proofs.calls.ems_beacon_extended.Reads as ems-beacon-extended-reads
+use Rattle.flight.proofs.calls.ems_modules_on as ems-modules-on
+use Rattle.flight.proofs.calls.ems_modules_on.Reads as ems-modules-on-reads
 use Rattle.flight.proofs.calls.ems_key as ems-key
 use Rattle.flight.proofs.calls.ems_key.Reads as ems-key-reads
 use Rattle.flight.proofs.calls.ems_read as ems-read
@@ -64,6 +66,10 @@ ems-beacon-extended-one =
       taken = λ κs a. tt;
       one = λ κs a x y p q i. ((p ∙ sym q) i .result .number, (tt, ((p ∙ sym q) i .room, ((p ∙ sym q) i .result .count, tt))));
     }
+
+pub ems-modules-on-one : OneOutcome ems-modules-on.ended ems-modules-on-reads.Asked ems-modules-on-reads.Learnt
+ems-modules-on-one =
+    record { taken = λ κs a. tt; one = λ κs a x y p q i. ((p ∙ sym q) i .number, (tt, ((p ∙ sym q) i .count, tt))) }
 
 pub ems-key-one : OneOutcome ems-key.ended ems-key-reads.Asked ems-key-reads.Learnt
 ems-key-one =

@@ -26,8 +26,8 @@ use Rattle.supervisor.proofs.RangeLaws.{parts, phase-in-range}
 use Rattle.supervisor.proofs.MessageLaws.{message-fair}
 use Rattle.flight.specs.Fields.{pairBytes}
 use Rattle.flight.specs.Codes.{safeCode, modeCode, moduleCode}
-use Rattle.flight.specs.Saving.{imageBytes, messagePlace, endsPlace, modulesPlace}
-use Rattle.flight.specs.Saving.{messageBytes, endsBytes, modulesBytes, headBytes, saved}
+use Rattle.flight.specs.Saving.{imageBytes, messagePlace, endsPlace, masksPlace, modulesPlace}
+use Rattle.flight.specs.Saving.{messageBytes, endsBytes, masksBytes, modulesBytes, headBytes, saved}
 use Rattle.flight.proofs.CodesLaws.{modeInRange, mode-small}
 
 -- two bytes a module
@@ -48,15 +48,23 @@ pub length-front : (s : State) → inRange s ≡ true → length (frontBytes s) 
 unfolding headBytes messageBytes
 length-front s e = omega (arith, sixteen s e)
 
-pub length-ends : (s : State) → inRange s ≡ true → length (frontBytes s ++ endsBytes (s .ends)) ≡ modulesPlace
+pub length-ends : (s : State) → inRange s ≡ true → length (frontBytes s ++ endsBytes (s .ends)) ≡ masksPlace
 unfolding endsBytes
 length-ends s e = length-append (frontBytes s) (endsBytes (s .ends)) ∙ rw (length-front s e)
+
+-- all but the modules
+abbrev pub beforeModulesBytes : State → List ℕ
+beforeModulesBytes s = frontBytes s ++ endsBytes (s .ends) ++ masksBytes (s .masks)
+
+pub length-masks : (s : State) → inRange s ≡ true → length (beforeModulesBytes s) ≡ modulesPlace
+unfolding masksBytes
+length-masks s e = length-append (frontBytes s ++ endsBytes (s .ends)) (masksBytes (s .masks)) ∙ rw (length-ends s e)
 
 pub length-saved : (s : State) → inRange s ≡ true → Eight s → length (saved s) ≡ imageBytes
 unfolding saved
 length-saved s e eight =
-    length-append (frontBytes s ++ endsBytes (s .ends)) (modulesBytes (s .modules))
-    ∙ rw (length-ends s e, length-modules (s .modules), eight)
+    length-append (beforeModulesBytes s) (modulesBytes (s .modules))
+    ∙ rw (length-masks s e, length-modules (s .modules), eight)
 
 -- of a state in range, the mode and each module are in range
 
@@ -103,24 +111,28 @@ text-stored room text at h =
 from-start : {n m : ℕ} → n ≡ m → n ≡ 0 + m
 from-start e = omega (arith, e)
 
--- the message, the ends and the modules after a head that was copied
+-- the message, the ends, the masks and the modules after a head that was copied
 pub stored-state :
     (s : State) (head room : List ℕ) → head ≡ headBytes s → inRange s ≡ true → Eight s → length room ≡ imageBytes →
-    sets (sets (sets (take (length head) head ++ drop (length head) room) messagePlace (messageBytes (s .message))) endsPlace (endsBytes (s .ends))) modulesPlace
-    (modulesBytes (s .modules)) ≡ saved s
+    sets
+    (sets (sets (sets (take (length head) head ++ drop (length head) room) messagePlace (messageBytes (s .message))) endsPlace (endsBytes (s .ends))) masksPlace
+    (masksBytes (s .masks))) modulesPlace (modulesBytes (s .modules)) ≡ saved s
 unfolding saved headBytes
 stored-state s head room e valid eight fits =
     let n = length-saved s valid eight in
     let message = messageBytes (s .message) in
     let ends = endsBytes (s .ends) in
+    let masks = masksBytes (s .masks) in
     let modules = modulesBytes (s .modules) in
     rw (take-length head, e)
-    (ap (λ r. sets (sets (sets r messagePlace message) endsPlace ends) modulesPlace modules) (sym (sets-front (headBytes s) room (omega arith)))
-    ∙ ap (λ r. sets (sets r endsPlace ends) modulesPlace modules) (sym (sets-append (headBytes s) message room 0))
-    ∙ ap (λ at. sets (sets (sets room 0 (frontBytes s)) at ends) modulesPlace modules) (from-start (sym (length-front s valid)))
-    ∙ ap (λ r. sets r modulesPlace modules) (sym (sets-append (frontBytes s) ends room 0))
-    ∙ ap (λ at. sets (sets room 0 (frontBytes s ++ ends)) at modules) (from-start (sym (length-ends s valid)))
-    ∙ sym (sets-append (frontBytes s ++ ends) modules room 0)
+    (ap (λ r. sets (sets (sets (sets r messagePlace message) endsPlace ends) masksPlace masks) modulesPlace modules) (sym (sets-front (headBytes s) room (omega arith)))
+    ∙ ap (λ r. sets (sets (sets r endsPlace ends) masksPlace masks) modulesPlace modules) (sym (sets-append (headBytes s) message room 0))
+    ∙ ap (λ at. sets (sets (sets (sets room 0 (frontBytes s)) at ends) masksPlace masks) modulesPlace modules) (from-start (sym (length-front s valid)))
+    ∙ ap (λ r. sets (sets r masksPlace masks) modulesPlace modules) (sym (sets-append (frontBytes s) ends room 0))
+    ∙ ap (λ at. sets (sets (sets room 0 (frontBytes s ++ ends)) at masks) modulesPlace modules) (from-start (sym (length-ends s valid)))
+    ∙ ap (λ r. sets r modulesPlace modules) (sym (sets-append (frontBytes s ++ ends) masks room 0))
+    ∙ ap (λ at. sets (sets room 0 (beforeModulesBytes s)) at modules) (from-start (sym (length-masks s valid)))
+    ∙ sym (sets-append (beforeModulesBytes s) modules room 0)
     ∙ sets-front (saved s) room (omega arith)
     ∙ ap (λ l. saved s ++ l) (drop-of-length-le room {i = length (saved s)} (omega arith))
     ∙ append-nil (saved s))

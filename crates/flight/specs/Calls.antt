@@ -15,6 +15,8 @@ use Rattle.frames.specs.Answer.{answerNumber}
 use Rattle.frames.specs.declared.answer.Answer.the-variants as answer
 use Rattle.supervisor.specs.Fresh.{freshState}
 use Rattle.supervisor.specs.Step.{stepOf}
+use Rattle.supervisor.specs.Counting.{modulesOnOf}
+use Rattle.supervisor.specs.declared.counting.ModulesOn.{ModulesOn}
 use Rattle.supervisor.specs.declared.state.State.{State}
 use Rattle.supervisor.specs.declared.step.Stepped.{Stepped}
 use Rattle.pass.specs.Pass.{passOf}
@@ -41,7 +43,7 @@ imaged answer image = record { answer = answer; image = image }
 abbrev pub badState : ℕ
 badState = answerNumber answer.BadState
 
--- the image of the fresh start, into 68 bytes
+-- the image of the fresh start, into 71 bytes
 unfoldable pub freshImage : (image : List ℕ) → Imaged ℕ
 freshImage image =
     if eqb (length image) imageBytes then imaged (answerNumber answer.Done) (saved freshState)
@@ -74,6 +76,19 @@ passLoaded (some s) image frames room = passedTo (passOf s frames room)
 -- a pass from an image
 unfoldable pub passImage : (image frames room : List ℕ) → Outcome (Imaged Reply)
 passImage image frames room = passLoaded (loaded image) image frames room
+
+-- how many modules are on, in the page's terms
+abbrev pub modulesOnReply : ModulesOn → Reply
+modulesOnReply on = reply (answerNumber (on .answer)) (on .count)
+
+-- how many are on in what was loaded; where that is nothing, 1 and none
+abbrev pub modulesOnLoaded : Option State → Reply
+modulesOnLoaded none = reply badState 0
+modulesOnLoaded (some s) = modulesOnReply (modulesOnOf s)
+
+-- how many are on in an image
+unfoldable pub modulesOnImage : (image : List ℕ) → Reply
+modulesOnImage image = modulesOnLoaded (loaded image)
 
 -- the beacon's text of what was loaded; where that is nothing, the room stays
 abbrev pub beaconLoaded : Form → Option State → (room : List ℕ) → Outcome Written

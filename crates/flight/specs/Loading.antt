@@ -11,6 +11,7 @@ use Rattle.basics.specs.Each.{each}
 use Rattle.modules.specs.Groups.{moduleCount}
 use Rattle.modules.specs.declared.ends.Ends.{Ends}
 use Rattle.modules.specs.declared.power.Power.the-variants.{On}
+use Rattle.modules.specs.declared.masks.Masks.{Masks}
 use Rattle.modules.specs.declared.power.Module.{Module}
 use Rattle.frames.specs.Greeting.{longestGreeting}
 use Rattle.frames.specs.Reading.{byteAt}
@@ -19,7 +20,7 @@ use Rattle.supervisor.specs.declared.state.Message.{Message}
 use Rattle.supervisor.specs.declared.state.State.{State}
 use Rattle.flight.specs.Fields.{pairAt, tripleAt, quadAt}
 use Rattle.flight.specs.Codes.{modeFrom, moduleFrom}
-use Rattle.flight.specs.Saving.{imageBytes, layoutVersion, messagePlace, textPlace, endsPlace, modulesPlace}
+use Rattle.flight.specs.Saving.{imageBytes, layoutVersion, messagePlace, textPlace, endsPlace, masksPlace, modulesPlace}
 
 -- the length, the version, and antennas that are 0 or 1
 unfoldable pub hasLayout : List ℕ → Bool
@@ -45,11 +46,20 @@ endsIn bytes =
       sband2 = quadAt (endsPlace + 12) bytes;
     }
 
+-- the masks
+unfoldable pub masksIn : List ℕ → Masks
+masksIn bytes =
+    record {
+      requested = byteAt masksPlace bytes;
+      on = byteAt (masksPlace + 1) bytes;
+      failed = byteAt (masksPlace + 2) bytes;
+    }
+
 -- a module that stands for none
 abbrev pub blank : Module
 blank = record { power = On 0 0; requested = false }
 
--- module i stands at 52 + 2 i
+-- module i stands at 55 + 2 i
 unfoldable pub modulesIn : List ℕ → List Module
 modulesIn bytes = each (λ i m. moduleFrom (pairAt (modulesPlace + 2 * i) bytes)) (replicate moduleCount blank)
 
@@ -60,6 +70,7 @@ decoded bytes =
       watch =
           record { mode = modeFrom (tripleAt 1 bytes); control = byteAt 4 bytes; beacon = pairAt 5 bytes };
       antennas = eqb (byteAt 7 bytes) 1;
+      masks = masksIn bytes;
       battery = record { tension = pairAt 8 bytes; ascend = pairAt 10 bytes; descend = pairAt 12 bytes };
       serials = record { ground = pairAt 14 bytes; payload = pairAt 16 bytes };
       message = messageIn bytes;

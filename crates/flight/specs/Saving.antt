@@ -1,8 +1,9 @@
--- The state as an image of 68 bytes.
+-- The state as an image of 71 bytes.
 -- Assumes nothing.
 use Prim.Native.Nat.{ℕ}
 use mathlib.Core.List.{List, [], _∷_, _++_}
 use Rattle.modules.specs.declared.ends.Ends.{Ends}
+use Rattle.modules.specs.declared.masks.Masks.{Masks}
 use Rattle.modules.specs.declared.power.Module.{Module}
 use Rattle.supervisor.specs.declared.state.Message.{Message}
 use Rattle.supervisor.specs.declared.state.State.{State}
@@ -11,11 +12,11 @@ use Rattle.flight.specs.Codes.{modeCode, moduleCode}
 
 -- byte 0: the version of the layout
 abbrev pub layoutVersion : ℕ
-layoutVersion = 5
+layoutVersion = 6
 
 -- the bytes of an image
 abbrev pub imageBytes : ℕ
-imageBytes = 68
+imageBytes = 71
 
 -- the message stands from here on: repeats, length, and its sixteen text bytes
 abbrev pub messagePlace : ℕ
@@ -29,14 +30,22 @@ textPlace = 20
 abbrev pub endsPlace : ℕ
 endsPlace = 36
 
+-- the masks stand from here on: requested, on, failed
+abbrev pub masksPlace : ℕ
+masksPlace = 52
+
 -- the modules stand from here on, two bytes each
 abbrev pub modulesPlace : ℕ
-modulesPlace = 52
+modulesPlace = 55
 
 -- the modules, one after another
 unfoldable pub modulesBytes : List Module → List ℕ
 modulesBytes [] = []
 modulesBytes (m ∷ ms) = pairBytes (moduleCode m) ++ modulesBytes ms
+
+-- the masks: requested, on, failed
+unfoldable pub masksBytes : Masks → List ℕ
+masksBytes masks = masks .requested ∷ masks .on ∷ masks .failed ∷ []
 
 -- the ends of ADCS, PAYLOAD, SBAND1, SBAND2
 unfoldable pub endsBytes : Ends → List ℕ
@@ -59,4 +68,5 @@ headBytes s =
 
 -- the image of a state
 unfoldable pub saved : State → List ℕ
-saved s = headBytes s ++ messageBytes (s .message) ++ endsBytes (s .ends) ++ modulesBytes (s .modules)
+saved s =
+    headBytes s ++ messageBytes (s .message) ++ endsBytes (s .ends) ++ masksBytes (s .masks) ++ modulesBytes (s .modules)

@@ -1,4 +1,4 @@
-// What C and Rust call. An image is the caller's: 68 bytes, the whole state.
+// What C and Rust call. An image is the caller's: 71 bytes, the whole state.
 // A slice passes as a pointer and a length, a count through a pointer; each call answers the page's number.
 ghost use mathlib.Core.Path.{_≡_};
 ghost use Rattle.basics.specs.Outcome.{outcome, reply};
@@ -6,7 +6,7 @@ ghost use Rattle.morse.specs.Keying.{keyReply, keyOf};
 ghost use Rattle.beacon.specs.Writing.{writtenReply};
 ghost use Rattle.beacon.specs.declared.text.Form.the-variants as form;
 ghost use Rattle.flight.specs.Calls.{imaged, freshImage, stepImage, passImage};
-ghost use Rattle.flight.specs.Calls.{beaconImage, replied, ReadReplied, tracks, tracksOf};
+ghost use Rattle.flight.specs.Calls.{modulesOnImage, beaconImage, replied, ReadReplied, tracks, tracksOf};
 use crate::loading::decode;
 use crate::loading::has_layout;
 use crate::saving::IMAGE_BYTES;
@@ -70,6 +70,22 @@ pub extern "C" fn ems_pass(
     if 0 < passed.reported {
         save(passed.state, image);
     }
+    answer.number()
+}
+
+// Tells how many modules are on in an image's state.
+#[no_mangle]
+pub extern "C" fn ems_modules_on(image: &[u8], count: &mut usize) -> u8
+    ensures { λ r. ⌜ reply r (now (count .exit)) ≡ modulesOnImage (now (image .entry)) ⌝ }
+{
+    if !has_layout(image) {
+        *count = 0;
+        return Answer::BadState.number();
+    }
+    let state = decode(image);
+    let on = supervisor::counting::modules_on(state);
+    let answer = on.answer;
+    *count = on.count as usize;
     answer.number()
 }
 

@@ -10,6 +10,7 @@ use crate::fields::pair_at;
 use crate::fields::quad_at;
 use crate::saving::ENDS_PLACE;
 use crate::saving::IMAGE_BYTES;
+use crate::saving::MASKS_PLACE;
 use crate::saving::MESSAGE_PLACE;
 use crate::saving::MODULE_COUNT;
 use crate::saving::MODULES_PLACE;
@@ -18,6 +19,7 @@ use crate::saving::VERSION;
 use frames::greeting::LONGEST;
 use frames::serial::Serials;
 use modules::ends::Ends;
+use modules::masks::Masks;
 use modules::power::Module;
 use modules::power::Power;
 use supervisor::state::Battery;
@@ -100,6 +102,11 @@ pub(crate) fn decode(image: &[u8]) -> State
             beacon: pair_at(image, 5),
         },
         antennas: image[7] == 1,
+        masks: Masks {
+            requested: image[MASKS_PLACE],
+            on: image[MASKS_PLACE + 1],
+            failed: image[MASKS_PLACE + 2],
+        },
         battery: Battery {
             tension: pair_at(image, 8),
             ascend: pair_at(image, 10),

@@ -1,4 +1,4 @@
-// The state as an image of 68 bytes: saved.
+// The state as an image of 71 bytes: saved.
 ghost use mathlib.Core.Path.{_≡_};
 ghost use mathlib.Core.Bool.{true};
 ghost use Prim.Native.Nat.{_+_, _≤_};
@@ -7,21 +7,22 @@ ghost use lib.Seq.{sets};
 ghost use Rattle.modules.specs.Stage.{modulesInRange};
 ghost use Rattle.supervisor.specs.Range.{inRange};
 ghost use Rattle.flight.specs.Fields.{pairBytes, quadBytes};
-ghost use Rattle.flight.specs.Saving.{imageBytes, messagePlace, endsPlace, modulesPlace};
-ghost use Rattle.flight.specs.Saving.{headBytes, messageBytes, endsBytes, modulesBytes, saved};
+ghost use Rattle.flight.specs.Saving.{imageBytes, messagePlace, endsPlace, masksPlace, modulesPlace};
+ghost use Rattle.flight.specs.Saving.{headBytes, messageBytes, endsBytes, masksBytes, modulesBytes, saved};
 use crate::codes::mode_code;
 use crate::codes::module_code;
 use crate::fields::flag;
 use modules::ends::Ends;
+use modules::masks::Masks;
 use modules::power::Module;
 use supervisor::state::Message;
 use supervisor::state::State;
 
 // The version of the layout: an image of other software has another.
-pub(crate) const VERSION: u8 = 5;
+pub(crate) const VERSION: u8 = 6;
 
 // The bytes of an image.
-pub(crate) const IMAGE_BYTES: usize = 68;
+pub(crate) const IMAGE_BYTES: usize = 71;
 
 // The message stands from here on: repeats, length, text.
 pub(crate) const MESSAGE_PLACE: usize = 18;
@@ -32,13 +33,16 @@ pub(crate) const TEXT_PLACE: usize = 20;
 // The ends stand from here on, four bytes each.
 pub(crate) const ENDS_PLACE: usize = 36;
 
+// The masks stand from here on: requested, on, failed.
+pub(crate) const MASKS_PLACE: usize = 52;
+
 // The modules stand from here on, two bytes each.
-pub(crate) const MODULES_PLACE: usize = 52;
+pub(crate) const MODULES_PLACE: usize = 55;
 
 // How many modules there are.
 pub(crate) const MODULE_COUNT: usize = 8;
 
-// All but the message, the ends and the modules.
+// All but the message, the ends, the masks and the modules.
 fn head(state: State) -> [u8; MESSAGE_PLACE]
     requires { ⌜ inRange state ≡ true ⌝ }
     ensures { λ r. ⌜ r ≡ headBytes state ⌝ }
@@ -112,6 +116,16 @@ fn put_ends(ends: Ends, image: &mut [u8])
     put_quad(image, ENDS_PLACE + 12, ends.sband2);
 }
 
+// Stores the three masks.
+fn put_masks(masks: Masks, image: &mut [u8])
+    requires { ⌜ length (now image) ≡ imageBytes ⌝ }
+    ensures { λ _. ⌜ now (image .exit) ≡ sets (now (image .entry)) masksPlace (masksBytes masks) ⌝ }
+{
+    image[MASKS_PLACE] = masks.requested;
+    image[MASKS_PLACE + 1] = masks.on;
+    image[MASKS_PLACE + 2] = masks.failed;
+}
+
 // Stores the eight modules. The loop goes by the image's length, which the compiler does not know: it stays one.
 fn put_modules(modules: [Module; MODULE_COUNT], image: &mut [u8])
     requires { ⌜ (length (now image) ≡ imageBytes) × (modulesInRange modules ≡ true) ⌝ }
@@ -138,5 +152,6 @@ pub(crate) fn save(state: State, image: &mut [u8])
     bytes::copy(&front, image);
     put_message(state.message, image);
     put_ends(state.ends, image);
+    put_masks(state.masks, image);
     put_modules(modules, image);
 }

@@ -8,7 +8,6 @@ use frames::kind::REPORT_BYTES;
 use frames::kind::TICK;
 use frames::sender::Origin;
 use libc::STDOUT_FILENO;
-use modules::masks::masks_of;
 use morse::Keyed;
 use morse::MOST_UNITS;
 use supervisor::fresh::fresh;
@@ -148,9 +147,8 @@ fn say_units(text: &[u8]) {
 
 // Writes whether COMM2 is on.
 fn say_comm2(state: State) {
-    let modules = state.modules;
-    let masks = masks_of(modules);
-    if (masks.on >> COMM2) % 2 == 1 {
+    let on = state.masks.on;
+    if (on >> COMM2) % 2 == 1 {
         say(b"on");
     } else {
         say(b"off");

@@ -4,9 +4,6 @@ use Rattle.beacon.specs.Text.{basicText, completeText}
 use Rattle.beacon.proofs.text.complete_text.Statement.{statement}
 use Rattle.beacon.proofs.text.complete_text.Tie as tie
 
-masks-of-requires : tie.Need-masks-of-requires
-masks-of-requires c κs = search needs
-
 letter-requires : tie.Need-letter-requires
 letter-requires c κs = search needs
 
@@ -38,7 +35,7 @@ returns : tie.Need-returns
 unfolding basicText completeText
 returns c =
     let figures = c .before .before .before .before .before .before .before .before in
-    let called = figures .before .before .before .before .before in
+    let start : tie.Start = figures .before .before .before .before .before .before .before in
     simp (
       c .digit4 .ensures,
       c .before .before .digit3 .ensures,
@@ -49,14 +46,13 @@ returns c =
       figures .before .before .figure2 .ensures,
       figures .before .before .before .figure .ensures,
       figures .before .before .before .before .letter .ensures,
-      called .masks-of .ensures,
+      start .pre,
     )
 
 pub complete-text-spec : {M : Type 1} → statement M
 complete-text-spec =
     tie.close
     (tie.spec
-    masks-of-requires
     letter-requires
     figure-requires
     figure-requires-2

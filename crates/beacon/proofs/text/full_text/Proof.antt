@@ -4,7 +4,7 @@ use Rattle.beacon.proofs.text.full_text.Statement.{statement}
 use Rattle.beacon.proofs.text.full_text.Tie as tie
 
 complete-text-requires : tie.Need-complete-text-requires
-complete-text-requires c κs = search needs
+complete-text-requires c κs = c .pre
 
 greeted-requires : tie.Need-greeted-requires
 greeted-requires c κs = search needs

@@ -7,6 +7,7 @@ use lib.ListN.{take}
 use borrow.Author.Tests.{not-true, not-false}
 use Rattle.basics.proofs.ChoiceLaws.{holds}
 use Rattle.supervisor.specs.Range.{inRange}
+use Rattle.supervisor.proofs.RangeLaws.{parts}
 use Rattle.supervisor.proofs.MessageLaws.{message-fair}
 use Rattle.beacon.specs.Text.{fullText, hasText, formBytes}
 use Rattle.beacon.proofs.TextLaws.{form-most, text-length, text-front}
@@ -48,7 +49,10 @@ returns-3 c =
     beacon-short _ _ _ e (told test) (omega (arith, text-length (a .state) (message-fair (a .state) (holds _ e)) (a .form), c .before .bytes .ensures))
 
 full-text-requires : tie.Need-full-text-requires
-full-text-requires c κs = search needs
+full-text-requires c κs =
+    let tested = c .before .before .before .before in
+    let s = tested .before .before .before .args .state in
+    parts s (holds _ (valid tested)) .masks
 
 sub-copy : tie.Need-sub-copy
 sub-copy c = search needs

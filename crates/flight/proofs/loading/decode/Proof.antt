@@ -1,6 +1,6 @@
 -- `flight::loading::decode` meets its contract: each field is the rule's.
 use native.Mathlib.Omega.{arith}
-use Rattle.flight.specs.Loading.{decoded}
+use Rattle.flight.specs.Loading.{masksIn, decoded}
 use borrow.Author.Needs.{needs}
 use Rattle.flight.proofs.loading.decode.Statement.{statement}
 use Rattle.flight.proofs.loading.decode.Tie as tie
@@ -44,6 +44,21 @@ pair-at-requires-2 c κs = search needs
 shared-slice-read-t18 : tie.Need-shared-slice-read-t18
 shared-slice-read-t18 c = search needs
 
+shared-slice-read-t21 : tie.Need-shared-slice-read-t21
+shared-slice-read-t21 c = search needs
+
+add-t22 : tie.Need-add-t22
+add-t22 c = search needs
+
+shared-slice-read-t24 : tie.Need-shared-slice-read-t24
+shared-slice-read-t24 c = search needs
+
+add-t25 : tie.Need-add-t25
+add-t25 c = search needs
+
+shared-slice-read-t27 : tie.Need-shared-slice-read-t27
+shared-slice-read-t27 c = search needs
+
 pair-at-requires-3 : tie.Need-pair-at-requires-3
 pair-at-requires-3 c κs = search needs
 
@@ -60,13 +75,13 @@ pair-at-requires-7 : tie.Need-pair-at-requires-7
 pair-at-requires-7 c κs = search needs
 
 returns : tie.Need-returns
-unfolding decoded
+unfolding decoded masksIn
 returns c =
     let ground = c .before in
     let descend = ground .before in
     let ascend = descend .before in
     let tension = ascend .before in
-    let beacon = tension .before .before in
+    let beacon = tension .before .before .before .before .before in
     let mode = beacon .before .before in
     let low = mode .before .before in
     simp (
@@ -100,6 +115,11 @@ decode-spec =
     shared-slice-read-t14
     pair-at-requires-2
     shared-slice-read-t18
+    shared-slice-read-t21
+    add-t22
+    shared-slice-read-t24
+    add-t25
+    shared-slice-read-t27
     pair-at-requires-3
     pair-at-requires-4
     pair-at-requires-5

@@ -1,9 +1,12 @@
--- `flight::saving::save` meets its contract: the head, then the message, the ends and the modules, fill the image.
+-- `flight::saving::save` meets its contract: the head, then the message, the ends, the masks and the modules, fill the image.
+use Prim.Native.Nat.{ℕ}
 use mathlib.Core.Path.{ap, _∙_}
+use mathlib.Core.List.{List}
 use lib.Seq.{sets}
 use Rattle.basics.proofs.EachLaws.{length-mapped}
 use Rattle.supervisor.proofs.ModuleLaws.{Eight}
-use Rattle.flight.specs.Saving.{messagePlace, endsPlace, modulesPlace, messageBytes, endsBytes, modulesBytes}
+use Rattle.flight.specs.Saving.{messagePlace, endsPlace, masksPlace, modulesPlace}
+use Rattle.flight.specs.Saving.{messageBytes, endsBytes, masksBytes, modulesBytes}
 use Rattle.flight.proofs.SavingLaws.{modules-in-range, stored-state}
 use borrow.Author.Needs.{needs}
 use Rattle.flight.proofs.saving.save.Statement.{statement}
@@ -24,28 +27,38 @@ put-message-requires c κs = search needs
 put-ends-requires : tie.Need-put-ends-requires
 put-ends-requires c κs = search needs
 
+put-masks-requires : tie.Need-put-masks-requires
+put-masks-requires c κs = search needs
+
 put-modules-requires : tie.Need-put-modules-requires
 put-modules-requires c κs =
-    let start : tie.Start = c .before .before .before .before .before .before .before .before .before .before .before .before .before .before .before .before .before in
-    (search needs, modules-in-range (start .args .state) (start .pre .1))
+    let start : tie.Start = c .before .before .before .before .before .before .before .before .before .before .before .before .before .before .before .before .before .before .before .before .before in
+    (c .before .before .before .put-masks .kept .1 .0 ∙ put-masks-requires (c .before .before .before .before) κs, modules-in-range (start .args .state) (start .pre .1))
 
 same-length : tie.Need-same-length
 same-length c = search needs
 
+eight : (start : tie.Start) → Eight (start .args .state)
+eight start = search (needs, length-mapped)
+
 returns : tie.Need-returns
 returns c =
-    let start : tie.Start = c .before .before .before .before .before .before .before .before .before .before .before .before .before .before .before .before .before .before .before .before in
+    let start : tie.Start = c .before .before .before .before .before .before .before .before .before .before .before .before .before .before .before .before .before .before .before .before .before .before .before .before in
     let s = start .args .state in
-    let eight : Eight s = search (needs, length-mapped) in
-    let ends = c .before .before .before .before .before .before in
+    let masks = c .before .before .before .before .before .before in
+    let ends = masks .before .before .before .before in
     let message = ends .before .before .before .before in
     let copy = message .before .before .before .before in
+    let stored : List ℕ → List ℕ = λ r. sets r modulesPlace (modulesBytes (s .modules)) in
+    let with-masks : List ℕ → List ℕ = λ r. stored (sets r masksPlace (masksBytes (s .masks))) in
+    let with-ends : List ℕ → List ℕ = λ r. with-masks (sets r endsPlace (endsBytes (s .ends))) in
+    let with-message : List ℕ → List ℕ = λ r. with-ends (sets r messagePlace (messageBytes (s .message))) in
     c .before .before .put-modules .ensures
-    ∙ ap (λ r. sets r modulesPlace (modulesBytes (s .modules))) (ends .put-ends .ensures)
-    ∙ ap (λ r. sets (sets r endsPlace (endsBytes (s .ends))) modulesPlace (modulesBytes (s .modules))) (message .put-message .ensures)
-    ∙ ap (λ r. sets (sets (sets r messagePlace (messageBytes (s .message))) endsPlace (endsBytes (s .ends))) modulesPlace (modulesBytes (s .modules)))
-    (copy .copy .ensures .1)
-    ∙ stored-state s _ (start .args .image .now) (copy .before .before .before .head .ensures) (start .pre .1) eight (start .pre .0)
+    ∙ ap stored (masks .put-masks .ensures)
+    ∙ ap with-masks (ends .put-ends .ensures)
+    ∙ ap with-ends (message .put-message .ensures)
+    ∙ ap with-message (copy .copy .ensures .1)
+    ∙ stored-state s _ (start .args .image .now) (copy .before .before .before .head .ensures) (start .pre .1) (eight start) (start .pre .0)
 
 pub save-spec : {M : Type 1} → statement M
 save-spec =
@@ -56,6 +69,7 @@ save-spec =
     copy-requires
     put-message-requires
     put-ends-requires
+    put-masks-requires
     put-modules-requires
     same-length
     returns)
