@@ -1,9 +1,10 @@
 -- Laws of a greeting's text: one byte of a walk through its filler, the text of no greeting, and what a fair one has.
 -- Assumes nothing.
-use mathlib.Core.Path.{_≡_}
-use mathlib.Core.Bool.{Bool, false, _&&_, and-false}
+use mathlib.Core.Path.{_≡_, refl}
+use mathlib.Core.Bool.{Bool, true, false, _&&_, and-false}
 use mathlib.Core.List.{List}
 use Prim.Native.Nat.{ℕ, _+_, _<_, _≤_}
+use native.Mathlib.Omega.{arith}
 use native.Mathlib.Numerals.{add-one}
 use lib.Dec.{T, eqb, leb, eqb→eq}
 use lib.ListN.{length, getD, take, drop}
@@ -30,6 +31,11 @@ module _ (characters : ℕ) (text : List ℕ) where
       blank ≡ allZero (drop characters text) → (keyable && blank) ≡ isGreeting characters text
   unfolding isGreeting
   by-text keyable blank sixteen most k b = rw (eq-eqb (length text) longestGreeting sixteen, le-leb characters longestGreeting most, k, b)
+
+-- of no character, all sixteen bytes are filler
+pub no-characters : (text : List ℕ) → length text ≡ longestGreeting → allZero text ≡ isGreeting 0 text
+unfolding faultOf
+no-characters text sixteen = by-text 0 text true (allZero text) sixteen (omega arith) refl refl
 
 -- sixteen bytes, of which the first few are a text that may be keyed, and the rest 0
 pub record Fair (characters : ℕ) (text : List ℕ) : Type 0 where

@@ -25,6 +25,20 @@ fn is_blank(bytes: &[u8]) -> bool
     true
 }
 
+// Whether all sixteen bytes are 0. Each is looked at, whatever the others are, so that a compiler takes them at once: a
+// board that keeps no message is asked this in every frame (docs/PERFORMANCE.md).
+fn is_empty(text: [u8; LONGEST]) -> bool
+    ensures { λ r. ⌜ r ≡ allZero text ⌝ }
+{
+    let mut any: u8 = 0;
+    let mut i: usize = LONGEST;
+    while 0 < i {
+        i -= 1;
+        any = any | text[i];
+    }
+    any == 0
+}
+
 // Whether a text of so many characters, at most 16, may be keyed, and the bytes past it are 0.
 pub fn is_greeting(length: u8, text: [u8; LONGEST]) -> bool
     ensures { λ r. ⌜ r ≡ isGreeting length text ⌝ }
@@ -32,6 +46,9 @@ pub fn is_greeting(length: u8, text: [u8; LONGEST]) -> bool
     let n = length as usize;
     if LONGEST < n {
         return false;
+    }
+    if n == 0 {
+        return is_empty(text);
     }
     let fault = fault_of(&text[..n]);
     (fault.number() == DONE) & is_blank(&text[n..])

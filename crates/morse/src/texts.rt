@@ -60,8 +60,11 @@ fn look(text: &[u8]) -> Seen
     let mut i = 0;
     while i < text.len() {
         let c = text[i];
-        known = known & is_known(c);
-        doubled = doubled | ((before == SPACE) & (c == SPACE));
+        if c == SPACE {
+            doubled = doubled | (before == SPACE);
+        } else {
+            known = known & is_known(c);
+        }
         before = c;
         i += 1;
     }

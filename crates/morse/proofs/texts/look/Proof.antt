@@ -1,12 +1,15 @@
 -- `morse::texts::look` meets its contract: what is found so far, with what is left of the text, makes what the whole
 -- text has.
 use mathlib.Core.Path.{_≡_, sym, ap, _∙_}
-use mathlib.Core.Bool.{_&&_, _||_, and-assoc, or-assoc, and-true, or-false}
+use mathlib.Core.Bool.{Bool, _&&_, _||_, and-assoc, or-assoc, and-true, and-false, or-false}
+use mathlib.Core.Logic.{⊎-elim}
 use mathlib.Core.List.{[]}
-use Prim.Native.Nat.{_+_, _-_, _≤_}
+use Prim.Native.Nat.{ℕ, _+_, _-_, _≤_}
 use native.Mathlib.Omega.{arith}
 use lib.ListN.{length, getD, drop, drop-of-length-le}
+use borrow.Author.Tests.{ne-eqb}
 use borrow.Author.Needs.{needs}
+use Rattle.basics.specs.Bytes.{space}
 use Rattle.morse.specs.Texts as Texts
 use Rattle.morse.specs.Texts.{allKnown, isSpace}
 use Rattle.morse.proofs.TextsLaws.{doubledAfter, known-step, doubled-step, doubled-end}
@@ -37,15 +40,34 @@ add-i c = search needs
 loop-less : tie.Need-loop-less Inv-loop μ-loop
 loop-less c = search needs
 
+-- a space is known, and is doubled where one stands before it; nothing else is doubled
+space-known : (k : Bool) (b : ℕ) → b ≡ space → k ≡ (k && Texts.known b)
+space-known k b e = rw e (sym (and-true k))
+
+space-doubled : (d : Bool) (before b : ℕ) → b ≡ space → (d || isSpace before) ≡ (d || (isSpace before && isSpace b))
+space-doubled d before b e = rw e (ap (λ r. d || r) (sym (and-true (isSpace before))))
+
+other-doubled : (d : Bool) (before b : ℕ) → (b ≡ space → ⊥) → d ≡ (d || (isSpace before && isSpace b))
+other-doubled d before b h = rw (ne-eqb b space h, and-false (isSpace before)) (sym (or-false d))
+
 loop-again : tie.Need-loop-again Inv-loop μ-loop
 loop-again c =
     let l = c .before .before .before .loop in
     let text = c .before .before .before .before .before .args .text .now in
     let b = getD text (l .i) 0 in
-    let rest = drop (l .i + 1) text in (
+    let rest = drop (l .i + 1) text in
+    let k : c .if1 .known ≡ (l .known && Texts.known b) =
+        ⊎-elim (λ w. w .1 ∙ space-known (l .known) b (w .0 .taken)) (λ w. w .2 ∙ ap (λ r. l .known && r) (w .1 .ensures)) (c .if1 .came) in
+    let d : c .if1 .doubled ≡ (l .doubled || (isSpace (l .before) && isSpace b)) =
+        ⊎-elim
+        (λ w. w .2 ∙ space-doubled (l .doubled) (l .before) b (w .0 .taken))
+        (λ w. w .3 ∙ other-doubled (l .doubled) (l .before) b (w .0 .left))
+        (c .if1 .came) in (
       search needs,
-      cc (and-assoc (l .known) (Texts.known b) (allKnown rest), known-step text (l .i) (omega arith)),
-      or-assoc (l .doubled) (isSpace (l .before) && isSpace b) (doubledAfter b rest)
+      ap (λ r. r && allKnown rest) k
+          ∙ cc (and-assoc (l .known) (Texts.known b) (allKnown rest), known-step text (l .i) (omega arith)),
+      ap (λ r. r || doubledAfter b rest) d
+          ∙ or-assoc (l .doubled) (isSpace (l .before) && isSpace b) (doubledAfter b rest)
           ∙ ap (λ r. l .doubled || r) (sym (doubled-step text (l .i) (omega arith) (l .before)))
           ∙ l .inv .2,
     )
