@@ -16,4 +16,5 @@ pub mod Greeted
 pub mod OnTheGround
 pub mod Spelling
 pub mod KeyingRoom
+pub mod Counted
 pub mod ImageFlies

@@ -23,9 +23,9 @@ use Rattle.flight.specs.Saving.{saved}
 use Rattle.flight.proofs.Images.{step-image, pass-image}
 use Rattle.promises.specs.ImageFlies.{Handed, frame, pass, imageAfter, flightOf, FliesFrom, ImageFlies}
 
-fresh-written : (image : List ℕ) → length image ≡ 68 → freshImage image ≡ imaged 0 (saved freshState)
+fresh-written : (image : List ℕ) → length image ≡ 71 → freshImage image ≡ imaged 0 (saved freshState)
 unfolding freshImage
-fresh-written image e = simp (eq-eqb (length image) 68 e)
+fresh-written image e = simp (eq-eqb (length image) 71 e)
 
 -- one frame, and one pass
 module _ (s : State) (h : T (inRange s)) (n : Eight s) where

@@ -31,6 +31,7 @@ pub mod Greeted
 pub mod OnTheGround
 pub mod Spelling
 pub mod KeyingRoom
+pub mod Counted
 pub mod Numbers
 pub mod Edge
 pub mod ImageFlies

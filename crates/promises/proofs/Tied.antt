@@ -10,10 +10,12 @@ tied =
       key = λ κs a x. (λ learnt. learnt, λ says. says);
       read = λ κs a x. (λ learnt. learnt, λ says. says);
       write = λ κs a x. (λ learnt. learnt, λ says. says);
+      modules-on = λ κs a x. (λ learnt. learnt, λ says. says);
       track = λ κs a x. (λ learnt. learnt, λ says. says);
       ems-fresh = λ κs a x. (λ learnt. learnt, λ says. says);
       ems-step = λ κs a x. (λ learnt. learnt, λ says. says);
       ems-pass = λ κs a x. (λ learnt. learnt, λ says. says);
+      ems-modules-on = λ κs a x. (λ learnt. learnt, λ says. says);
       ems-key = λ κs a x. (λ learnt. learnt, λ says. says);
       ems-track = λ κs a x. (λ learnt. learnt, λ says. says);
     }

@@ -41,6 +41,6 @@ pub record FliesFrom (s : State) : Type 0 where
 
 -- the image's start, and its flight
 pub record ImageFlies : Type 0 where
-  -- `ems_fresh` writes the fresh state's image into 68 bytes
-  pub start : (image : List ℕ) → length image ≡ 68 → freshImage image ≡ imaged 0 (saved freshState)
+  -- `ems_fresh` writes the fresh state's image into 71 bytes
+  pub start : (image : List ℕ) → length image ≡ 71 → freshImage image ≡ imaged 0 (saved freshState)
   pub flies : FliesFrom freshState

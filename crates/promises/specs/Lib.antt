@@ -16,5 +16,6 @@ pub mod Greeted
 pub mod OnTheGround
 pub mod Spelling
 pub mod KeyingRoom
+pub mod Counted
 pub mod ImageFlies
 pub mod Tied

@@ -8,6 +8,7 @@ use denote.Triple.Entry.{Args, Res}
 use denote.Triple.Clauses.{Ended, AtExit, atExit}
 use Rattle.basics.specs.Outcome.{outcome, reply}
 use Rattle.basics.specs.OneOutcome.{Leaves}
+use Rattle.supervisor.specs.Counting.{modulesOnOf}
 use Rattle.supervisor.specs.History.{called}
 use Rattle.pass.specs.Flight.{passed}
 use Rattle.morse.specs.Keying.{keyReply, keyOf}
@@ -16,6 +17,8 @@ use Rattle.beacon.specs.Writing.{beaconOf}
 use Rattle.tracker.specs.Tracker.{trackOf}
 use Rattle.supervisor.proofs.step.step as step
 use Rattle.supervisor.proofs.step.step.Reads as step-reads
+use Rattle.supervisor.proofs.counting.modules_on as modules-on
+use Rattle.supervisor.proofs.counting.modules_on.Reads as modules-on-reads
 use Rattle.pass.proofs.pass as pass
 use Rattle.pass.proofs.pass.Reads as pass-reads
 use Rattle.morse.proofs.keying.key as key
@@ -26,13 +29,15 @@ use Rattle.beacon.proofs.writing.write as write
 use Rattle.beacon.proofs.writing.write.Reads as write-reads
 use Rattle.tracker.proofs.track as track
 use Rattle.tracker.proofs.track.Reads as track-reads
-use Rattle.flight.specs.Calls.{imaged, freshImage, stepImage, passImage, replied, tracks, tracksOf}
+use Rattle.flight.specs.Calls.{imaged, freshImage, stepImage, passImage, modulesOnImage, replied, tracks, tracksOf}
 use Rattle.flight.proofs.calls.ems_fresh as ems-fresh
 use Rattle.flight.proofs.calls.ems_fresh.Reads as ems-fresh-reads
 use Rattle.flight.proofs.calls.ems_step as ems-step
 use Rattle.flight.proofs.calls.ems_step.Reads as ems-step-reads
 use Rattle.flight.proofs.calls.ems_pass as ems-pass
 use Rattle.flight.proofs.calls.ems_pass.Reads as ems-pass-reads
+use Rattle.flight.proofs.calls.ems_modules_on as ems-modules-on
+use Rattle.flight.proofs.calls.ems_modules_on.Reads as ems-modules-on-reads
 use Rattle.flight.proofs.calls.ems_key as ems-key
 use Rattle.flight.proofs.calls.ems_key.Reads as ems-key-reads
 use Rattle.flight.proofs.calls.ems_track as ems-track
@@ -69,6 +74,8 @@ pub record Tied : Type 0 where
   pub write :
       Says write.ended write-reads.Learnt
       (λ κs a x. outcome (x .0) (x .1 .1 .1 .0) ≡ beaconOf (a .1 .0) (a .0) (a .1 .1 .0 .now))
+  -- modules_on(state)
+  pub modules-on : Says modules-on.ended modules-on-reads.Learnt (λ κs a x. x .0 ≡ modulesOnOf (a .0))
   -- track(before, after, point, step)
   pub track :
       Says track.ended track-reads.Learnt
@@ -85,6 +92,10 @@ pub record Tied : Type 0 where
       (λ κs a x.
       outcome (imaged (reply (x .0) (x .1 .1 .1 .1 .0)) (x .1 .0)) (x .1 .1 .1 .0)
       ≡ passImage (a .0 .now) (a .1 .0 .now) (a .1 .1 .0 .now))
+  -- ems_modules_on(image, count)
+  pub ems-modules-on :
+      Says ems-modules-on.ended ems-modules-on-reads.Learnt
+      (λ κs a x. reply (x .0) (x .1 .1 .0) ≡ modulesOnImage (a .0 .now))
   -- ems_key(text, units, count)
   pub ems-key :
       Says ems-key.ended ems-key-reads.Learnt

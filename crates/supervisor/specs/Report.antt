@@ -2,6 +2,7 @@
 -- Assumes nothing.
 use Prim.Native.Nat.{ℕ, _/_, _%_}
 use mathlib.Core.List.{List, [], _∷_}
+use lib.ListN.{getD}
 use Rattle.modules.specs.Masks.{masksOf}
 use Rattle.modules.specs.declared.masks.Masks.{Masks}
 use Rattle.frames.specs.Answer.{answerNumber}
@@ -28,6 +29,21 @@ reportOf frame acted =
 -- the place of the mode in a report
 abbrev pub modeByte : ℕ
 modeByte = 6
+
+-- of the masks of the modules requested, on and failed
+abbrev pub requestedByte : ℕ
+requestedByte = 7
+
+abbrev pub onByte : ℕ
+onByte = 8
+
+abbrev pub failedByte : ℕ
+failedByte = 9
+
+-- the masks that a report shows
+abbrev pub shownIn : (room : List ℕ) → Masks
+shownIn room =
+    record { requested = getD room requestedByte 0; on = getD room onByte 0; failed = getD room failedByte 0 }
 
 -- of the beacon
 abbrev pub beaconByte : ℕ

@@ -11,8 +11,8 @@ use Rattle.supervisor.specs.declared.state.Phase.the-variants.{Settling}
 use Rattle.supervisor.specs.declared.state.Mode.the-variants.{DeployWait}
 use Rattle.supervisor.specs.declared.state.State.{State}
 use Rattle.supervisor.proofs.Rules.{rules}
-use Rattle.flight.specs.Saving.{modulesBytes, endsBytes, messageBytes, headBytes, saved}
-use Rattle.flight.specs.Loading.{hasLayout, messageIn, endsIn, modulesIn, decoded, loaded}
+use Rattle.flight.specs.Saving.{modulesBytes, masksBytes, endsBytes, messageBytes, headBytes, saved}
+use Rattle.flight.specs.Loading.{hasLayout, messageIn, endsIn, masksIn, modulesIn, decoded, loaded}
 use Rattle.flight.specs.Calls.{Imaged, stepImage}
 use Rattle.promises.specs.ImageFlies.{FliesFrom}
 use Rattle.promises.proofs.Edge.Flights.{quiet, send}
@@ -23,5 +23,5 @@ settled = withMode (DeployWait (Settling 0)) freshState
 
 -- so a tick is done on its bytes, and refused on it
 pub not-from-settled : FliesFrom settled → ⊥
-unfolding rules modulesBytes endsBytes messageBytes headBytes saved hasLayout messageIn endsIn modulesIn decoded loaded stepImage
+unfolding rules modulesBytes masksBytes endsBytes messageBytes headBytes saved hasLayout messageIn endsIn masksIn modulesIn decoded loaded stepImage
 not-from-settled says = let e : _≡_ {A = ℕ} 0 1 = ap (λ (o : Outcome (Imaged ℕ)). o .result .answer) (says .frames [] (send quiet)) in omega arith
