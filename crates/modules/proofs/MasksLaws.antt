@@ -7,7 +7,7 @@ use mathlib.Core.List.{List, [], _∷_, _++_}
 use Prim.Native.Nat.{ℕ, zero, suc, _+_, _-_, _*_, _/_, _%_, _^_, _<_, _≤_, min, max}
 use native.Mathlib.Omega.{arith}
 use native.Mathlib.Nat.{lt-of-lt-of-le, le-of-suc-le-suc, not-suc-le-zero, pow-suc, div-one}
-use lib.Bits.{bitAnd, bitOr, and-step, or-step, and-le-l, or-zero-l}
+use lib.Bits.{bitAnd, bitOr, and-step, or-step, and-le-l}
 use lib.Count.{ones, onesIn, ones-step}
 use lib.Dec.{T, eqb, ltb, lit<, eqb-refl, eqb→eq}
 use lib.ListN.{length, drop, take, getD, length-drop}
@@ -305,7 +305,7 @@ unfolding powers
 powers-next i ms d h =
     let long : length (take i ms) ≡ i = length-take-le i ms (omega arith) in
     let next : (test : Module → Bool) → maskOf test (take (suc i) ms) ≡ maskOf test (take i ms) + 2 ^ i * below (test (getD ms i d)) 0 =
-        λ test. ap (maskOf test) (take-suc ms i d h) ∙ maskOf-next test (take i ms) (getD ms i d) ∙ ap (λ (n : ℕ). maskOf test (take i ms) + 2 ^ n * below (test (getD ms i d)) 0) long in
+    λ test. ap (maskOf test) (take-suc ms i d h) ∙ maskOf-next test (take i ms) (getD ms i d) ∙ ap (λ (n : ℕ). maskOf test (take i ms) + 2 ^ n * below (test (getD ms i d)) 0) long in
     by (getD ms i d .power) (next isPowered) (next isGivenUp)
   where
     by : (p : Power) → maskOf isPowered (take (suc i) ms) ≡ maskOf isPowered (take i ms) + 2 ^ i * below (isOn p) 0 → maskOf isGivenUp (take (suc i) ms) ≡ maskOf isGivenUp (take i ms) + 2 ^ i * below (isFailed p) 0 → maskOf isPowered (take (suc i) ms) * 256 + maskOf isGivenUp (take (suc i) ms) * 65536 ≡ maskOf isPowered (take i ms) * 256 + maskOf isGivenUp (take i ms) * 65536 + 2 ^ i * powerBits p

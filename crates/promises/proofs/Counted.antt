@@ -3,7 +3,6 @@
 use Prim.Native.Nat.{ℕ}
 use mathlib.Core.Path.{_≡_, refl, sym, ap, _∙_}
 use mathlib.Core.Bool.{Bool, true, false, true≢false}
-use mathlib.Core.List.{List}
 use lib.Count.{ones}
 use lib.Dec.{T}
 use Rattle.basics.proofs.ChoiceLaws.{is-true, holds}
@@ -23,7 +22,6 @@ use Rattle.supervisor.specs.Act.{actOf}
 use Rattle.supervisor.specs.Report.{shownIn}
 use Rattle.supervisor.specs.Counting.{modulesOnOf}
 use Rattle.supervisor.specs.History.{Call, called, after}
-use Rattle.supervisor.specs.declared.counting.ModulesOn.{ModulesOn}
 use Rattle.supervisor.specs.declared.state.State.{State}
 use Rattle.supervisor.proofs.RangeLaws.{parts}
 use Rattle.supervisor.proofs.RangeKept.{ticked-in-range, acted-masks}

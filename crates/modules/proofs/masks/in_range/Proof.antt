@@ -2,7 +2,7 @@
 -- Assumes nothing.
 use Prim.Native.Nat.{ℕ, _-_, _≤_, _<_}
 use mathlib.Core.Path.{_≡_, refl, ap, sym, _∙_}
-use mathlib.Core.Bool.{Bool, true, false, _&&_}
+use mathlib.Core.Bool.{Bool, true, _&&_}
 use native.Mathlib.Omega.{arith}
 use lib.Dec.{eqb}
 use lib.ListN.{length, drop, getD}
@@ -11,7 +11,7 @@ use borrow.Author.Tests.{not-false, not-true}
 use Rattle.basics.proofs.EachLaws.{gathered-turn, gathered-none, length-mapped}
 use Rattle.modules.specs.Power.{powerInRange}
 use Rattle.modules.specs.Stage.{modulesInRange}
-use Rattle.modules.specs.Masks.{packedMasks, areMasksOf}
+use Rattle.modules.specs.Masks.{areMasksOf}
 use Rattle.modules.specs.declared.power.Module.{Module}
 use Rattle.modules.proofs.StageLaws.{noModule, one-out}
 use Rattle.modules.proofs.MasksLaws.{packed, packedWith, packed-step, packed-none, packed-room, power-bits-small, request-bit-small, packed-agree}

@@ -1,8 +1,8 @@
 -- `stage` meets its contract: after i turns the first i modules are worked, both masks are halved i times, and the bits of
 -- those on and failed, as they will be, are put in, above the places that are still to come.
 -- Assumes nothing.
-use Prim.Native.Nat.{ℕ, _+_, _-_, _*_, _/_, _%_, _^_, _≤_, _<_}
-use mathlib.Core.Path.{_≡_, refl, ap, sym, _∙_}
+use Prim.Native.Nat.{ℕ, _+_, _-_, _*_, _/_, _%_, _^_, _≤_}
+use mathlib.Core.Path.{_≡_, ap, sym, _∙_}
 use mathlib.Core.List.{List}
 use native.Mathlib.Nat.{div-one, mul-one}
 use native.Mathlib.Omega.{arith}
@@ -12,7 +12,6 @@ use lib.Seq.{take-all}
 use borrow.Author.Needs.{needs}
 use Rattle.basics.proofs.EachLaws.{worked, worked-none, worked-turn, worked-all, worked-here, at-each, length-each, length-mapped}
 use Rattle.modules.specs.Stage.{moduleSwitched, switchedBy}
-use Rattle.modules.specs.Masks.{staged}
 use Rattle.modules.specs.declared.power.Module.{Module}
 use Rattle.modules.specs.declared.stage.Staged.{Staged}
 use Rattle.modules.proofs.StageLaws.{noModule}
@@ -98,15 +97,15 @@ loop-again c =
     let after = c .before .before .second in
     let more = marked-more i _ _ (here .loop .inv .low) (search needs) (here .loop .inv .left) (search needs) in
     let seen : after .result ≡ getD (switchedBy wanted shorts ms) i noModule .power =
-        simp (
-          after .ensures,
-          here .loop .inv .left,
-          here .loop .inv .bits,
-          marked-bit i shorts more,
-          here .loop .inv .done,
-          worked-here (moduleSwitched wanted shorts) i ms noModule,
-        )
-        (sym (ap (λ (m : Module). m .power) (at-each (moduleSwitched wanted shorts) ms i noModule (omega (arith, more, eight))))) in
+    simp (
+      after .ensures,
+      here .loop .inv .left,
+      here .loop .inv .bits,
+      marked-bit i shorts more,
+      here .loop .inv .done,
+      worked-here (moduleSwitched wanted shorts) i ms noModule,
+    )
+    (sym (ap (λ (m : Module). m .power) (at-each (moduleSwitched wanted shorts) ms i noModule (omega (arith, more, eight))))) in
     record {
       low = omega (arith, more);
       left = ap (λ (r : ℕ). r / 2) (here .loop .inv .left) ∙ marked-next _ _;
@@ -148,9 +147,9 @@ returns c =
     let e : here .loop .i ≡ 8 = marked-end _ _ _ (here .loop .inv .low) (here .loop .inv .left) (search needs) in
     let worked-eight : length (switchedBy wanted shorts ms) ≡ 8 = length-each (moduleSwitched wanted shorts) ms ∙ eight in
     let all : here .loop .all ≡ powers (switchedBy wanted shorts ms) =
-        (rw e at (here .loop .inv .gathered))
-        ∙ mul-one _
-        ∙ ap powers (take-all 8 (switchedBy wanted shorts ms) (omega (arith, worked-eight))) in
+    (rw e at (here .loop .inv .gathered))
+    ∙ mul-one _
+    ∙ ap powers (take-all 8 (switchedBy wanted shorts ms) (omega (arith, worked-eight))) in
     same
     ((rw e at (here .loop .inv .done)) ∙ worked-all _ 8 ms eight)
     (ap (λ (n : ℕ). n / 256 % 256) all ∙ powers-on (switchedBy wanted shorts ms) worked-eight)

@@ -57,12 +57,12 @@ loop-again c =
     let b = getD text (l .i) 0 in
     let rest = drop (l .i + 1) text in
     let k : c .if1 .known ≡ (l .known && Texts.known b) =
-        ⊎-elim (λ w. w .1 ∙ space-known (l .known) b (w .0 .taken)) (λ w. w .2 ∙ ap (λ r. l .known && r) (w .1 .ensures)) (c .if1 .came) in
+    ⊎-elim (λ w. w .1 ∙ space-known (l .known) b (w .0 .taken)) (λ w. w .2 ∙ ap (λ r. l .known && r) (w .1 .ensures)) (c .if1 .came) in
     let d : c .if1 .doubled ≡ (l .doubled || (isSpace (l .before) && isSpace b)) =
-        ⊎-elim
-        (λ w. w .2 ∙ space-doubled (l .doubled) (l .before) b (w .0 .taken))
-        (λ w. w .3 ∙ other-doubled (l .doubled) (l .before) b (w .0 .left))
-        (c .if1 .came) in (
+    ⊎-elim
+    (λ w. w .2 ∙ space-doubled (l .doubled) (l .before) b (w .0 .taken))
+    (λ w. w .3 ∙ other-doubled (l .doubled) (l .before) b (w .0 .left))
+    (c .if1 .came) in (
       search needs,
       ap (λ r. r && allKnown rest) k
           ∙ cc (and-assoc (l .known) (Texts.known b) (allKnown rest), known-step text (l .i) (omega arith)),

@@ -1,6 +1,6 @@
 -- `modules_on` meets its contract: the ones of the on mask are the modules that are on.
 -- Assumes nothing.
-use mathlib.Core.Path.{_≡_, ap, sym, _∙_}
+use mathlib.Core.Path.{_≡_, ap, _∙_}
 use mathlib.Core.Bool.{true}
 use borrow.Author.Tests.{not-false, not-true}
 use borrow.Author.Needs.{needs}

@@ -55,8 +55,8 @@ write-requires c κs =
     let bytes = now (start .args .input) in
     let accepted : readFrame bytes ≡ Accepted _ = rw (heard .read .ensures) at (c .before .before .before .before .reading2 .given .1) in
     let true-masks : HasMasks (c .before .act .result .state) =
-        rw (c .before .act .ensures, c .before .before .text-of .ensures)
-        (acted-masks _ (greetingText bytes) (rw accepted at (read-sound bytes)) s (holds (inRange s) (valid (heard .before .before)))) in
+    rw (c .before .act .ensures, c .before .before .text-of .ensures)
+    (acted-masks _ (greetingText bytes) (rw accepted at (read-sound bytes)) s (holds (inRange s) (valid (heard .before .before)))) in
     (heard .before .if2 .left, true-masks)
 
 returns-3 : tie.Need-returns-3

@@ -4,7 +4,6 @@ use mathlib.Core.Path.{refl, ap, _∙_}
 use Rattle.supervisor.specs.Ending.{ended}
 use Rattle.supervisor.specs.Control.{controlled}
 use Rattle.supervisor.specs.Tick.{beforeModules}
-use borrow.Author.Needs.{needs}
 use Rattle.supervisor.proofs.state.State.before_modules.Statement.{statement}
 use Rattle.supervisor.proofs.state.State.before_modules.Tie as tie
 

@@ -1,6 +1,6 @@
 -- `State::crossed` meets its contract: upward or downward.
 -- Assumes nothing.
-use mathlib.Core.Path.{_≡_, ap, sym, _∙_}
+use mathlib.Core.Path.{ap, sym, _∙_}
 use mathlib.Core.Logic.{⊎-elim}
 use Prim.Native.Nat.{_<_}
 use lib.Dec.{lit<}

@@ -60,7 +60,7 @@ returns c =
     let ends = c .before .in-range3 in
     let s : State = c .before .before .before .before .args .self in
     let out : frontOf s ≡ false =
-        rw (watch .ensures, battery .ensures, ends .ensures) at (not-true (watch .result && battery .result && ends .result) (c .if1 .taken)) in
+    rw (watch .ensures, battery .ensures, ends .ensures) at (not-true (watch .result && battery .result && ends .result) (c .if1 .taken)) in
     first-out (watchOf s) (batteryInRange (s .battery)) (messageInRange (s .message)) (endsInRange (s .ends))
     (modulesInRange (s .modules)) (areMasksOf (s .modules) (s .masks)) out
 
@@ -87,8 +87,8 @@ returns-3 c =
     let modules = c .before .before .in-range4 in
     let s : State = c .before .before .before .before .before .before .before .before .args .self in
     let front : frontOf s ≡ true =
-        rw (watch .ensures, battery .ensures, ends .ensures) at
-        (not-false (watch .result && battery .result && ends .result) (c .before .before .before .before .if1 .left)) in
+    rw (watch .ensures, battery .ensures, ends .ensures) at
+    (not-false (watch .result && battery .result && ends .result) (c .before .before .before .before .if1 .left)) in
     let back : backOf s ≡ true = rw (modules .ensures) at (not-false (modules .result) (c .before .if2 .left)) in
     c .in-range5 .ensures
     ∙ message-left (watchOf s) (batteryInRange (s .battery)) (messageInRange (s .message)) (endsInRange (s .ends))

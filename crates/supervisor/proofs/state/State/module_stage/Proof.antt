@@ -41,8 +41,8 @@ with-modules-requires c κs =
     let start : tie.Start = c .before .before .before .before .before in
     let s = start .args .self in
     let kept : s .masks .requested ≡ masksOf (ruled start) .requested =
-        ap (λ (m : Masks). m .requested) (start .pre)
-        ∙ sym (stage-requested (allowedIn (s .watch .mode)) (start .args .shorts) (s .modules)) in
+    ap (λ (m : Masks). m .requested) (start .pre)
+    ∙ sym (stage-requested (allowedIn (s .watch .mode)) (start .args .shorts) (s .modules)) in
     rw (by-rule (c .before)) (ap (λ (n : ℕ). record { requested = n; on = masksOf (ruled start) .on; failed = masksOf (ruled start) .failed }) kept)
 
 returns : tie.Need-returns

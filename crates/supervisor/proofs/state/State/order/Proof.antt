@@ -1,7 +1,7 @@
 -- `State::order` meets its contract.
 -- Assumes nothing.
 use Prim.Native.Nat.{ℕ}
-use mathlib.Core.Path.{_≡_, ap, sym, _∙_}
+use mathlib.Core.Path.{ap, sym, _∙_}
 use mathlib.Core.Logic.{⊎-elim}
 use borrow.Author.Tests.{not-false, not-true}
 use Rattle.basics.proofs.EachLaws.{length-mapped}
