@@ -1,5 +1,5 @@
 // The eight modules: their groups, what one does in a second, all eight through the module stage,
-// the masks of a report, and the ends of the mission four.
+// their masks, and the ends of the mission four.
 pub mod ends;
 pub mod groups;
 pub mod masks;

@@ -2,7 +2,7 @@
 -- space, and one byte over and over.
 -- Assumes nothing.
 use mathlib.Core.Path.{_≡_, refl, sym, ap, _∙_}
-use mathlib.Core.Bool.{Bool, true, false, not, _&&_, _||_, or-false, and-false}
+use mathlib.Core.Bool.{Bool, true, false, not, _&&_, _||_, or-false, and-true, and-false}
 use mathlib.Core.List.{List, [], _∷_, _++_}
 use Prim.Native.Nat.{ℕ, zero, suc, _+_, _-_, _<_, _≤_, zero-le, suc-le-suc}
 use native.Mathlib.Numerals.{add-one}
@@ -10,7 +10,7 @@ use native.Mathlib.Omega.{arith}
 use lib.ListN.{length, getD, drop, replicate, length-append, length-replicate}
 use lib.Seq.{drop-cons, getD-append-add}
 use lib.Dec.{T, ltb, eqb→eq}
-use borrow.Author.Tests.{lt-ltb, le-ltb, ltb-false}
+use borrow.Author.Tests.{lt-ltb, le-ltb, ltb-false, ne-eqb}
 use Rattle.basics.specs.Choice.{if_then_else_}
 use Rattle.basics.specs.Bytes.{space}
 use Rattle.basics.proofs.ChoiceLaws.{is-true, holds, and-left, and-right, neither-left, neither-right}
@@ -47,6 +47,16 @@ module _ (t : List ℕ) (i : ℕ) (h : i < length t) where
 
 pub doubled-end : (before : ℕ) → doubledAfter before [] ≡ false
 doubled-end before = or-false (isSpace before && false) ∙ and-false (isSpace before)
+
+-- a space is known, and is doubled where one stands before it; nothing else is doubled
+pub space-known : (k : Bool) (b : ℕ) → b ≡ space → k ≡ (k && known b)
+space-known k b e = rw e (sym (and-true k))
+
+pub space-doubled : (d : Bool) (before b : ℕ) → b ≡ space → (d || isSpace before) ≡ (d || (isSpace before && isSpace b))
+space-doubled d before b e = rw e (ap (λ r. d || r) (sym (and-true (isSpace before))))
+
+pub other-doubled : (d : Bool) (before b : ℕ) → (b ≡ space → ⊥) → d ≡ (d || (isSpace before && isSpace b))
+other-doubled d before b h = rw (ne-eqb b space h, and-false (isSpace before)) (sym (or-false d))
 
 -- where the first two refusals do not apply, the spacing decides
 module _ (t : List ℕ) (seen : Seen) (e : seen ≡ seenIn t)

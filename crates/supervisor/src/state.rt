@@ -49,7 +49,7 @@ pub struct State {
     pub watch: Watch,
     // whether the latest report has the antennas deployed
     pub antennas: bool,
-    // of the modules below; they stand here because the state is no longer for it (docs/PERFORMANCE.md)
+    // those of the modules below; here they fill bytes that would lie unused (docs/PERFORMANCE.md)
     pub masks: Masks,
     pub battery: Battery,
     pub serials: Serials,

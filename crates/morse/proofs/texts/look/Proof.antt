@@ -1,18 +1,16 @@
 -- `morse::texts::look` meets its contract: what is found so far, with what is left of the text, makes what the whole
 -- text has.
 use mathlib.Core.Path.{_≡_, sym, ap, _∙_}
-use mathlib.Core.Bool.{Bool, _&&_, _||_, and-assoc, or-assoc, and-true, and-false, or-false}
+use mathlib.Core.Bool.{_&&_, _||_, and-assoc, or-assoc, and-true, or-false}
 use mathlib.Core.Logic.{⊎-elim}
 use mathlib.Core.List.{[]}
-use Prim.Native.Nat.{ℕ, _+_, _-_, _≤_}
+use Prim.Native.Nat.{_+_, _-_, _≤_}
 use native.Mathlib.Omega.{arith}
 use lib.ListN.{length, getD, drop, drop-of-length-le}
-use borrow.Author.Tests.{ne-eqb}
 use borrow.Author.Needs.{needs}
-use Rattle.basics.specs.Bytes.{space}
 use Rattle.morse.specs.Texts as Texts
 use Rattle.morse.specs.Texts.{allKnown, isSpace}
-use Rattle.morse.proofs.TextsLaws.{doubledAfter, known-step, doubled-step, doubled-end}
+use Rattle.morse.proofs.TextsLaws.{doubledAfter, known-step, doubled-step, doubled-end, space-known, space-doubled, other-doubled}
 use Rattle.morse.proofs.texts.look.Statement.{statement}
 use Rattle.morse.proofs.texts.look.Tie as tie
 
@@ -39,16 +37,6 @@ add-i c = search needs
 
 loop-less : tie.Need-loop-less Inv-loop μ-loop
 loop-less c = search needs
-
--- a space is known, and is doubled where one stands before it; nothing else is doubled
-space-known : (k : Bool) (b : ℕ) → b ≡ space → k ≡ (k && Texts.known b)
-space-known k b e = rw e (sym (and-true k))
-
-space-doubled : (d : Bool) (before b : ℕ) → b ≡ space → (d || isSpace before) ≡ (d || (isSpace before && isSpace b))
-space-doubled d before b e = rw e (ap (λ r. d || r) (sym (and-true (isSpace before))))
-
-other-doubled : (d : Bool) (before b : ℕ) → (b ≡ space → ⊥) → d ≡ (d || (isSpace before && isSpace b))
-other-doubled d before b h = rw (ne-eqb b space h, and-false (isSpace before)) (sym (or-false d))
 
 loop-again : tie.Need-loop-again Inv-loop μ-loop
 loop-again c =
