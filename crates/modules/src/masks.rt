@@ -1,5 +1,5 @@
-// The three masks of the modules. They are kept beside them: a request sets its bits, the stage makes all of them as it
-// goes (`stage`), and check 1 holds them against the modules.
+// The three masks of the modules, kept beside them. A request sets its bits, the stage makes those of the modules on and
+// failed as it goes (`stage`), and check 1 holds all three against the modules.
 ghost use mathlib.Core.Path.{_≡_};
 ghost use mathlib.Core.Bool.{_&&_};
 ghost use Prim.Native.Nat.{_+_, _*_};

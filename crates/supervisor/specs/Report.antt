@@ -30,13 +30,15 @@ reportOf frame acted =
 abbrev pub modeByte : ℕ
 modeByte = 6
 
--- of the masks of the modules requested, on and failed
+-- of the requested mask
 abbrev pub requestedByte : ℕ
 requestedByte = 7
 
+-- of the on mask
 abbrev pub onByte : ℕ
 onByte = 8
 
+-- of the failed mask
 abbrev pub failedByte : ℕ
 failedByte = 9
 

@@ -75,7 +75,7 @@ impl Message {
 }
 
 impl State {
-    // Check 1: every part in its range, and the masks those of the modules.
+    // Check 1: every part in its range, and the masks those of the modules. The message, whose check is the longest, last.
     pub fn in_range(self) -> bool
         ensures { λ r. ⌜ r ≡ inRange self ⌝ }
     {
