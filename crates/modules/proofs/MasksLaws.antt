@@ -70,7 +70,7 @@ below-low true mask = eq-eqb (below true mask / 1 % 2) 1 (omega arith)
 below-low false mask = ne-eqb (below false mask / 1 % 2) 1 (λ e. absurd (omega (arith, e)))
 
 -- bit i is module i's
-pub maskOf-bit : (test : Module → Bool) (i : ℕ) (ms : List Module) (d : Module) → i < length ms → bit i (maskOf test ms) ≡ test (getD ms i d)
+maskOf-bit : (test : Module → Bool) (i : ℕ) (ms : List Module) (d : Module) → i < length ms → bit i (maskOf test ms) ≡ test (getD ms i d)
 unfolding maskOf
 maskOf-bit test i [] d h = absurd (not-suc-le-zero h)
 maskOf-bit test zero (m ∷ ms) d h = below-low (test m) (maskOf test ms)
@@ -79,7 +79,7 @@ maskOf-bit test (suc i) (m ∷ ms) d h =
     ∙ ap (bit i) (below-half (test m) (maskOf test ms))
     ∙ maskOf-bit test i ms d (le-of-suc-le-suc h)
 
-pub requested-bit : (i : ℕ) (ms : List Module) (d : Module) → i < length ms → bit i (masksOf ms .requested) ≡ getD ms i d .requested
+requested-bit : (i : ℕ) (ms : List Module) (d : Module) → i < length ms → bit i (masksOf ms .requested) ≡ getD ms i d .requested
 unfolding masksOf
 requested-bit i ms d h = maskOf-bit isAsked i ms d h
 

@@ -11,7 +11,7 @@ use lib.Dec.{T, lit<}
 use lib.ListN.{length, getD, set}
 use lib.Seq.{set-out, set-getD}
 use borrow.Author.Tests.{ne-eqb, eq-eqb}
-use Rattle.basics.specs.Choice.{if_then_else_, bit}
+use Rattle.basics.specs.Choice.{bit}
 use Rattle.basics.specs.Each.{each, eachFrom}
 use Rattle.basics.proofs.ChoiceLaws.{and-left, and-right, and-both}
 use Rattle.basics.proofs.BitLaws.{bit-past}

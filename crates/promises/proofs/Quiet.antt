@@ -7,7 +7,7 @@ use mathlib.Core.Bool.{Bool, true, false, not, _&&_, true≢false}
 use mathlib.Core.List.{List, [], _∷_}
 use lib.Dec.{T, eqb}
 use Rattle.basics.specs.Choice.{if_then_else_}
-use Rattle.basics.proofs.ChoiceLaws.{is-false, holds, either, decided, and-left, and-right}
+use Rattle.basics.proofs.ChoiceLaws.{holds, either, decided, and-left, and-right}
 use Rattle.modules.specs.Groups.{isMission, moduleCount}
 use Rattle.modules.specs.Power.{isOn}
 use Rattle.frames.specs.About.{About, aTick, aCommand, neither}
@@ -20,7 +20,7 @@ use Rattle.supervisor.proofs.FreshLaws.{fresh-eight}
 use Rattle.supervisor.proofs.HistoryLaws.{called-eight, after-eight}
 use Rattle.supervisor.proofs.ModuleLaws.{Eight}
 use Rattle.promises.specs.AsTold.{Word, plain, timed, says, orders, SaysOff, runningTick, ordered, later, crossing, said, lastWord}
-use Rattle.promises.specs.Quiet.{Quiet, SwitchedOff, StillOff, doneOn, noOn}
+use Rattle.promises.specs.Quiet.{Quiet, doneOn, noOn}
 use Rattle.promises.proofs.OnlyTicks.{only-ticks}
 use Rattle.promises.proofs.WordLaws.{aged-off, crossed-off}
 use Rattle.promises.proofs.Requests.{Held, called-held}

@@ -6,16 +6,15 @@ use mathlib.Core.Path.{_≡_, refl, sym, ap, _∙_}
 use mathlib.Core.Bool.{Bool, true, false, not, _&&_, true≢false, false≢true}
 use lib.Dec.{eqb}
 use borrow.Author.Tests.{eqb-true}
-use Rattle.basics.specs.Choice.{if_then_else_, bit}
+use Rattle.basics.specs.Choice.{bit}
 use Rattle.basics.proofs.ChoiceLaws.{decided}
 use Rattle.modules.specs.Groups.{isCore, isMission}
-use Rattle.modules.specs.Power.{switched, withPower, withRequest}
+use Rattle.modules.specs.Power.{switched, withPower}
 use Rattle.modules.specs.Stage.{moduleAsked}
 use Rattle.modules.specs.declared.power.Module.{Module}
 use Rattle.frames.specs.Serial.{classOf, lastOf}
 use Rattle.frames.specs.declared.answer.Answer.the-variants.{NotNow}
 use Rattle.frames.specs.declared.frame.Frame.{Frame}
-use Rattle.frames.specs.declared.sender.Sender.{Sender}
 use Rattle.frames.specs.declared.command.Command.{Command}
 use Rattle.frames.specs.declared.command.Command.the-variants.{Order, Timed, Thresholds, Greeting}
 use Rattle.frames.specs.declared.frame.Frame.the-variants as frame
@@ -24,7 +23,7 @@ use Rattle.supervisor.specs.Acted.{silent, done}
 use Rattle.supervisor.specs.Act.{actOf}
 use Rattle.supervisor.specs.Command.{isIllTimed, requestSet, orderTaken, minuteSeconds, taken, serialUsed}
 use Rattle.supervisor.specs.Due.{beaconStage}
-use Rattle.supervisor.specs.Tick.{ticked, tickedIn, beforeModules, stages, allowedIn}
+use Rattle.supervisor.specs.Tick.{ticked, tickedIn, beforeModules, stages}
 use Rattle.supervisor.specs.declared.acted.Acted.{Acted}
 use Rattle.supervisor.specs.declared.state.Mode.{Mode}
 use Rattle.supervisor.specs.declared.state.Mode.the-variants.{DeployWait, Recovery, Safe}
@@ -33,7 +32,6 @@ use Rattle.supervisor.proofs.BeforeModulesLaws.{before-flies, before-core}
 use Rattle.supervisor.proofs.CommandLaws.{by-serials}
 use Rattle.supervisor.proofs.ModuleLaws.{Eight, at-stage, at-asked, core-low, core-not-mission, core-allowed}
 use Rattle.promises.proofs.TwoModes.{AtMost, even, behind}
-use Rattle.promises.proofs.TwoControl.{Shared}
 
 -- an order that is not taken is for a mission module
 ill-mission : (on mission safe : Bool) → on && mission && not safe ≡ true → mission ≡ true

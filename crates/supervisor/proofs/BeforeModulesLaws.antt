@@ -7,7 +7,7 @@ use lib.Dec.{T, lit<}
 use Rattle.basics.specs.Choice.{bit}
 use Rattle.basics.proofs.ChoiceLaws.{is-true, is-false}
 use Rattle.modules.specs.Groups.{missionFour, isCore, isMission}
-use Rattle.modules.specs.Ends.{noEnds, endsOver, endsInRange}
+use Rattle.modules.specs.Ends.{endsOver, endsInRange}
 use Rattle.modules.specs.Stage.{modulesInRange}
 use Rattle.modules.proofs.EndsLaws.{fallen-in-range, over-mission}
 use Rattle.modules.proofs.StageLaws.{requested-in-range}

@@ -4,7 +4,7 @@ ghost use Prim.Native.Nat.{_<_};
 ghost use Rattle.supervisor.specs.State.{HasMasks};
 ghost use Rattle.supervisor.specs.Range.{judgeTicks};
 ghost use Rattle.supervisor.specs.Control.{crossingOf, crossed, controlled};
-ghost use Rattle.supervisor.specs.declared.control.Crossing.the-variants.{Downward};
+ghost use Rattle.supervisor.specs.declared.control.Crossing.the-variants.{Upward, Downward};
 use crate::range::JUDGE_TICKS;
 use crate::state::Battery;
 use crate::state::Mode;
@@ -43,6 +43,13 @@ impl Mode {
 }
 
 impl State {
+    // The state after a crossing upward.
+    fn risen(self) -> State
+        ensures { λ r. ⌜ r ≡ crossed Upward self ⌝ }
+    {
+        self.with_mode(Mode::Safe)
+    }
+
     // The state after a crossing downward.
     fn fallen(mut self) -> State
         requires { ⌜ HasMasks self ⌝ }
@@ -68,7 +75,7 @@ impl State {
         let mode = watch.mode;
         match mode.crossing(self.battery) {
             Crossing::Level => self,
-            Crossing::Upward => self.with_mode(Mode::Safe),
+            Crossing::Upward => self.risen(),
             Crossing::Downward => self.fallen(),
         }
     }

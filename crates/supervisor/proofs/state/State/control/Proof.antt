@@ -22,8 +22,8 @@ enum-told c = search needs
 enum-told-2 : tie.Need-enum-told-2
 enum-told-2 c = search needs
 
-with-mode-requires : tie.Need-with-mode-requires
-with-mode-requires c κs = search needs
+risen-requires : tie.Need-risen-requires
+risen-requires c κs = search needs
 
 enum-told-3 : tie.Need-enum-told-3
 enum-told-3 c = search needs
@@ -40,7 +40,7 @@ unfolding controlled
 returns-3 c =
     simp (
       eq-eqb _ _ (c .before .before .before .before .before .before .if1 .left),
-      c .with-mode .ensures,
+      c .risen .ensures,
       rw (c .before .before .before .crossing .ensures) at (c .before .enum-told2 .given .1),
     )
 
@@ -62,7 +62,7 @@ control-spec =
     crossing-requires
     enum-told
     enum-told-2
-    with-mode-requires
+    risen-requires
     enum-told-3
     fallen-requires
     returns-2
