@@ -3,12 +3,12 @@
 use Prim.Native.Nat.{ℕ}
 use native.Mathlib.Omega.{arith}
 use mathlib.Core.Path.{_≡_, refl, sym, ap, _∙_}
-use mathlib.Core.Bool.{Bool, true, false, not, _&&_}
+use mathlib.Core.Bool.{Bool, true, false, not}
 use mathlib.Core.List.{List, [], _∷_, _++_, append-assoc}
 use lib.Dec.{T, leb}
 use lib.ListN.{length}
 use borrow.Author.Tests.{leb-true, eqb-true}
-use Rattle.basics.proofs.ChoiceLaws.{either, and-both}
+use Rattle.basics.proofs.ChoiceLaws.{either, and-both, never-both}
 use Rattle.basics.specs.Outcome.{Outcome}
 use Rattle.frames.specs.Answer.{answerNumber}
 use Rattle.frames.specs.Kind.{reportBytes}
@@ -38,12 +38,6 @@ room-by s c false e z =
 done-room : (s : State) (c : Call) → answered s c ≡ 0 → HasRoom c
 done-room s c = room-by s c (leb reportBytes (length (c .room))) refl
 
--- what is never done together is not
-never-both : (done on : Bool) → (done ≡ true → on ≡ true → ⊥) → T (not (done && on))
-never-both true true h = h refl refl
-never-both true false h = tt
-never-both false on h = tt
-
 module _ (which : ℕ) (origin : Origin) (cs : List Call) (off : Call) (since : List Call) (o : OrderedOff memory origin which cs off since) where
   first : State
   first = called (after freshState cs) off .result .state
@@ -58,8 +52,8 @@ module _ (which : ℕ) (origin : Origin) (cs : List Call) (off : Call) (since : 
   none-on before [] s e f = tt
   none-on before (c ∷ rest) s e f =
       and-both (not (doneOn which s c)) (noOn which (called s c .result .state) rest)
-      (never-both (isDone (answered s c)) (says (orders which (aboutOf c) (plain false)))
-      (rw e (λ d on. late-on before rest c f (eqb-true (answered (after first before) c) 0 d) on)))
+      (never-both (says (orders which (aboutOf c) (plain false))) (isDone (answered s c))
+      (rw e (λ on d. late-on before rest c f (eqb-true (answered (after first before) c) 0 d) on)))
       (none-on (before ++ (c ∷ [])) rest (called s c .result .state) (ap (λ (t : State). called t c .result .state) e ∙ sym (after-append before (c ∷ []) first))
       (f ∙ sym (append-assoc before (c ∷ []) rest)))
 

@@ -2,12 +2,12 @@
 -- Assumes nothing.
 use Prim.Native.Nat.{ℕ, _+_, _≤_, _<_}
 use native.Mathlib.Omega.{arith}
-use mathlib.Core.Path.{_≡_, refl, sym, _∙_}
-use mathlib.Core.Bool.{Bool, true, false, not, _&&_, true≢false}
+use mathlib.Core.Path.{_≡_, refl, _∙_}
+use mathlib.Core.Bool.{Bool, true, false, not, true≢false}
 use mathlib.Core.List.{List, [], _∷_}
 use lib.Dec.{T, eqb}
 use Rattle.basics.specs.Choice.{if_then_else_}
-use Rattle.basics.proofs.ChoiceLaws.{holds, either, decided, and-left, and-right}
+use Rattle.basics.proofs.ChoiceLaws.{holds, either, decided, and-left, and-right, not-both}
 use Rattle.modules.specs.Groups.{isMission, moduleCount}
 use Rattle.modules.specs.Power.{isOn}
 use Rattle.frames.specs.About.{About, aTick, aCommand, neither}
@@ -52,12 +52,6 @@ same-says i (aCommand sender (Thresholds ascend descend)) word e = e
 same-says i (aCommand sender (Greeting repeats length)) word e = e
 same-says i neither word e = e
 
--- what is not so is not so of a done call
-not-done : (done on : Bool) → T (not (done && on)) → done ≡ true → on ≡ false
-not-done true true t e = absurd t
-not-done true false t e = refl
-not-done false on t e = absurd (true≢false (sym e))
-
 module _ (which : ℕ) (low : which < moduleCount) where
   -- a call says "off" if what it orders is "off": no crossing says "on"
   said-off : (s : State) (c : Call) (word : Word) → says (ordered which s c (later s c word)) ≡ false → says (said crossing which s c word) ≡ false
@@ -73,7 +67,7 @@ module _ (which : ℕ) (low : which < moduleCount) where
       let off : says w ≡ false = either (λ (v : Word). says v ≡ false) (runningTick s c) (aged-off word q) q in
       said-off s c word
       (decided (λ (v : Word). says v ≡ false) (isDone (answered s c))
-      (λ d. same-says which (aboutOf c) w off ∙ not-done (isDone (answered s c)) (says (orders which (aboutOf c) (plain false))) h d) (λ d. off))
+      (λ d. same-says which (aboutOf c) w off ∙ not-both (says (orders which (aboutOf c) (plain false))) (isDone (answered s c)) h d) (λ d. off))
 
   -- it is off after a done tick, and stays off
   abbrev Off : State → Type 0

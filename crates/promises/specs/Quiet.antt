@@ -15,7 +15,7 @@ use Rattle.promises.specs.AsTold.{plain, says, orders, SaysOff}
 
 -- a call is a done order "on" for module i, plain or timed, of either origin
 abbrev pub doneOn : ℕ → State → Call → Bool
-doneOn i s c = isDone (answered s c) && says (orders i (aboutOf c) (plain false))
+doneOn i s c = says (orders i (aboutOf c) (plain false)) && isDone (answered s c)
 
 -- no call of a history is
 abbrev pub noOn : ℕ → State → List Call → Bool

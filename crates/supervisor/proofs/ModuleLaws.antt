@@ -4,10 +4,10 @@
 use Prim.Native.Nat.{ℕ, _+_, _-_, _<_}
 use native.Mathlib.Omega.{arith}
 use mathlib.Core.Path.{_≡_, refl, sym, ap, _∙_}
-use mathlib.Core.Bool.{Bool, true, false, not, true≢false, false≢true}
+use mathlib.Core.Bool.{Bool, true, false, not, true≢false}
 use lib.ListN.{length}
 use lib.Dec.{lit<, leb, eqb}
-use borrow.Author.Tests.{leb-true, leb-false}
+use borrow.Author.Tests.{leb-true, leb-false, not-true}
 use Rattle.basics.specs.Choice.{if_then_else_, bit}
 use Rattle.basics.proofs.ChoiceLaws.{is-true, agreed, either}
 use Rattle.basics.proofs.EachLaws.{at-each, at-any, part-any, length-each}
@@ -140,10 +140,6 @@ of-each {A} i low mission core = by (isMission i) refl
 module _ (i : ℕ) (core : isCore i ≡ true) where
   pub core-not-mission : isMission i ≡ false
   core-not-mission = not-true (isMission i) (sym (core-or-mission i (core-low i core)) ∙ core)
-    where
-      not-true : (t : Bool) → not t ≡ true → t ≡ false
-      not-true true e = absurd (false≢true e)
-      not-true false e = refl
 
   pub core-allowed : (m : Mode) → bit i (allowedIn m) ≡ not (isDeployWait m)
   core-allowed (DeployWait phase) = none-allowed i (core-low i core)

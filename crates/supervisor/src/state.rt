@@ -107,7 +107,7 @@ impl State {
     }
 
     // The state with the modules of a mask requested off, and their bits with them. Only those that are requested are
-    // walked for: a mask that is not known beforehand keeps the walk a loop (docs/PERFORMANCE.md).
+    // set: a mask that no compiler knows beforehand keeps the walk over the modules a loop (docs/PERFORMANCE.md).
     pub(crate) fn without_requests(self, mask: u8) -> State
         requires { ⌜ HasMasks self ⌝ }
         ensures { λ r. ⌜ r ≡ withoutRequests mask self ⌝ }
