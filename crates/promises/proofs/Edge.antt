@@ -9,7 +9,6 @@ pub mod ForAReason
 pub mod CountsAsFailed
 pub mod AsTold
 pub mod ItEnds
-pub mod Quiet
 pub mod Dawn
 pub mod Refusals
 pub mod NeverSilent

@@ -15,6 +15,9 @@ impl State {
         if over == 0 {
             return self;
         }
-        self.without_requests(over)
+        let modules = self.modules;
+        let asked = modules::stage::request(modules, over, false);
+        let masks = self.masks.request(over, false);
+        self.with_modules(asked, masks)
     }
 }

@@ -1,6 +1,5 @@
 //! The differential tests' own test: faults planted in one side are found, and
-//! come out short. `harness_masks.rs` has those of the masks, `harness_crossings.rs` those
-//! of crossings and of two craft.
+//! come out short. `harness_masks.rs` has those of the masks.
 
 mod common;
 mod kept;

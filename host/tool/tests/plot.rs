@@ -145,7 +145,6 @@ fn every_mark_and_bar_says_what_it_is() {
     for script in [
         "dawn",
         "orbit",
-        "quiet-radio",
         "school",
         "shorted",
         "sister-craft-a",

@@ -65,10 +65,10 @@ pub const LEFT: [(&str, Step); 17] = [
         }
     ),
     leaves!(
-        "sets the core four in the requested mask as the mode rises",
+        "leaves the requested mask as the mode rises",
         |before, after, _| {
             if before.mode == Mode::Recovery && after.mode == Mode::Safe {
-                after.masks.requested |= 0x27;
+                after.masks.requested &= before.masks.requested;
             }
         }
     ),
