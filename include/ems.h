@@ -157,7 +157,12 @@ enum ems_answer {
  * takes itself back when its minutes are over. A greeting is 22 bytes: kind, origin,
  * serial (2), repeats 0 to 255, length 0 to EMS_MESSAGE_BYTES, the text with zeros
  * past its length; it is taken in every mode, and its message goes out with the next
- * so many beacons in SAFE. With repeats 0 or length 0 it clears the message. */
+ * so many beacons in SAFE. With repeats 0 or length 0 it clears the message.
+ *
+ * A core module (MCS 0, COMM1 1, COMM2 2, I2C 5) is requested from the fresh start on;
+ * after that only orders for it move its request, and no change of mode does. A mission
+ * module (ADCS 3, PAYLOAD 4, SBAND1 6, SBAND2 7) is requested by an order in SAFE; its
+ * request goes off at an order, at its end, and as the mode falls to RECOVERY. */
 enum ems_kind {
     EMS_KIND_TICK = 0x01,
     EMS_KIND_BATTERY = 0x02,

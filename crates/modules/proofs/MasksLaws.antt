@@ -21,7 +21,7 @@ use Rattle.basics.proofs.ChoiceLaws.{and-left, and-right, and-both}
 use Rattle.basics.proofs.EachLaws.{each-at}
 use Rattle.modules.specs.Groups.{moduleCount}
 use Rattle.modules.specs.Masks.{below, maskOf, masksOf, areMasksOf, packedMasks, countOn, oneBit, bitsSet, requestsSet}
-use Rattle.modules.specs.Power.{isOn, isFailed}
+use Rattle.modules.specs.Power.{isOn, isFailed, withRequest}
 use Rattle.modules.specs.Stage.{moduleSecond, stageOf, moduleSwitched, switchedBy, moduleRequested, requestedBy, moduleAsked, requestedOne}
 use Rattle.modules.specs.declared.power.Power.{Power}
 use Rattle.modules.specs.declared.power.Power.the-variants.{On, Off, Failed}
@@ -70,7 +70,7 @@ below-low true mask = eq-eqb (below true mask / 1 % 2) 1 (omega arith)
 below-low false mask = ne-eqb (below false mask / 1 % 2) 1 (λ e. absurd (omega (arith, e)))
 
 -- bit i is module i's
-pub maskOf-bit : (test : Module → Bool) (i : ℕ) (ms : List Module) (d : Module) → i < length ms → bit i (maskOf test ms) ≡ test (getD ms i d)
+maskOf-bit : (test : Module → Bool) (i : ℕ) (ms : List Module) (d : Module) → i < length ms → bit i (maskOf test ms) ≡ test (getD ms i d)
 unfolding maskOf
 maskOf-bit test i [] d h = absurd (not-suc-le-zero h)
 maskOf-bit test zero (m ∷ ms) d h = below-low (test m) (maskOf test ms)
@@ -79,7 +79,7 @@ maskOf-bit test (suc i) (m ∷ ms) d h =
     ∙ ap (bit i) (below-half (test m) (maskOf test ms))
     ∙ maskOf-bit test i ms d (le-of-suc-le-suc h)
 
-pub requested-bit : (i : ℕ) (ms : List Module) (d : Module) → i < length ms → bit i (masksOf ms .requested) ≡ getD ms i d .requested
+requested-bit : (i : ℕ) (ms : List Module) (d : Module) → i < length ms → bit i (masksOf ms .requested) ≡ getD ms i d .requested
 unfolding masksOf
 requested-bit i ms d h = maskOf-bit isAsked i ms d h
 
@@ -247,6 +247,22 @@ requests-set mask on ms h =
 -- eight modules' masks stay true where their bits are set as their requests are
 pub masks-asked : (mask : ℕ) (on : Bool) (ms : List Module) (masks : Masks) → length ms ≡ 8 → mask < 256 → masks ≡ masksOf ms → requestsSet mask on masks ≡ masksOf (requestedBy mask on ms)
 masks-asked mask on ms masks eight small own = ap (requestsSet mask on) own ∙ sym (requests-set mask on ms (rw eight small))
+
+-- of the modules of a mask, those not requested need not be set off
+pub requested-off : (mask : ℕ) (ms : List Module) → requestedBy (bitAnd (masksOf ms .requested) mask) false ms ≡ requestedBy mask false ms
+unfolding requestedBy
+requested-off mask ms = each-at (moduleRequested (bitAnd (masksOf ms .requested) mask) false) (moduleRequested mask false) ms noModule off
+  where
+    cut : (asked here : Bool) → (if asked && here then false else asked) ≡ (if here then false else asked)
+    cut true here = refl
+    cut false true = refl
+    cut false false = refl
+
+    off : (i : ℕ) → i < length ms → moduleRequested (bitAnd (masksOf ms .requested) mask) false i (getD ms i noModule) ≡ moduleRequested mask false i (getD ms i noModule)
+    off i h =
+        let m : Module = getD ms i noModule in
+        ap (λ (t : Bool). withRequest (if t then false else m .requested) m) (bit-and i (masksOf ms .requested) mask ∙ ap (λ (t : Bool). t && bit i mask) (requested-bit i ms noModule h))
+        ∙ ap (λ (t : Bool). withRequest t m) (cut (m .requested) (bit i mask))
 
 -- one module's request is that of the mask of it alone
 requested-one : (which : ℕ) (on : Bool) (ms : List Module) → length ms ≡ 8 → requestedOne which on ms ≡ requestedBy (oneBit which) on ms

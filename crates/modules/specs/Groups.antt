@@ -32,6 +32,10 @@ sband1Module = 6
 abbrev pub sband2Module : ℕ
 sband2Module = 7
 
+-- one of the core four
+abbrev pub isCore : ℕ → Bool
+isCore i = bit i coreFour
+
 -- one of the mission four; the others of the eight are the core four
 abbrev pub isMission : ℕ → Bool
 isMission i = bit i missionFour

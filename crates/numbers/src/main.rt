@@ -1,5 +1,5 @@
 // The numbers of document 01's "Numbers on either side" that are run and not proved; the longest keying, which fills
-// MOST_UNITS; and the two craft that show why the third demand is not claimed for the core four.
+// MOST_UNITS; and two craft on which COMM2, once ordered off, stays off over a crossing upward that one of them makes.
 use frames::answer::Answer;
 use frames::kind::ANTENNAS;
 use frames::kind::BATTERY;
@@ -76,10 +76,10 @@ fn after_reading(state: State, millivolts: u16) -> State {
     after(state, &frame, 1)
 }
 
-// The state after the ground's first order: COMM2 off.
-fn after_comm2_off(state: State) -> State {
-    let frame = [ORDER, Origin::Ground.number(), 0, 1, COMM2, 0];
-    after(state, &frame, 1)
+// The state after an order of the ground's for COMM2, 0 off or 1 on, and a tick.
+fn after_comm2(state: State, serial: u8, on: u8) -> State {
+    let frame = [ORDER, Origin::Ground.number(), 0, serial, COMM2, on];
+    after_ticks(after(state, &frame, 1), 1)
 }
 
 // Whether the mode is RECOVERY.
@@ -171,13 +171,17 @@ fn say_two_craft() {
     let mut stronger = after_ticks(after_reading(settled, ASCEND + 1), JUDGE_TICKS);
     say(b"COMM2 at 7400 mV and 7401 mV");
     say_both(weaker, stronger);
-    weaker = after_ticks(after_comm2_off(weaker), 1);
-    stronger = after_ticks(after_comm2_off(stronger), 1);
+    weaker = after_comm2(weaker, 1, 0);
+    stronger = after_comm2(stronger, 1, 0);
     say(b"COMM2 ordered off");
     say_both(weaker, stronger);
     weaker = after_ticks(after_reading(weaker, ASCEND + 1), JUDGE_TICKS - 1);
     stronger = after_ticks(after_reading(stronger, ASCEND + 1), JUDGE_TICKS - 1);
     say(b"COMM2 after the weaker's own upward crossing");
+    say_both(weaker, stronger);
+    weaker = after_comm2(weaker, 2, 1);
+    stronger = after_comm2(stronger, 2, 1);
+    say(b"COMM2 ordered on");
     say_both(weaker, stronger);
 }
 

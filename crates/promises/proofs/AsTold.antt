@@ -1,15 +1,15 @@
 -- As told, proved.
 -- Assumes nothing.
 use Prim.Native.Nat.{ℕ, _<_}
-use mathlib.Core.Path.{_≡_, refl, sym, _∙_}
+use mathlib.Core.Path.{_≡_, refl, sym, ap, _∙_}
 use mathlib.Core.Bool.{Bool, true, false, not, true≢false}
 use mathlib.Core.List.{List, [], _∷_, _++_}
 use lib.Dec.{T}
 use Rattle.basics.specs.Choice.{bit}
-use Rattle.basics.proofs.ChoiceLaws.{is-false, and-left}
+use Rattle.basics.proofs.ChoiceLaws.{is-false, either, and-left}
 use Rattle.modules.specs.Power.{isOn}
-use Rattle.modules.specs.Groups.{isMission, moduleCount}
-use Rattle.modules.proofs.EndsLaws.{none-at}
+use Rattle.modules.specs.Groups.{isCore, isMission, moduleCount}
+use Rattle.modules.proofs.EndsLaws.{core-none, none-at}
 use Rattle.supervisor.specs.Fresh.{freshState}
 use Rattle.supervisor.specs.Tick.{allowedIn}
 use Rattle.supervisor.specs.History.{Call, called, after, aboutOf, doneTick}
@@ -17,9 +17,9 @@ use Rattle.supervisor.specs.State.{moduleAt, endAt, inDeployWait}
 use Rattle.supervisor.specs.declared.state.State.{State}
 use Rattle.supervisor.proofs.FreshLaws.{fresh-eight, fresh-requested, fresh-off}
 use Rattle.supervisor.proofs.HistoryLaws.{called-eight, after-append}
-use Rattle.supervisor.proofs.ModuleLaws.{Eight}
+use Rattle.supervisor.proofs.ModuleLaws.{Eight, core-low, core-or-mission, core-not-mission}
 use Rattle.supervisor.proofs.TickLaws.{waits}
-use Rattle.promises.specs.AsTold.{AsTold, Word, plain, Requested, OnAfter, crossing, said, lastWord}
+use Rattle.promises.specs.AsTold.{AsTold, Word, plain, says, Requested, AsOrdered, OnAfter, runningTick, ordered, later, crossing, said, lastWord, lastOrder}
 use Rattle.promises.specs.TwoCraft.{shorted}
 use Rattle.promises.specs.Deployment.{deployed}
 use Rattle.promises.specs.ForAReason.{wantedIn}
@@ -46,6 +46,26 @@ fresh-held i low cs =
 
 fresh-said : Requested crossing
 fresh-said i low cs = fresh-held i low cs .requested
+
+-- a core module's plain word is changed by orders alone
+module _ (i : ℕ) (core : isCore i ≡ true) where
+  plain-later : (s : State) (c : Call) (on : Bool) → later s c (plain on) ≡ plain on
+  plain-later s c on = either (λ (w : Word). w ≡ plain on) (runningTick s c) refl refl
+
+  core-said : (s : State) (c : Call) (on : Bool) → said crossing i s c (plain on) ≡ ordered i s c (plain on)
+  core-said s c on = rw (core-not-mission i core, plain-later s c on)
+
+  after-ordered :
+      (cs : List Call) (s : State) (on : Bool) → Eight s → moduleAt i s .requested ≡ on → moduleAt i (after s cs) .requested ≡ lastOrder i on s cs
+  after-ordered [] s on n e = e
+  after-ordered (c ∷ cs) s on n e =
+      after-ordered cs (called s c .result .state) (says (ordered i s c (plain on))) (called-eight s c n)
+      (called-held i (core-low i core) s n (plain on) (record { requested = e; end = core-none i (s .ends) (core-not-mission i core) }) c .requested
+      ∙ ap says (core-said s c on))
+
+fresh-ordered : AsOrdered isCore
+fresh-ordered i core cs =
+    after-ordered i core cs freshState (isCore i) fresh-eight (fresh-requested i (core-low i core) ∙ sym (core-or-mission i (core-low i core)))
 
 module _ (i : ℕ) where
   -- in DEPLOY_WAIT the module is off
@@ -90,4 +110,4 @@ asked-for i low cs c d t =
     rw (← fresh-said i low (cs ++ c ∷ []), after-append cs (c ∷ []) freshState) (called-asked i (after freshState cs) c (fresh-dark i low cs) d t)
 
 pub as-told : AsTold
-as-told = record { requested = fresh-said; askedFor = asked-for }
+as-told = record { requested = fresh-said; core = fresh-ordered; askedFor = asked-for }

@@ -1,40 +1,30 @@
--- Dawn, proved: no call since the "off" requests the module again, and so no tick switches it on.
+-- Dawn, proved: an "on" that is late is not done, and so what was ordered off stays quiet.
 -- Assumes nothing.
-use Prim.Native.Nat.{ℕ, _+_, _≤_, _<_}
+use Prim.Native.Nat.{ℕ}
 use native.Mathlib.Omega.{arith}
 use mathlib.Core.Path.{_≡_, refl, sym, ap, _∙_}
-use mathlib.Core.Bool.{Bool, true, false, not, _&&_, true≢false}
+use mathlib.Core.Bool.{Bool, true, false, not}
 use mathlib.Core.List.{List, [], _∷_, _++_, append-assoc}
-use lib.Dec.{eqb, leb}
+use lib.Dec.{T, leb}
 use lib.ListN.{length}
 use borrow.Author.Tests.{leb-true, eqb-true}
-use Rattle.basics.specs.Choice.{if_then_else_}
-use Rattle.basics.proofs.ChoiceLaws.{is-true, is-false, holds, either, decided}
+use Rattle.basics.proofs.ChoiceLaws.{either, and-both, never-both}
 use Rattle.basics.specs.Outcome.{Outcome}
-use Rattle.modules.specs.Groups.{isMission, moduleCount}
-use Rattle.modules.specs.Power.{isOn}
 use Rattle.frames.specs.Answer.{answerNumber}
 use Rattle.frames.specs.Kind.{reportBytes}
-use Rattle.frames.specs.About.{About, aTick, aCommand, neither}
-use Rattle.frames.specs.declared.command.Command.the-variants.{Order, Timed, Thresholds, Greeting}
 use Rattle.frames.specs.declared.sender.Origin.{Origin}
-use Rattle.supervisor.specs.State.{isRecovery, isSafe, moduleAt}
 use Rattle.supervisor.specs.Fresh.{freshState}
 use Rattle.supervisor.specs.Range.{inRange}
 use Rattle.supervisor.specs.Step.{stepOf}
-use Rattle.supervisor.specs.History.{Call, called, answered, isDone, after, aboutOf, HasRoom, doneTick, doneTicks}
+use Rattle.supervisor.specs.History.{Call, called, answered, isDone, after, aboutOf, HasRoom}
 use Rattle.supervisor.specs.declared.state.State.{State}
 use Rattle.supervisor.specs.declared.step.Stepped.{Stepped}
-use Rattle.supervisor.proofs.FreshLaws.{fresh-eight}
-use Rattle.supervisor.proofs.HistoryLaws.{called-eight, after-eight, after-append}
-use Rattle.supervisor.proofs.ModuleLaws.{Eight, mission-low}
-use Rattle.promises.specs.AsTold.{Word, plain, timed, says, orders, SaysOn, SaysOff, runningTick, ordered, later, crossing, said, lastWord}
-use Rattle.promises.specs.Dawn.{Dawn, OrderedOff, StillOff, memory}
-use Rattle.promises.proofs.OnlyTicks.{only-ticks}
-use Rattle.promises.proofs.WordLaws.{aged-off}
-use Rattle.promises.proofs.Requests.{Held, called-held}
-use Rattle.promises.proofs.AsTold.{Dark, after-dark, called-off, fresh-dark, fresh-held}
+use Rattle.supervisor.proofs.HistoryLaws.{after-append}
+use Rattle.promises.specs.AsTold.{plain, says, orders, SaysOn}
+use Rattle.promises.specs.Quiet.{doneOn, noOn}
+use Rattle.promises.specs.Dawn.{Dawn, OrderedOff, memory}
 use Rattle.promises.proofs.Late.{old}
+use Rattle.promises.proofs.Quiet.{quiet}
 
 -- what is done had room
 room-by : (s : State) (c : Call) (room : Bool) → leb reportBytes (length (c .room)) ≡ room → answered s c ≡ 0 → HasRoom c
@@ -48,100 +38,31 @@ room-by s c false e z =
 done-room : (s : State) (c : Call) → answered s c ≡ 0 → HasRoom c
 done-room s c = room-by s c (leb reportBytes (length (c .room))) refl
 
--- an "off" says so whatever was said before
-off-new : (here : Bool) (ordered word : Word) → says (if here then ordered else plain true) ≡ false → says (if here then ordered else word) ≡ false
-off-new true ordered word e = e
-off-new false ordered word e = absurd (true≢false e)
+module _ (which : ℕ) (origin : Origin) (cs : List Call) (off : Call) (since : List Call) (o : OrderedOff memory origin which cs off since) where
+  first : State
+  first = called (after freshState cs) off .result .state
 
-off-says : (i : ℕ) (a : About) (word : Word) → SaysOff i a → says (orders i a word) ≡ false
-off-says i (aTick shorts) word e = absurd (true≢false e)
-off-says i (aCommand sender (Order which on)) word e = off-new (eqb i which) (plain on) word e
-off-says i (aCommand sender (Timed which minutes)) word e = off-new (eqb i which) (timed minutes 0) word e
-off-says i (aCommand sender (Thresholds ascend descend)) word e = absurd (true≢false e)
-off-says i (aCommand sender (Greeting repeats length)) word e = absurd (true≢false e)
-off-says i neither word e = absurd (true≢false e)
+  -- an "on" since then is not done
+  late-on : (before later : List Call) (c : Call) → since ≡ before ++ c ∷ later → answered (after first before) c ≡ 0 → SaysOn which (aboutOf c) → ⊥
+  unfolding first
+  late-on before later c e z says = rw z at (old origin (after freshState cs) off before c (o .lateOns before later c e says (done-room (after first before) c z)) .answer)
 
--- what is said after an "off" does not hang on how that was said
-same-new : (here : Bool) (ordered word : Word) → says word ≡ false → says (if here then ordered else word) ≡ says (if here then ordered else plain false)
-same-new true ordered word e = refl
-same-new false ordered word e = e
-
-same-says : (i : ℕ) (a : About) (word : Word) → says word ≡ false → says (orders i a word) ≡ says (orders i a (plain false))
-same-says i (aTick shorts) word e = e
-same-says i (aCommand sender (Order which on)) word e = same-new (eqb i which) (plain on) word e
-same-says i (aCommand sender (Timed which minutes)) word e = same-new (eqb i which) (timed minutes 0) word e
-same-says i (aCommand sender (Thresholds ascend descend)) word e = e
-same-says i (aCommand sender (Greeting repeats length)) word e = e
-same-says i neither word e = e
-
-module _ (which : ℕ) (mission : isMission which ≡ true) where
-  low : which < moduleCount
-  low = mission-low which mission
-
-  -- a call says "off" if what it orders is "off"
-  said-off : (s : State) (c : Call) (word : Word) → says (ordered which s c (later s c word)) ≡ false → says (said crossing which s c word) ≡ false
-  said-off s c word e =
-      rw mission (either (λ (w : Word). says w ≡ false) (isSafe (s .watch .mode) && isRecovery (called s c .result .state .watch .mode)) refl e)
-
-  off-done : (s : State) (c : Call) (word : Word) → answered s c ≡ 0 → SaysOff which (aboutOf c) → says (ordered which s c word) ≡ false
-  off-done s c word z e = rw z (off-says which (aboutOf c) word e)
-
-  -- and it stays "off" where no "on" is done
-  no-on : (s : State) (c : Call) (word : Word) → says word ≡ false → (answered s c ≡ 0 → SaysOn which (aboutOf c) → ⊥) → says (said crossing which s c word) ≡ false
-  no-on s c word q h =
-      let w : Word = later s c word in
-      let on : Bool = says (orders which (aboutOf c) (plain false)) in
-      let off : says w ≡ false = either (λ (v : Word). says v ≡ false) (runningTick s c) (aged-off word q) q in
-      said-off s c word
-      (decided (λ (v : Word). says v ≡ false) (isDone (answered s c))
-      (λ d. same-says which (aboutOf c) w off ∙ is-false on (λ t. h (eqb-true (answered s c) 0 d) (is-true on t))) (λ d. off))
-
-  -- it is off after a done tick, and stays off
-  abbrev Off : State → Type 0
-  Off s = isOn (moduleAt which s .power) ≡ false
-
-  off-by :
-      (s : State) (c : Call) → Dark which s → moduleAt which (called s c .result .state) .requested ≡ false → (tick : Bool) → doneTick s c ≡ tick → (d : ℕ) → (1 ≤ d → Off s) →
-      1 ≤ d + (if tick then 1 else 0) → Off (called s c .result .state)
-  off-by s c dark q true e d p h = called-off which s c dark (holds (doneTick s c) e) q
-  off-by s c dark q false e d p h = rw (only-ticks .power which s c e) (p (omega arith))
-
-  module _ (origin : Origin) (cs : List Call) (off : Call) (since : List Call) (o : OrderedOff memory origin which cs off since) where
-    first : State
-    first = called (after freshState cs) off .result .state
-
-    -- an "on" since then is not done
-    late-on : (before later : List Call) (c : Call) → since ≡ before ++ c ∷ later → answered (after first before) c ≡ 0 → SaysOn which (aboutOf c) → ⊥
-    unfolding first
-    late-on before later c e z says = rw z at (old origin (after freshState cs) off before c (o .lateOns before later c e says (done-room (after first before) c z)) .answer)
-
-    still :
-        (before rest : List Call) (s : State) → s ≡ after first before → since ≡ before ++ rest → Eight s → Dark which s → (word : Word) → Held which s word →
-        says word ≡ false → (d : ℕ) → (1 ≤ d → Off s) →
-        (moduleAt which (after s rest) .requested ≡ false) × (1 ≤ d + doneTicks s rest → Off (after s rest))
-    still before [] s e f n dark word held q d p = (held .requested ∙ q, λ h. p (omega arith))
-    still before (c ∷ rest) s e f n dark word held q d p =
-        let next : State = called s c .result .state in
-        let quiet : says (said crossing which s c word) ≡ false = no-on s c word q (rw e (late-on before rest c f)) in
-        let holds : Held which next (said crossing which s c word) = called-held which low s n word held c in
-        let (requested, power) =
-        still (before ++ (c ∷ [])) rest next (ap (λ (t : State). called t c .result .state) e ∙ sym (after-append before (c ∷ []) first))
-        (f ∙ sym (append-assoc before (c ∷ []) rest)) (called-eight s c n) (after-dark which (c ∷ []) s dark) (said crossing which s c word) holds quiet
-        (d + (if doneTick s c then 1 else 0)) (off-by s c dark (holds .requested ∙ quiet) (doneTick s c) refl d p) in
-        (requested, λ h. power (omega arith))
-
-    stays-off : StillOff 1 which first since
-    unfolding first
-    stays-off =
-        let s : State = after freshState cs in
-        let n : Eight s = after-eight cs freshState fresh-eight in
-        let word : Word = lastWord crossing which (plain (not (isMission which))) freshState cs in
-        let quiet : says (said crossing which s off word) ≡ false = said-off s off word (off-done s off (later s off word) (o .done) (o .order)) in
-        let (requested, power) =
-        still [] since first refl refl (called-eight s off n) (after-dark which (off ∷ []) s (fresh-dark which low cs)) (said crossing which s off word)
-        (called-held which low s n word (fresh-held which low cs) off) quiet 0 (λ h. absurd (omega arith)) in
-        record { requested = requested; power = λ h. power (omega arith) }
+  -- call by call
+  none-on : (before rest : List Call) (s : State) → s ≡ after first before → since ≡ before ++ rest → T (noOn which s rest)
+  none-on before [] s e f = tt
+  none-on before (c ∷ rest) s e f =
+      and-both (not (doneOn which s c)) (noOn which (called s c .result .state) rest)
+      (never-both (says (orders which (aboutOf c) (plain false))) (isDone (answered s c))
+      (rw e (λ on d. late-on before rest c f (eqb-true (answered (after first before) c) 0 d) on)))
+      (none-on (before ++ (c ∷ [])) rest (called s c .result .state) (ap (λ (t : State). called t c .result .state) e ∙ sym (after-append before (c ∷ []) first))
+      (f ∙ sym (append-assoc before (c ∷ []) rest)))
 
 pub dawn : Dawn
 unfolding first
-dawn = record { old = old; dark = λ origin which cs off since mission o. stays-off which mission origin cs off since o }
+dawn =
+    record {
+      old = old;
+      dark = λ origin which cs off since low o.
+          quiet which cs off since low
+          (record { order = o .order; done = o .done; noneOn = none-on which origin cs off since o [] since (called (after freshState cs) off .result .state) refl refl });
+    }

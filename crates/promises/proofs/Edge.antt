@@ -9,6 +9,7 @@ pub mod ForAReason
 pub mod CountsAsFailed
 pub mod AsTold
 pub mod ItEnds
+pub mod Quiet
 pub mod Dawn
 pub mod Refusals
 pub mod NeverSilent

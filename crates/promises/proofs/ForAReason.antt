@@ -19,7 +19,8 @@ use Rattle.supervisor.proofs.TickLaws.{Ticks, waits, runs, ticks, ticked-stages
 use Rattle.promises.specs.TwoCraft.{shorted}
 use Rattle.promises.specs.Deployment.{deployed}
 use Rattle.promises.specs.ForAReason.{ForAReason, wantedIn, sound}
-use Rattle.promises.proofs.EachModule.{at-stage, before-power}
+use Rattle.supervisor.proofs.BeforeModulesLaws.{before-power}
+use Rattle.supervisor.proofs.ModuleLaws.{at-stage}
 use Rattle.promises.proofs.OnlyTicks.{Turn, moves, still, turn, only-ticks}
 
 -- one module's second

@@ -8,13 +8,13 @@ use mathlib.Core.List.{List, [], _∷_}
 use lib.Dec.{T, eqb}
 use borrow.Author.Tests.{lt-ltb, le-ltb, not-true}
 use Rattle.basics.specs.Choice.{if_then_else_}
-use Rattle.basics.proofs.ChoiceLaws.{is-true, holds, and-left, and-right, decided}
+use Rattle.basics.proofs.ChoiceLaws.{is-true, holds, and-left, and-right, not-both, decided}
 use Rattle.modules.specs.Groups.{isMission, moduleCount}
 use Rattle.modules.specs.Power.{isOn}
 use Rattle.frames.specs.About.{About, aTick, aCommand, neither}
 use Rattle.frames.specs.declared.command.Command.the-variants.{Order, Timed, Thresholds, Greeting}
 use Rattle.supervisor.specs.State.{moduleAt}
-use Rattle.supervisor.specs.Acted.{silent, done}
+use Rattle.supervisor.specs.Acted.{silent}
 use Rattle.supervisor.specs.History.{Call, called, answered, isDone, after, aboutOf, doneTick}
 use Rattle.supervisor.specs.declared.state.State.{State}
 use Rattle.supervisor.proofs.HistoryLaws.{called-eight}
@@ -38,11 +38,6 @@ module _ (which minutes : ℕ) where
   no-order (aCommand sender (Greeting repeats length)) word e = refl
   no-order neither word e = refl
 
-  not-done : (order done : Bool) → T (not (order && done)) → done ≡ true → order ≡ false
-  not-done true true t d = absurd t
-  not-done true false t d = absurd (true≢false (sym d))
-  not-done false done t d = refl
-
   later-timed : (s : State) (c : Call) (ticks : ℕ) → later s c (timed minutes ticks) ≡ timed minutes (ticks + (if runningTick s c then 1 else 0))
   later-timed s c ticks = by (runningTick s c)
     where
@@ -59,7 +54,7 @@ module _ (which minutes : ℕ) where
         let word : Word = later s c (timed minutes ticks) in
         let same : ordered which s c word ≡ word =
         decided (λ (w : Word). w ≡ word) (isDone (answered s c))
-        (λ d. no-order (aboutOf c) word (not-done (isOrder (eqb which) (aboutOf c)) (isDone (answered s c)) silent d)) (λ d. refl) in
+        (λ d. no-order (aboutOf c) word (not-both (isOrder (eqb which) (aboutOf c)) (isDone (answered s c)) silent d)) (λ d. refl) in
         rw (mission, not-true (crossesDown s c) (is-true (not (crossesDown s c)) level)) (same ∙ later-timed s c ticks)
 
     -- what is said of a history that leaves it alone, call by call

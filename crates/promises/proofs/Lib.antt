@@ -2,7 +2,6 @@ pub mod InRange
 pub mod KeyerRefusals
 pub mod BeaconRefusals
 pub mod Refusals
-pub mod EachModule
 pub mod OnlyTicks
 pub mod ForAReason
 pub mod OutOfRange
@@ -15,6 +14,7 @@ pub mod TwoEnds
 pub mod TwoTick
 pub mod TwoFrames
 pub mod TwoPower
+pub mod TwoCore
 pub mod TwoCraft
 pub mod Passes
 pub mod Serials
@@ -23,6 +23,7 @@ pub mod Requests
 pub mod AsTold
 pub mod Begins
 pub mod ItEnds
+pub mod Quiet
 pub mod Late
 pub mod Dawn
 pub mod BeaconLaws

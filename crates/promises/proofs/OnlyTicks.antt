@@ -7,6 +7,7 @@ use mathlib.Core.List.{List}
 use lib.Dec.{T}
 use lib.ListN.{getD}
 use Rattle.basics.proofs.ChoiceLaws.{either}
+use Rattle.modules.specs.Groups.{isCore}
 use Rattle.modules.specs.declared.ends.Ends.{Ends}
 use Rattle.modules.specs.declared.power.Module.{Module}
 use Rattle.frames.specs.Answer.{answerNumber}
@@ -32,13 +33,13 @@ use Rattle.supervisor.specs.History.{Call, aboutOf, called, answered, isDone, d
 use Rattle.supervisor.specs.declared.acted.Acted.{Acted}
 use Rattle.supervisor.specs.declared.state.State.{State}
 use Rattle.supervisor.proofs.ActLaws.{act-still, watch-still}
-use Rattle.supervisor.proofs.BeforeModulesLaws.{before-battery}
+use Rattle.supervisor.proofs.BeforeModulesLaws.{before-battery, before-core}
 use Rattle.supervisor.proofs.CommandLaws.{by-serial}
 use Rattle.supervisor.proofs.ControlLaws.{Controls, level, upward, downward, controls}
 use Rattle.supervisor.proofs.HistoryLaws.{Works, Comes, stopped, ticking, other, comes}
 use Rattle.supervisor.proofs.TickLaws.{Ticks, waits, runs, ticks, ticked-serials, staged-message}
 use Rattle.promises.specs.OnlyTicks.{OnlyTicks, OthersLeave, TicksLeave, RestLeaves, isOrder, any, isGreetingFrame, doneGreeting}
-use Rattle.promises.proofs.EachModule.{asked-power}
+use Rattle.supervisor.proofs.ModuleLaws.{at-stage, asked-power}
 
 -- a call is a done tick, or it is none
 pub data Turn (s : State) (c : Call) : Type 0 where
@@ -104,6 +105,11 @@ antennas-by : (shorts : ℕ) (s : State) → Ticks shorts s → ticked shorts s 
 unfolding beaconStage moduleStage beforeModules ended
 antennas-by shorts s (waits phase e w) = rw w
 antennas-by shorts s (runs e w) = rw w (controlled-antennas (ended s) (controls (ended s)))
+
+core-by : (i : ℕ) → isCore i ≡ true → (shorts : ℕ) (s : State) → Ticks shorts s → moduleAt i (ticked shorts s .state) .requested ≡ moduleAt i s .requested
+unfolding beaconStage
+core-by i core shorts s (waits phase e w) = rw w
+core-by i core shorts s (runs e w) = rw w (ap (λ m. m .requested) (at-stage (beforeModules s) i shorts) ∙ ap (λ m. m .requested) (before-core s i core))
 
 message-by : (shorts : ℕ) (s : State) → Ticks shorts s → (ticked shorts s .state .message .length ≡ s .message .length) × (ticked shorts s .state .message .text ≡ s .message .text)
 unfolding beaconStage
@@ -208,6 +214,7 @@ only-ticks =
       battery = ticks-leave (λ s. s .battery) (λ shorts s. battery-by shorts s (ticks shorts s));
       antennas = ticks-leave (λ s. s .antennas) (λ shorts s. antennas-by shorts s (ticks shorts s));
       requested = λ i. rest-leaves (λ ends modules. getD modules i offModule .requested);
+      core = λ i core. ticks-leave (λ s. moduleAt i s .requested) (λ shorts s. core-by i core shorts s (ticks shorts s));
       ends = rest-leaves (λ ends modules. ends);
       length = λ s c g. text-leaves s c g (turn s c) .0;
       text = λ s c g. text-leaves s c g (turn s c) .1;

@@ -9,8 +9,7 @@ use lib.Dec.{eqb}
 use borrow.Author.Tests.{eqb-true, eqb-false, ne-eqb, lt-ltb}
 use Rattle.basics.specs.Choice.{if_then_else_}
 use Rattle.basics.proofs.ChoiceLaws.{is-true, either, within-low}
-use Rattle.modules.specs.Groups.{coreFour, missionFour, isMission, moduleCount}
-use Rattle.modules.specs.Ends.{noEnds}
+use Rattle.modules.specs.Groups.{missionFour, isMission, moduleCount}
 use Rattle.modules.proofs.EndsLaws.{core-none, none-at}
 use Rattle.frames.specs.Greeting.{greetingText}
 use Rattle.frames.specs.Answer.{answerNumber}
@@ -24,7 +23,7 @@ use Rattle.frames.specs.declared.command.Command.{Command}
 use Rattle.frames.specs.declared.command.Command.the-variants.{Order, Timed, Thresholds, Greeting}
 use Rattle.frames.specs.declared.frame.Frame.the-variants as frame
 use Rattle.frames.proofs.ReadingLaws.{Fits, FitsCommand}
-use Rattle.supervisor.specs.State.{withControl, withEnds, moduleAt, endAt}
+use Rattle.supervisor.specs.State.{moduleAt, endAt}
 use Rattle.supervisor.specs.Acted.{silent, done}
 use Rattle.supervisor.specs.Tick.{ticked, beforeModules, moduleStage}
 use Rattle.supervisor.specs.Act.{actOf}
@@ -35,17 +34,15 @@ use Rattle.supervisor.specs.History.{Call, called, isDone}
 use Rattle.supervisor.specs.Ending.{ended}
 use Rattle.supervisor.specs.Control.{controlled}
 use Rattle.supervisor.specs.declared.acted.Acted.{Acted}
-use Rattle.supervisor.specs.declared.state.Mode.the-variants.{Recovery, Safe}
 use Rattle.supervisor.specs.declared.state.State.{State}
 use Rattle.supervisor.proofs.ActLaws.{watch-still}
 use Rattle.supervisor.proofs.ControlLaws.{Controls, level, upward, downward, controls}
 use Rattle.supervisor.proofs.HistoryLaws.{Comes, stopped, ticking, other, comes}
-use Rattle.supervisor.proofs.ModuleLaws.{Eight, ended-eight, at-ended, ended-end, at-crossed, at-asked, asked-end, other-end, core-or-mission}
+use Rattle.supervisor.proofs.ModuleLaws.{Eight, ended-eight, at-stage, at-unasked, not-unasked, at-asked, at-ended, ended-end, asked-end, other-end}
 use Rattle.supervisor.proofs.TickLaws.{Ticks, waits, runs, ticks, ticked-done}
 use Rattle.supervisor.proofs.CommandLaws.{by-serial}
 use Rattle.promises.specs.Deployment.{deployed}
 use Rattle.promises.specs.AsTold.{Word, plain, timed, says, orders, aged, crossing, said}
-use Rattle.promises.proofs.EachModule.{at-stage}
 use Rattle.promises.proofs.WordLaws.{leftOf, aged-says, aged-left, no-crossing, from-deploy}
 
 -- a state holds a word on module i: it is requested if the word is "on", and its end is what is left of it
@@ -117,7 +114,7 @@ module _ (i : ℕ) (low : i < moduleCount) where
   ended-held : (word : Word) (s : State) → Eight s → Held i s word → Held i (ended s) (aged word)
   ended-held word s n h =
       record {
-        requested = ap (λ m. m .requested) (at-ended s n i low) ∙ rw (h .end, h .requested) (aged-says word);
+        requested = ap (λ m. m .requested) (at-ended s i low) ∙ rw (h .end, h .requested) (aged-says word);
         end = ended-end i s ∙ ap (λ (k : ℕ). k - 1) (h .end) ∙ aged-left word;
       }
 
@@ -125,28 +122,14 @@ module _ (i : ℕ) (low : i < moduleCount) where
       (mission : Bool) → isMission i ≡ mission → (word : Word) (s : State) → Eight s → Held i s word → Controls s →
       Held i (controlled s) (crossing mission (s .watch .mode) (controlled s .watch .mode) word)
   control-held mission e word s n h (level count below none w) = rw (w, no-crossing mission (s .watch .mode) word) h
-  control-held true e word s n h (upward j m t w) =
-      rw (w, m)
-      (record {
-        requested = ap (λ r. r .requested) (at-crossed (withControl 0 s) n i low Safe coreFour true) ∙ rw (core-or-mission i low, e) (h .requested);
-        end = h .end;
-      })
-  control-held false e word s n h (upward j m t w) =
-      rw (w, m)
-      (record {
-        requested = ap (λ r. r .requested) (at-crossed (withControl 0 s) n i low Safe coreFour true) ∙ rw (core-or-mission i low, e);
-        end = core-none i (s .ends) e;
-      })
+  control-held true e word s n h (upward j m t w) = rw (w, m) h
+  control-held false e word s n h (upward j m t w) = rw (w, m) h
   control-held true e word s n h (downward j m t w) =
-      rw (w, m)
-      (record {
-        requested = ap (λ r. r .requested) (at-crossed (withEnds noEnds (withControl 0 s)) n i low Recovery missionFour false) ∙ rw e;
-        end = none-at i;
-      })
+      rw (w, m) (record { requested = ap (λ r. r .requested) (at-unasked s i missionFour) ∙ rw e; end = none-at i })
   control-held false e word s n h (downward j m t w) =
       rw (w, m)
       (record {
-        requested = ap (λ r. r .requested) (at-crossed (withEnds noEnds (withControl 0 s)) n i low Recovery missionFour false) ∙ rw e (h .requested);
+        requested = ap (λ r. r .requested) (not-unasked s i missionFour e) ∙ h .requested;
         end = none-at i ∙ sym (core-none i (s .ends) e) ∙ h .end;
       })
 

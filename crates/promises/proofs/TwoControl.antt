@@ -1,24 +1,21 @@
 -- What two craft keep between them, for one mission module, and that control keeps it.
 -- Assumes nothing.
-use Prim.Native.Nat.{ℕ, _+_, _≤_, _<_}
-use mathlib.Core.Path.{_≡_, refl, ap, _∙_}
-use mathlib.Core.Bool.{true, false}
+use Prim.Native.Nat.{ℕ, _+_, _≤_}
+use mathlib.Core.Path.{_≡_, refl, ap}
+use mathlib.Core.Bool.{true}
 use lib.Dec.{T, eqb}
-use Rattle.basics.specs.Choice.{bit}
 use Rattle.basics.proofs.ChoiceLaws.{same-test}
-use Rattle.modules.specs.Groups.{coreFour, missionFour, isMission, moduleCount}
-use Rattle.modules.specs.Ends.{noEnds}
+use Rattle.modules.specs.Groups.{missionFour, isMission}
 use Rattle.modules.specs.declared.power.Module.{Module}
-use Rattle.supervisor.specs.State.{withControl, withEnds, isSafe, moduleAt, endAt}
+use Rattle.supervisor.specs.State.{withControl, isSafe, moduleAt, endAt}
 use Rattle.supervisor.specs.Range.{judgeTicks}
 use Rattle.supervisor.specs.Control.{crossed, controlled}
 use Rattle.supervisor.specs.declared.control.Crossing.{Crossing}
-use Rattle.supervisor.specs.declared.control.Crossing.the-variants.{Upward, Downward}
+use Rattle.supervisor.specs.declared.control.Crossing.the-variants.{Downward}
 use Rattle.supervisor.specs.declared.state.Mode.{Mode}
-use Rattle.supervisor.specs.declared.state.Mode.the-variants.{Recovery, Safe}
 use Rattle.supervisor.specs.declared.state.Battery.{Battery}
 use Rattle.supervisor.specs.declared.state.State.{State}
-use Rattle.supervisor.proofs.ModuleLaws.{Eight, crossed-eight, at-crossed, mission-low, core-or-mission}
+use Rattle.supervisor.proofs.ModuleLaws.{Eight, unasked-eight, at-unasked}
 use Rattle.promises.proofs.TwoModes.{AtMost, even, behind, Cross, both-level, both-up, second-up, both-down, first-down, first-up}
 use Rattle.promises.proofs.TwoModes.{second-down, crosses}
 
@@ -50,27 +47,12 @@ abbrev pub Beside : ℕ → State → State → Type 0
 Beside i a b = record { shared : Shared a b; flown : Flown i a b }
 
 module _ (i : ℕ) (mission : isMission i ≡ true) where
-  low : i < moduleCount
-  low = mission-low i mission
-
-  not-core : bit i coreFour ≡ false
-  not-core = rw mission at (core-or-mission i low)
-
-  -- a mission module's request after a crossing: upward leaves it, downward drops it
-  up-asked : (s : State) → Eight s → moduleAt i (crossed Upward (withControl 0 s)) .requested ≡ moduleAt i s .requested
-  up-asked s e = ap (λ m. m .requested) (at-crossed (withControl 0 s) e i low Safe coreFour true) ∙ rw not-core
-
-  down-asked : (s : State) → Eight s → moduleAt i (crossed Downward (withControl 0 s)) .requested ≡ false
-  down-asked s e = ap (λ m. m .requested) (at-crossed (withEnds noEnds (withControl 0 s)) e i low Recovery missionFour false) ∙ rw mission
-
-  up-eight : (s : State) → Eight s → Eight (crossed Upward (withControl 0 s))
-  up-eight s e = crossed-eight (withControl 0 s) e Safe coreFour true
-
-  down-eight : (s : State) → Eight s → Eight (crossed Downward (withControl 0 s))
-  down-eight s e = crossed-eight (withEnds noEnds (withControl 0 s)) e Recovery missionFour false
+  -- a crossing down drops a mission module's request
+  down-asked : (s : State) → T (moduleAt i (crossed Downward (withControl 0 s)) .requested) → ⊥
+  down-asked s t = rw (at-unasked s i missionFour, mission) at t
 
   module _ (a b : State) where
-    -- control
+    -- control: upward leaves every request
     crossed-beside :
         (m n : Mode) (x y : Crossing) → a .watch .mode ≡ m → b .watch .mode ≡ n → Cross m n x y → Shared a b → Flown i a b →
         Beside i (crossed x (withControl 0 a)) (crossed y (withControl 0 b))
@@ -82,48 +64,33 @@ module _ (i : ℕ) (mission : isMission i ≡ true) where
           flown = record {
             modes = even;
             counts = refl;
-            eight = up-eight a (h .eight);
-            eight′ = up-eight b (h .eight′);
-            asked = record {
-              quiet = λ t. tt;
-              grows = λ t. rw (up-asked b (h .eight′)) (h .asked .grows (rw (up-asked a (h .eight)) at t));
-              ends = λ t. h .asked .ends (rw (up-asked a (h .eight)) at t);
-            };
+            eight = h .eight;
+            eight′ = h .eight′;
+            asked = record { quiet = λ t. tt; grows = h .asked .grows; ends = h .asked .ends };
           };
         }
     crossed-beside m n x y e f second-up s h =
-        record {
-          shared = s;
-          flown = record {
-            modes = rw e behind;
-            counts = refl;
-            eight = h .eight;
-            eight′ = up-eight b (h .eight′);
-            asked = record { quiet = h .asked .quiet; grows = λ t. rw (up-asked b (h .eight′)) (h .asked .grows t); ends = h .asked .ends };
-          };
-        }
+        record { shared = s; flown = record { modes = rw e behind; counts = refl; eight = h .eight; eight′ = h .eight′; asked = h .asked } }
     crossed-beside m n x y e f both-down s h =
-        let none : T (moduleAt i (crossed Downward (withControl 0 a)) .requested) → ⊥ = λ t. rw (down-asked a (h .eight)) at t in
         record {
           shared = s;
           flown = record {
             modes = even;
             counts = refl;
-            eight = down-eight a (h .eight);
-            eight′ = down-eight b (h .eight′);
-            asked = record { quiet = λ t. absurd (none t); grows = λ t. absurd (none t); ends = λ t. absurd (none t) };
+            eight = unasked-eight a (h .eight) missionFour;
+            eight′ = unasked-eight b (h .eight′) missionFour;
+            asked = record { quiet = λ t. absurd (down-asked a t); grows = λ t. absurd (down-asked a t); ends = λ t. absurd (down-asked a t) };
           };
         }
     crossed-beside m n x y e f first-down s h =
-        let none : T (moduleAt i (crossed Downward (withControl 0 a)) .requested) → ⊥ = λ t. rw (down-asked a (h .eight)) at t in
         record {
           shared = s;
           flown = record {
             modes = rw f behind;
             counts = refl;
-            eight = down-eight a (h .eight);
+            eight = unasked-eight a (h .eight) missionFour;
             eight′ = h .eight′;
-            asked = record { quiet = λ t. absurd (none t); grows = λ t. absurd (none t); ends = λ t. absurd (none t) };
+            asked = record { quiet = λ t. absurd (down-asked a t); grows = λ t. absurd (down-asked a t); ends = λ t. absurd (down-asked a t) };
           };
         }
     crossed-beside m n x y e f first-up s h =
@@ -132,13 +99,9 @@ module _ (i : ℕ) (mission : isMission i ≡ true) where
           flown = record {
             modes = rw f even;
             counts = refl;
-            eight = up-eight a (h .eight);
+            eight = h .eight;
             eight′ = h .eight′;
-            asked = record {
-              quiet = λ t. tt;
-              grows = λ t. h .asked .grows (rw (up-asked a (h .eight)) at t);
-              ends = λ t. h .asked .ends (rw (up-asked a (h .eight)) at t);
-            };
+            asked = record { quiet = λ t. tt; grows = h .asked .grows; ends = h .asked .ends };
           };
         }
     crossed-beside m n x y e f second-down s h =
@@ -149,7 +112,7 @@ module _ (i : ℕ) (mission : isMission i ≡ true) where
             modes = rw e even;
             counts = refl;
             eight = h .eight;
-            eight′ = down-eight b (h .eight′);
+            eight′ = unasked-eight b (h .eight′) missionFour;
             asked = record { quiet = h .asked .quiet; grows = λ t. absurd (none t); ends = λ t. absurd (none t) };
           };
         }

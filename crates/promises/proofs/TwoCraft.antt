@@ -10,7 +10,7 @@ use lib.Dec.{T}
 use Rattle.basics.specs.Choice.{word}
 use Rattle.basics.specs.Each.{each, eachFrom}
 use Rattle.basics.proofs.TablesLaws.{upto}
-use Rattle.modules.specs.Groups.{isMission, moduleCount}
+use Rattle.modules.specs.Groups.{isCore, isMission, moduleCount, adcsModule}
 use Rattle.modules.specs.Power.{isOn}
 use Rattle.modules.specs.Stage.{requestedBy}
 use Rattle.frames.specs.Greeting.{greetingText}
@@ -28,11 +28,12 @@ use Rattle.supervisor.specs.State.{moduleAt}
 use Rattle.supervisor.specs.declared.state.State.{State}
 use Rattle.supervisor.proofs.FreshLaws.{fresh-in-range, fresh-requested}
 use Rattle.supervisor.proofs.HistoryLaws.{called-read, called-in-range, take-roomy}
-use Rattle.supervisor.proofs.ModuleLaws.{mission-low}
+use Rattle.supervisor.proofs.ModuleLaws.{mission-low, of-each}
 use Rattle.promises.specs.TwoCraft.{TwoCraft, AsGood, same, higher, Paired, start, next, shorted, shortsOf, inReach, shortsBorne}
 use Rattle.promises.proofs.TwoModes.{even, number-at-most}
 use Rattle.promises.proofs.TwoControl.{Beside}
 use Rattle.promises.proofs.TwoFrames.{tension-beside, act-beside}
+use Rattle.promises.proofs.TwoCore.{Alike, act-alike}
 use Rattle.promises.proofs.TwoPower.{isSturdy, Bright, oneMore, lit-later, act-lit}
 
 module _ (i : ℕ) (mission : isMission i ≡ true) where
@@ -114,6 +115,32 @@ module _ (i : ℕ) (mission : isMission i ≡ true) where
       let full : T (isSturdy 0 (moduleAt i freshState .power)) = upto (λ k. isSturdy 0 (moduleAt k freshState .power)) moduleCount tt i (mission-low i mission) in
       record { sturdy = full; sturdy′ = full; lit = λ t. t }
 
+-- a core module, beside what the two craft keep for one of the mission four
+module _ (i : ℕ) (core : isCore i ≡ true) (j : ℕ) where
+  reading-alike :
+      (text : List ℕ) (r : Reading) (room room′ : List ℕ) (a b : State) → Beside j a b → Alike i core a b →
+      Alike i core (stepRead r text a room .result .state) (stepRead r text b room′ .result .state)
+  reading-alike text (Refused answer) room room′ a b h l = l
+  reading-alike text (Accepted f) room room′ a b h l =
+      act-alike i core f text a b (h .flown .modes) (h .shared .serials) (h .flown .eight) (h .flown .eight′) l
+
+  good-alike :
+      {x y : List ℕ} → AsGood inReach x y → (room room′ : List ℕ) (a b : State) → Beside j a b → Alike i core a b →
+      Alike i core (stepRead (readFrame x) (greetingText x) a room .result .state) (stepRead (readFrame y) (greetingText y) b room′ .result .state)
+  unfolding actOf
+  good-alike (same {bytes = x}) room room′ a b h l = reading-alike (greetingText x) (readFrame x) room room′ a b h l
+  good-alike (higher high low high′ low′ r r′ more) room room′ a b h l = rw (battery-read high low r, battery-read high′ low′ r′) l
+
+  module _ (mission : isMission j ≡ true) where
+    after-alike :
+        {cs ds : List Call} → Paired inReach cs ds → Roomy cs → Roomy ds → (a b : State) → T (inRange a) → T (inRange b) → Beside j a b → Alike i core a b →
+        Alike i core (after a cs) (after b ds)
+    after-alike start r r′ a b v v′ h l = l
+    after-alike (next {c = c} {d = d} good p) r r′ a b v v′ h l =
+        after-alike p (r .1) (r′ .1) (called a c .result .state) (called b d .result .state) (called-in-range a c v) (called-in-range b d v′)
+        (called-beside j mission c d (r .0) (r′ .0) good a b v v′ h)
+        (rw (called-read a c v (r .0), called-read b d v′ (r′ .0)) (good-alike good (c .room) (d .room) a b h l))
+
 -- the first n calls
 pub take-paired : {cs ds : List Call} → Paired inReach cs ds → (n : ℕ) → Paired inReach (take n cs) (take n ds)
 take-paired p zero = start
@@ -125,8 +152,17 @@ two-craft cs ds r r′ p n =
     let q : Paired inReach (take n cs) (take n ds) = take-paired p n in
     let s : Roomy (take n cs) = take-roomy n cs r in
     let s′ : Roomy (take n ds) = take-roomy n ds r′ in
+    let alike : (i : ℕ) → isCore i ≡ true → moduleAt i (after freshState (take n cs)) ≡ moduleAt i (after freshState (take n ds)) =
+    λ i core. after-alike i core adcsModule refl q s s′ freshState freshState fresh-in-range fresh-in-range (fresh-beside adcsModule refl) refl in
     record {
-      mode = number-at-most (after-beside 3 refl q s s′ freshState freshState fresh-in-range fresh-in-range (fresh-beside 3 refl) .flown .modes);
-      requested = λ i m. after-beside i m q s s′ freshState freshState fresh-in-range fresh-in-range (fresh-beside i m) .flown .asked .grows;
-      on = λ i m few. after-lit i m 0 q s s′ (omega arith) freshState freshState fresh-in-range fresh-in-range (fresh-beside i m) (fresh-lit i m);
+      mode = number-at-most (after-beside adcsModule refl q s s′ freshState freshState fresh-in-range fresh-in-range (fresh-beside adcsModule refl) .flown .modes);
+      requested = λ i low.
+          of-each i low
+          (λ m. after-beside i m q s s′ freshState freshState fresh-in-range fresh-in-range (fresh-beside i m) .flown .asked .grows)
+          (λ core t. rw (alike i core) at t);
+      on = λ i low few.
+          of-each i low
+          (λ m. after-lit i m 0 q s s′ (omega arith) freshState freshState fresh-in-range fresh-in-range (fresh-beside i m) (fresh-lit i m))
+          (λ core t. rw (alike i core) at t);
+      alike = alike;
     }

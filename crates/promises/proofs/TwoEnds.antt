@@ -44,7 +44,7 @@ module _ (i : ℕ) (mission : isMission i ≡ true) where
           eight = ended-eight a (h .flown .eight);
           eight′ = ended-eight b (h .flown .eight′);
           asked =
-              rw (at-ended a (h .flown .eight) i low, at-ended b (h .flown .eight′) i low, ended-end i a, ended-end i b)
+              rw (at-ended a i low, at-ended b i low, ended-end i a, ended-end i b)
               (record {
                 quiet = λ t. was .quiet (not-over (eqb (endAt i a) 1) r t);
                 grows = λ t. over-grows (endAt i a) (endAt i b) r r′ (was .ends) (was .grows) t;

@@ -26,9 +26,9 @@ use Rattle.supervisor.specs.State.{isSafe, moduleAt}
 use Rattle.supervisor.specs.declared.state.Mode.{Mode}
 use Rattle.supervisor.specs.declared.state.Mode.the-variants.{DeployWait, Recovery, Safe}
 use Rattle.supervisor.specs.declared.state.State.{State}
-use Rattle.supervisor.proofs.ModuleLaws.{mission-low, mission-allowed}
+use Rattle.supervisor.proofs.BeforeModulesLaws.{before-power}
+use Rattle.supervisor.proofs.ModuleLaws.{at-stage, mission-low, mission-allowed}
 use Rattle.promises.specs.TwoCraft.{shorted, shortsBorne}
-use Rattle.promises.proofs.EachModule.{at-stage, before-power}
 use Rattle.promises.proofs.OnlyTicks.{power-still}
 use Rattle.promises.proofs.TwoModes.{AtMost, even, behind, safe-at-most}
 use Rattle.promises.proofs.TwoControl.{Beside}

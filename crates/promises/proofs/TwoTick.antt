@@ -13,8 +13,7 @@ use Rattle.supervisor.specs.declared.state.Phase.{Phase}
 use Rattle.supervisor.specs.declared.state.Mode.{Mode}
 use Rattle.supervisor.specs.declared.state.Mode.the-variants.{DeployWait, Recovery, Safe}
 use Rattle.supervisor.specs.declared.state.State.{State}
-use Rattle.supervisor.proofs.ModuleLaws.{stage-eight}
-use Rattle.promises.proofs.EachModule.{at-stage}
+use Rattle.supervisor.proofs.ModuleLaws.{stage-eight, at-stage}
 use Rattle.promises.proofs.TwoModes.{AtMost, even, behind}
 use Rattle.promises.proofs.TwoControl.{Beside}
 use Rattle.promises.proofs.TwoEnds.{before-beside}

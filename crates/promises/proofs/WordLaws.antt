@@ -3,11 +3,12 @@
 use Prim.Native.Nat.{ℕ, _+_, _-_, _*_}
 use native.Mathlib.Omega.{arith}
 use mathlib.Core.Path.{_≡_, refl, sym}
-use mathlib.Core.Bool.{Bool, true, false}
+use mathlib.Core.Bool.{Bool, true, false, _&&_}
 use lib.Dec.{eqb, ltb}
 use borrow.Author.Tests.{eqb-true, eqb-false, ltb-true, ltb-false, lt-ltb, le-ltb}
 use Rattle.basics.specs.Choice.{if_then_else_}
-use Rattle.basics.proofs.ChoiceLaws.{decided}
+use Rattle.basics.proofs.ChoiceLaws.{decided, either}
+use Rattle.supervisor.specs.State.{isRecovery, isSafe}
 use Rattle.supervisor.specs.declared.state.Phase.{Phase}
 use Rattle.supervisor.specs.declared.state.Mode.{Mode}
 use Rattle.supervisor.specs.declared.state.Mode.the-variants.{DeployWait, Recovery, Safe}
@@ -46,11 +47,14 @@ pub no-crossing : (mission : Bool) (m : Mode) (word : Word) → crossing mission
 no-crossing true (DeployWait phase) word = refl
 no-crossing true Recovery word = refl
 no-crossing true Safe word = refl
-no-crossing false (DeployWait phase) word = refl
-no-crossing false Recovery word = refl
-no-crossing false Safe word = refl
+no-crossing false m word = refl
 
 -- nor is what follows DEPLOY_WAIT
 pub from-deploy : (mission : Bool) (phase : Phase) (m : Mode) (word : Word) → crossing mission (DeployWait phase) m word ≡ word
 from-deploy true phase m word = refl
 from-deploy false phase m word = refl
+
+-- no crossing turns an "off" into an "on"
+pub crossed-off : (mission : Bool) (before after : Mode) (word : Word) → says word ≡ false → says (crossing mission before after word) ≡ false
+crossed-off true before after word e = either (λ (w : Word). says w ≡ false) (isSafe before && isRecovery after) refl e
+crossed-off false before after word e = e

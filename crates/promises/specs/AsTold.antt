@@ -6,7 +6,7 @@ use mathlib.Core.Bool.{Bool, true, false, not, _&&_}
 use mathlib.Core.List.{List, [], _∷_, _++_}
 use lib.Dec.{T, eqb, ltb}
 use Rattle.basics.specs.Choice.{if_then_else_}
-use Rattle.modules.specs.Groups.{moduleCount, isMission}
+use Rattle.modules.specs.Groups.{moduleCount, isCore, isMission}
 use Rattle.modules.specs.Power.{isOn}
 use Rattle.frames.specs.About.{About, aTick, aCommand, neither}
 use Rattle.frames.specs.declared.command.Command.{Command}
@@ -73,11 +73,11 @@ later s c word = if runningTick s c then aged word else word
 abbrev pub Saying : Type 0
 Saying = (mission : Bool) → (before after : Mode) → (word : Word) → Word
 
--- a crossing down, SAFE before and RECOVERY after, says "off" to a mission module; a crossing up says "on" to a
--- core module
+-- a crossing down, SAFE before and RECOVERY after, says "off" to a mission module; a crossing up says nothing, and
+-- neither says anything to a core module
 abbrev pub crossing : Saying
 crossing true before after word = if isSafe before && isRecovery after then plain false else word
-crossing false before after word = if isRecovery before && isSafe after then plain true else word
+crossing false before after word = word
 
 -- what a call says to module i
 abbrev pub said : Saying → ℕ → State → Call → (word : Word) → Word
@@ -98,6 +98,18 @@ abbrev pub Requested : Saying → Type 0
 Requested crosses =
     (i : ℕ) → i < moduleCount → (cs : List Call) → moduleAt i (after freshState cs) .requested ≡ lastSaid crosses i cs
 
+-- what the last done order for module i said, given what was said before it: no tick, no crossing
+abbrev pub lastOrder : ℕ → (on : Bool) → State → List Call → Bool
+lastOrder i on s [] = on
+lastOrder i on s (c ∷ cs) = lastOrder i (says (ordered i s c (plain on))) (called s c .result .state) cs
+
+-- each of these modules is requested on exactly when the last done order for it said so; before the first, as at the
+-- start: on for the core four alone
+abbrev pub AsOrdered : (modules : ℕ → Bool) → Type 0
+AsOrdered modules =
+    (i : ℕ) → modules i ≡ true → (cs : List Call) →
+    moduleAt i (after freshState cs) .requested ≡ lastOrder i (isCore i) freshState cs
+
 -- each that is on after a call that passes a test has "on" as its last word
 abbrev pub OnAfter : (State → Call → Bool) → Type 0
 OnAfter passes =
@@ -108,5 +120,7 @@ OnAfter passes =
 -- the last word, and what came of it
 pub record AsTold : Type 0 where
   pub requested : Requested crossing
+  -- on the core four orders alone have a word
+  pub core : AsOrdered isCore
   -- no module runs after a done tick that nobody asked for
   pub askedFor : OnAfter doneTick

@@ -1,22 +1,21 @@
 -- Dawn: once a frame of an origin was taken, no frame of that origin numbered like it or behind it is taken any more,
 -- heard before or not; so what was ordered off for the night stays off, whatever "on" comes late.
 -- Assumes nothing.
-use Prim.Native.Nat.{ℕ, _+_, _%_, _≤_}
+use Prim.Native.Nat.{ℕ, _+_, _%_, _≤_, _<_}
 use mathlib.Core.Path.{_≡_}
-use mathlib.Core.Bool.{Bool, true, false}
+use mathlib.Core.Bool.{Bool}
 use mathlib.Core.List.{List, [], _∷_, _++_}
 use lib.Dec.{T}
 use Rattle.basics.specs.Choice.{if_then_else_, within}
 use Rattle.frames.specs.Serial.{serialCount, distance, lastOf}
-use Rattle.modules.specs.Groups.{isMission}
-use Rattle.modules.specs.Power.{isOn}
+use Rattle.modules.specs.Groups.{moduleCount}
 use Rattle.frames.specs.About.{serialFrom}
 use Rattle.frames.specs.declared.sender.Origin.{Origin}
-use Rattle.supervisor.specs.State.{moduleAt}
 use Rattle.supervisor.specs.Fresh.{freshState}
-use Rattle.supervisor.specs.History.{Call, aboutOf, called, answered, isTaken, after, HasRoom, doneTicks}
+use Rattle.supervisor.specs.History.{Call, aboutOf, called, answered, isTaken, after, HasRoom}
 use Rattle.supervisor.specs.declared.state.State.{State}
 use Rattle.promises.specs.AsTold.{SaysOn, SaysOff}
+use Rattle.promises.specs.Quiet.{StillOff}
 
 -- how far one frame moves an origin on: its distance, if it is the origin's and taken
 abbrev pub stride : (taken : Bool) → (serials : List ℕ) → (last : ℕ) → ℕ
@@ -66,15 +65,10 @@ pub record OrderedOff (memory : ℕ) (origin : Origin) (which : ℕ) (cs : List 
       (before later : List Call) (on : Call) → since ≡ before ++ on ∷ later → SaysOn which (aboutOf on) → HasRoom on →
       Late memory origin (after freshState cs) off before on
 
--- a module is not requested after a history, and after so many done ticks of it is not on
-pub record StillOff (ticks which : ℕ) (s : State) (since : List Call) : Type 0 where
-  pub requested : moduleAt which (after s since) .requested ≡ false
-  pub power : ticks ≤ doneTicks s since → isOn (moduleAt which (after s since) .power) ≡ false
-
 -- what was ordered off stays off
-abbrev pub StaysOff : (memory : ℕ) → (modules : ℕ → Bool) → (ticks : ℕ) → Type 0
-StaysOff memory modules ticks =
-    (origin : Origin) (which : ℕ) (cs : List Call) (off : Call) (since : List Call) → modules which ≡ true →
+abbrev pub StaysOff : (memory ticks : ℕ) → Type 0
+StaysOff memory ticks =
+    (origin : Origin) (which : ℕ) (cs : List Call) (off : Call) (since : List Call) → which < moduleCount →
     OrderedOff memory origin which cs off since →
     StillOff ticks which (called (after freshState cs) off .result .state) since
 
@@ -82,7 +76,7 @@ StaysOff memory modules ticks =
 abbrev pub memory : ℕ
 memory = 32768
 
--- what is late is not taken, and so one of the mission four that was ordered off is dark from the next tick on
+-- what is late is not taken, and so a module that was ordered off is dark from the next tick on
 pub record Dawn : Type 0 where
   pub old : Old memory
-  pub dark : StaysOff memory isMission 1
+  pub dark : StaysOff memory 1

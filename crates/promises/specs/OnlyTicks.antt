@@ -1,12 +1,13 @@
 -- Only ticks: a call that is no done tick leaves the mode, both counts and every module's power; a tick leaves serials,
--- tension, thresholds and antennas; what is neither a done tick nor a done order leaves every request and end; and what is
--- no done greeting leaves the message, of which a tick may take a repeat.
+-- tension, thresholds, antennas and the core four's requests; what is neither a done tick nor a done order leaves every
+-- request and end; and what is no done greeting leaves the message, of which a tick may take a repeat.
 -- Assumes nothing.
 use Prim.Native.Nat.{ℕ}
 use mathlib.Core.Path.{_≡_}
 use mathlib.Core.Bool.{Bool, true, false, _&&_}
 use mathlib.Core.List.{List}
 use lib.Dec.{T}
+use Rattle.modules.specs.Groups.{isCore}
 use Rattle.modules.specs.declared.ends.Ends.{Ends}
 use Rattle.modules.specs.declared.power.Power.{Power}
 use Rattle.frames.specs.About.{About, aTick, aCommand, neither}
@@ -90,6 +91,8 @@ pub record OnlyTicks : Type 0 where
   pub antennas : TicksLeave Bool (λ s. s .antennas)
   -- each module's request
   pub requested : (i : ℕ) → RestLeaves Bool (λ s. moduleAt i s .requested)
+  -- a core module's, which no tick changes either
+  pub core : (i : ℕ) → isCore i ≡ true → TicksLeave Bool (λ s. moduleAt i s .requested)
   -- the ends of the mission four
   pub ends : RestLeaves Ends (λ s. s .ends)
   -- how long the message is

@@ -4,7 +4,7 @@
 use Prim.Native.Nat.{ℕ, _+_, _*_, _≤_}
 use mathlib.Core.List.{List, [], _∷_}
 use lib.ListN.{length, take}
-use Rattle.modules.specs.Groups.{isMission}
+use Rattle.modules.specs.Groups.{isCore}
 use Rattle.frames.specs.Kind.{reportBytes}
 use Rattle.supervisor.specs.Fresh.{freshState}
 use Rattle.pass.specs.Pass.{framesIn}
@@ -27,7 +27,7 @@ pub data PairedPasses (missing missing′ : ℕ) : List Pass → List Pass → T
 abbrev pub PassByPassBut : (missing missing′ : ℕ) → Type 0
 PassByPassBut missing missing′ =
     (ps qs : List Pass) → PairedPasses missing missing′ ps qs → (n : ℕ) →
-    Better isMission shortsBorne (flown freshState (take n ps)) (afterPasses freshState (take n ps))
+    Better isCore shortsBorne (flown freshState (take n ps)) (afterPasses freshState (take n ps))
     (afterPasses freshState (take n qs))
 
 -- with room for every report of every pass

@@ -1,7 +1,7 @@
 -- The better battery: of two craft with the same frames but for higher battery readings on the second, the second
 -- is as good or better.
 -- Assumes nothing.
-use Prim.Native.Nat.{ℕ, _+_, _≤_}
+use Prim.Native.Nat.{ℕ, _+_, _≤_, _<_}
 use mathlib.Core.Path.{_≡_}
 use mathlib.Core.Bool.{Bool, true, false}
 use mathlib.Core.List.{List, [], _∷_}
@@ -9,7 +9,7 @@ use lib.ListN.{take}
 use lib.Dec.{T}
 use Rattle.basics.specs.Choice.{if_then_else_, within, word, bit}
 use Rattle.modules.specs.Power.{isOn}
-use Rattle.modules.specs.Groups.{isMission}
+use Rattle.modules.specs.Groups.{moduleCount, isCore}
 use Rattle.frames.specs.Kind.{batteryKind}
 use Rattle.frames.specs.About.{About, aTick, aCommand, neither}
 use Rattle.supervisor.specs.State.{modeNumber, moduleAt}
@@ -47,12 +47,14 @@ shortsOf i (c ∷ cs) = (if shorted i (aboutOf c) then 1 else 0) + shortsOf i cs
 pub record Better (modules : ℕ → Bool) (shorts : ℕ) (cs : List Call) (a b : State) : Type 0 where
   -- the same mode or a better one
   pub mode : modeNumber (a .watch .mode) ≤ modeNumber (b .watch .mode)
-  -- each of these modules that is requested on in the first is requested on in the second
-  pub requested : (i : ℕ) → modules i ≡ true → T (moduleAt i a .requested) → T (moduleAt i b .requested)
-  -- each of them that was reported shorted so often at most and is on in the first is on in the second
+  -- each module that is requested on in the first is requested on in the second
+  pub requested : (i : ℕ) → i < moduleCount → T (moduleAt i a .requested) → T (moduleAt i b .requested)
+  -- each that was reported shorted so often at most and is on in the first is on in the second
   pub on :
-      (i : ℕ) → modules i ≡ true → shortsOf i cs ≤ shorts →
+      (i : ℕ) → i < moduleCount → shortsOf i cs ≤ shorts →
       T (isOn (moduleAt i a .power)) → T (isOn (moduleAt i b .power))
+  -- each of these modules is the same on both, shorted or not: its request, its power, its tries and seconds
+  pub alike : (i : ℕ) → modules i ≡ true → moduleAt i a ≡ moduleAt i b
 
 -- from the fresh start, with room for every report: after every call
 abbrev pub TwoCraftOf : (modules readings : ℕ → Bool) → (shorts : ℕ) → Type 0
@@ -68,6 +70,6 @@ inReach millivolts = within 5000 9000 millivolts
 abbrev pub shortsBorne : ℕ
 shortsBorne = 4
 
--- of the mission four
+-- all eight as good or better, the core four the same
 abbrev pub TwoCraft : Type 0
-TwoCraft = TwoCraftOf isMission inReach shortsBorne
+TwoCraft = TwoCraftOf isCore inReach shortsBorne

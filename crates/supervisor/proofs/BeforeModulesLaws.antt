@@ -1,23 +1,24 @@
 -- Laws of the state that the module stage finds: what the stages before it leave, and what they may change.
 -- Assumes nothing.
 use Prim.Native.Nat.{ℕ, _<_}
-use mathlib.Core.Path.{_≡_, refl, ap, _∙_}
-use mathlib.Core.Bool.{true, false}
+use mathlib.Core.Path.{_≡_, refl, sym, ap, _∙_}
+use mathlib.Core.Bool.{true, false, true≢false}
 use lib.Dec.{T, lit<}
-use Rattle.modules.specs.Groups.{moduleCount, coreFour, missionFour}
-use Rattle.modules.specs.Ends.{noEnds, endsOver, endsInRange}
+use Rattle.basics.specs.Choice.{bit}
+use Rattle.basics.proofs.ChoiceLaws.{is-true, is-false}
+use Rattle.modules.specs.Groups.{missionFour, isCore, isMission}
+use Rattle.modules.specs.Ends.{endsOver, endsInRange}
 use Rattle.modules.specs.Stage.{modulesInRange}
-use Rattle.modules.proofs.EndsLaws.{fallen-in-range}
+use Rattle.modules.proofs.EndsLaws.{fallen-in-range, over-mission}
 use Rattle.modules.proofs.StageLaws.{requested-in-range}
 use Rattle.supervisor.specs.Range.{judgeTicks}
-use Rattle.supervisor.specs.State.{HasMasks, isDeployWait, moduleAt, withControl, withEnds}
+use Rattle.supervisor.specs.State.{HasMasks, isDeployWait, moduleAt}
 use Rattle.supervisor.specs.Ending.{ended}
 use Rattle.supervisor.specs.Control.{controlled}
 use Rattle.supervisor.specs.Tick.{beforeModules}
-use Rattle.supervisor.specs.declared.state.Mode.the-variants.{Recovery, Safe}
 use Rattle.supervisor.specs.declared.state.State.{State}
 use Rattle.supervisor.proofs.ControlLaws.{Controls, level, upward, downward, controls}
-use Rattle.supervisor.proofs.ModuleLaws.{Eight, crossed-eight, at-crossed, ended-eight, at-ended}
+use Rattle.supervisor.proofs.ModuleLaws.{Eight, unasked-eight, at-unasked, not-unasked, ended-eight, core-not-mission}
 
 -- what control leaves
 module _ (s : State) where
@@ -53,12 +54,12 @@ module _ (s : State) where
 
   modules-by : T (modulesInRange (s .modules)) → Controls s → T (modulesInRange (controlled s .modules))
   modules-by h (level count low none w) = rw w h
-  modules-by h (upward j e t w) = rw w (requested-in-range coreFour true (s .modules) h)
+  modules-by h (upward j e t w) = rw w h
   modules-by h (downward j e t w) = rw w (requested-in-range missionFour false (s .modules) h)
 
   masks-by : HasMasks s → Controls s → HasMasks (controlled s)
   masks-by h (level count low none w) = rw w h
-  masks-by h (upward j e t w) = rw w refl
+  masks-by h (upward j e t w) = rw w h
   masks-by h (downward j e t w) = rw w refl
 
   ends-by : T (endsInRange (s .ends)) → Controls s → T (endsInRange (controlled s .ends))
@@ -67,17 +68,21 @@ module _ (s : State) where
   ends-by h (upward j e t w) = rw w h
   ends-by h (downward j e t w) = rw w tt
 
-  module _ (eight : Eight s) where
-    eight-by : Controls s → Eight (controlled s)
-    eight-by (level count low none w) = rw w eight
-    eight-by (upward j e t w) = rw w (crossed-eight (withControl 0 s) eight Safe coreFour true)
-    eight-by (downward j e t w) = rw w (crossed-eight (withEnds noEnds (withControl 0 s)) eight Recovery missionFour false)
+  eight-by : Eight s → Controls s → Eight (controlled s)
+  eight-by h (level count low none w) = rw w h
+  eight-by h (upward j e t w) = rw w h
+  eight-by h (downward j e t w) = rw w (unasked-eight s h missionFour)
 
-    module _ (i : ℕ) (low : i < moduleCount) where
-      power-by : Controls s → moduleAt i (controlled s) .power ≡ moduleAt i s .power
-      power-by (level count below none w) = rw w
-      power-by (upward j e t w) = rw w (ap (λ m. m .power) (at-crossed (withControl 0 s) eight i low Safe coreFour true))
-      power-by (downward j e t w) = rw w (ap (λ m. m .power) (at-crossed (withEnds noEnds (withControl 0 s)) eight i low Recovery missionFour false))
+  module _ (i : ℕ) where
+    power-by : Controls s → moduleAt i (controlled s) .power ≡ moduleAt i s .power
+    power-by (level count low none w) = rw w
+    power-by (upward j e t w) = rw w
+    power-by (downward j e t w) = rw w (ap (λ m. m .power) (at-unasked s i missionFour))
+
+    core-by : isMission i ≡ false → Controls s → moduleAt i (controlled s) ≡ moduleAt i s
+    core-by core (level count low none w) = rw w
+    core-by core (upward j e t w) = rw w
+    core-by core (downward j e t w) = rw w (not-unasked s i missionFour core)
 
 -- what the module stage finds, after ends and control
 module _ (s : State) where
@@ -127,14 +132,21 @@ module _ (s : State) where
   unfolding beforeModules ended
   before-masks = masks-by (ended s) refl (controls (ended s))
 
-  module _ (eight : Eight s) where
-    -- eight modules
-    pub before-eight : Eight (beforeModules s)
-    unfolding beforeModules
-    before-eight = eight-by (ended s) (ended-eight s eight) (controls (ended s))
+  -- eight modules
+  pub before-eight : Eight s → Eight (beforeModules s)
+  unfolding beforeModules
+  before-eight h = eight-by (ended s) (ended-eight s h) (controls (ended s))
 
+  module _ (i : ℕ) where
     -- each module's power
-    pub before-power : (i : ℕ) → i < moduleCount → moduleAt i (beforeModules s) .power ≡ moduleAt i s .power
-    unfolding beforeModules
-    before-power i low =
-        power-by (ended s) (ended-eight s eight) i low (controls (ended s)) ∙ ap (λ m. m .power) (at-ended s eight i low)
+    pub before-power : moduleAt i (beforeModules s) .power ≡ moduleAt i s .power
+    unfolding beforeModules ended
+    before-power = power-by (ended s) i (controls (ended s)) ∙ ap (λ m. m .power) (at-unasked s i (endsOver (s .ends)))
+
+    -- a core module as it was: no end and no crossing has a word on it
+    pub before-core : isCore i ≡ true → moduleAt i (beforeModules s) ≡ moduleAt i s
+    unfolding beforeModules ended
+    before-core core =
+        let apart : isMission i ≡ false = core-not-mission i core in
+        core-by (ended s) i apart (controls (ended s))
+        ∙ not-unasked s i (endsOver (s .ends)) (is-false (bit i (endsOver (s .ends))) (λ t. true≢false (sym (over-mission i (s .ends) (is-true _ t)) ∙ apart)))

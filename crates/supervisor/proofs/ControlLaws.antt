@@ -6,15 +6,13 @@ use mathlib.Core.Path.{_≡_, refl}
 use mathlib.Core.Bool.{Bool, true, false}
 use lib.Dec.{eqb, ltb, lit<}
 use borrow.Author.Tests.{eqb-true, eqb-false, ltb-true}
-use Rattle.modules.specs.Groups.{coreFour, missionFour}
-use Rattle.modules.specs.Ends.{noEnds}
-use Rattle.supervisor.specs.State.{withControl, withEnds}
+use Rattle.supervisor.specs.State.{withControl}
 use Rattle.supervisor.specs.Range.{judgeTicks}
-use Rattle.supervisor.specs.Control.{crossingOf, crossedTo, controlled}
+use Rattle.supervisor.specs.Control.{crossingOf, crossed, controlled}
 use Rattle.supervisor.specs.declared.state.Mode.{Mode}
 use Rattle.supervisor.specs.declared.state.Mode.the-variants.{DeployWait, Recovery, Safe}
 use Rattle.supervisor.specs.declared.state.State.{State}
-use Rattle.supervisor.specs.declared.control.Crossing.the-variants.{Level}
+use Rattle.supervisor.specs.declared.control.Crossing.the-variants.{Level, Upward, Downward}
 
 -- this tick's count is 30: the mode is judged
 abbrev pub IsJudged : State → Type 0
@@ -28,10 +26,10 @@ pub data Controls (s : State) : Type 0 where
       controlled s ≡ withControl count s → Controls s
   upward :
       IsJudged s → s .watch .mode ≡ Recovery → s .battery .ascend < s .battery .tension →
-      controlled s ≡ crossedTo Safe coreFour true (withControl 0 s) → Controls s
+      controlled s ≡ crossed Upward (withControl 0 s) → Controls s
   downward :
       IsJudged s → s .watch .mode ≡ Safe → s .battery .tension < s .battery .descend →
-      controlled s ≡ crossedTo Recovery missionFour false (withEnds noEnds (withControl 0 s)) → Controls s
+      controlled s ≡ crossed Downward (withControl 0 s) → Controls s
 
 module _ (s : State) where
   at-thirty :

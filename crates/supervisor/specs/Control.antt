@@ -1,13 +1,11 @@
 -- The control stage of a tick.
 -- Assumes nothing.
 use Prim.Native.Nat.{ℕ, _+_}
-use mathlib.Core.Bool.{Bool, true, false}
 use lib.Dec.{ltb, eqb}
 use Rattle.basics.specs.Choice.{if_then_else_}
-use Rattle.modules.specs.Groups.{coreFour, missionFour}
+use Rattle.modules.specs.Groups.{missionFour}
 use Rattle.modules.specs.Ends.{noEnds}
-use Rattle.modules.specs.Stage.{requestedBy}
-use Rattle.supervisor.specs.State.{withMode, withControl, withEnds, withModules}
+use Rattle.supervisor.specs.State.{withMode, withControl, withEnds, withoutRequests}
 use Rattle.supervisor.specs.Range.{judgeTicks}
 use Rattle.supervisor.specs.declared.state.Mode.{Mode}
 use Rattle.supervisor.specs.declared.state.Mode.the-variants.{DeployWait, Recovery, Safe}
@@ -23,22 +21,12 @@ crossingOf (DeployWait phase) battery = Level
 crossingOf Recovery battery = if ltb (battery .ascend) (battery .tension) then Upward else Level
 crossingOf Safe battery = if ltb (battery .tension) (battery .descend) then Downward else Level
 
--- a crossing is upward
-abbrev pub isUpward : Crossing → Bool
-isUpward Level = false
-isUpward Upward = true
-isUpward Downward = false
-
--- the state in another mode, with the modules of a mask requested on or off
-abbrev pub crossedTo : Mode → (mask : ℕ) → (on : Bool) → State → State
-crossedTo mode mask on s = withModules (requestedBy mask on (s .modules)) (withMode mode s)
-
--- upward: SAFE, and the core four are requested on; downward: RECOVERY, the mission four are requested off, and their
--- ends are dropped
+-- upward: SAFE, and nothing is requested; downward: RECOVERY, the mission four are requested off, and their ends are
+-- dropped
 abbrev pub crossed : Crossing → State → State
 crossed Level s = s
-crossed Upward s = crossedTo Safe coreFour true s
-crossed Downward s = crossedTo Recovery missionFour false (withEnds noEnds s)
+crossed Upward s = withMode Safe s
+crossed Downward s = withMode Recovery (withoutRequests missionFour (withEnds noEnds s))
 
 -- at 30 the count returns to 0 and the mode is judged
 abbrev pub controlledAt : ℕ → State → State

@@ -7,6 +7,7 @@ use mathlib.Core.List.{List}
 use lib.ListN.{getD, replicate}
 use Rattle.modules.specs.Power.{fullTries}
 use Rattle.modules.specs.Ends.{endOf}
+use Rattle.modules.specs.Stage.{requestedBy}
 use Rattle.modules.specs.Masks.{masksOf}
 use Rattle.modules.specs.declared.power.Power.the-variants.{Off}
 use Rattle.modules.specs.declared.power.Module.{Module}
@@ -165,6 +166,10 @@ withModules modules s =
       ends = s .ends;
       modules = modules;
     }
+
+-- with the modules of a mask requested off
+abbrev pub withoutRequests : (mask : ℕ) → State → State
+withoutRequests mask s = withModules (requestedBy mask false (s .modules)) s
 
 -- with another mode
 abbrev pub withMode : Mode → State → State

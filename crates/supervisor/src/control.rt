@@ -3,14 +3,12 @@ ghost use mathlib.Core.Path.{_≡_};
 ghost use Prim.Native.Nat.{_<_};
 ghost use Rattle.supervisor.specs.State.{HasMasks};
 ghost use Rattle.supervisor.specs.Range.{judgeTicks};
-ghost use Rattle.basics.specs.Choice.{if_then_else_};
-ghost use Rattle.supervisor.specs.Control.{crossingOf, isUpward, crossed, controlled};
+ghost use Rattle.supervisor.specs.Control.{crossingOf, crossed, controlled};
 ghost use Rattle.supervisor.specs.declared.control.Crossing.the-variants.{Upward, Downward};
 use crate::range::JUDGE_TICKS;
 use crate::state::Battery;
 use crate::state::Mode;
 use crate::state::State;
-use modules::groups::CORE;
 use modules::groups::MISSION;
 
 // How a judged mode crosses.
@@ -44,38 +42,22 @@ impl Mode {
     }
 }
 
-impl Crossing {
-    // Whether it is upward.
-    fn is_upward(self) -> bool
-        ensures { λ r. ⌜ r ≡ isUpward self ⌝ }
-    {
-        match self {
-            Crossing::Level => false,
-            Crossing::Upward => true,
-            Crossing::Downward => false,
-        }
-    }
-}
-
 impl State {
-    // The state after a crossing, upward or downward: one walk over the modules for both.
-    fn crossed(mut self, up: bool) -> State
-        requires { ⌜ HasMasks self ⌝ }
-        ensures { λ r. ⌜ r ≡ crossed (if up then Upward else Downward) self ⌝ }
+    // The state after a crossing upward.
+    fn risen(self) -> State
+        ensures { λ r. ⌜ r ≡ crossed Upward self ⌝ }
     {
-        let mut mode = Mode::Recovery;
-        let mut mask = MISSION;
-        if up {
-            mode = Mode::Safe;
-            mask = CORE;
-        } else {
-            self.ends = modules::ends::none();
-        }
-        let modules = self.modules;
-        let asked = modules::stage::request(modules, mask, up);
-        let masks = self.masks.request(mask, up);
-        let moved = self.with_mode(mode);
-        moved.with_modules(asked, masks)
+        self.with_mode(Mode::Safe)
+    }
+
+    // The state after a crossing downward.
+    fn fallen(mut self) -> State
+        requires { ⌜ HasMasks self ⌝ }
+        ensures { λ r. ⌜ r ≡ crossed Downward self ⌝ }
+    {
+        self.ends = modules::ends::none();
+        let moved = self.with_mode(Mode::Recovery);
+        moved.without_requests(MISSION)
     }
 
     // Control.
@@ -91,10 +73,10 @@ impl State {
         self.watch.control = 0;
         let watch = self.watch;
         let mode = watch.mode;
-        let crossing = mode.crossing(self.battery);
-        match crossing {
+        match mode.crossing(self.battery) {
             Crossing::Level => self,
-            _ => self.crossed(crossing.is_upward()),
+            Crossing::Upward => self.risen(),
+            Crossing::Downward => self.fallen(),
         }
     }
 }

@@ -15,9 +15,6 @@ impl State {
         if over == 0 {
             return self;
         }
-        let modules = self.modules;
-        let asked = modules::stage::request(modules, over, false);
-        let masks = self.masks.request(over, false);
-        self.with_modules(asked, masks)
+        self.without_requests(over)
     }
 }

@@ -1,7 +1,7 @@
 // The supervisor's state.
 ghost use mathlib.Core.Path.{_≡_};
 ghost use Rattle.modules.specs.Masks.{masksOf};
-ghost use Rattle.supervisor.specs.State.{modeNumber, isSafe, withMode, withModules};
+ghost use Rattle.supervisor.specs.State.{modeNumber, isSafe, HasMasks, withMode, withModules, withoutRequests};
 use frames::greeting::LONGEST;
 use frames::serial::Serials;
 use modules::ends::Ends;
@@ -104,5 +104,18 @@ impl State {
         self.modules = modules;
         self.masks = masks;
         self
+    }
+
+    // The state with the modules of a mask requested off, and their bits with them. Only those that are requested are
+    // set: a mask that no compiler knows beforehand keeps the walk over the modules a loop (docs/PERFORMANCE.md).
+    pub(crate) fn without_requests(self, mask: u8) -> State
+        requires { ⌜ HasMasks self ⌝ }
+        ensures { λ r. ⌜ r ≡ withoutRequests mask self ⌝ }
+    {
+        let asked = self.masks.requested & mask;
+        let modules = self.modules;
+        let next = modules::stage::request(modules, asked, false);
+        let masks = self.masks.request(asked, false);
+        self.with_modules(next, masks)
     }
 }

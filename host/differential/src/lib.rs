@@ -8,11 +8,14 @@
 #![deny(missing_docs)]
 
 pub mod compare;
+pub mod crossings;
 pub mod frames;
 pub mod groups;
 pub mod images;
+pub mod in_image;
 pub mod masks;
 pub mod messages;
+pub mod pairs;
 pub mod passes;
 pub mod rng;
 pub mod sending;
@@ -21,3 +24,4 @@ pub mod shrink;
 pub mod sides;
 pub mod texts;
 pub mod tracks;
+pub mod two_craft;

@@ -16,7 +16,9 @@ pub type Pass = (Vec<Vec<u8>>, u8);
 /// and amps; the set point; the step.
 pub type Move = ((u32, u32), (u32, u32), u32, i32);
 
-const NOT_TWICE: &str = "fails no more: the same call doesn't give the same result twice";
+/// What is said of a failure that is none the second time.
+pub(crate) const NOT_TWICE: &str =
+    "fails no more: the same call doesn't give the same result twice";
 
 /// As long as a smaller case fails too, takes it; for ten seconds at most.
 pub fn shrink<T: Arbitrary + PartialEq>(mut case: T, fails: impl Fn(&T) -> bool) -> T {

@@ -205,7 +205,6 @@ enum By {
     Timed,
     End,
     Fall,
-    Rise,
 }
 
 /// A bit of a mask that a frame changes.
@@ -242,7 +241,7 @@ fn changed(frame: &[u8], before: &State, after: &State) -> Vec<Changed> {
         (ORDER, ..) => By::Order,
         (TIMED, ..) => By::Timed,
         (_, Mode::Safe, Mode::Recovery) => By::Fall,
-        (_, Mode::Recovery, Mode::Safe) => By::Rise,
+        // A crossing upward changes none: what it finds is an end that runs out.
         _ => By::End,
     };
     let mut changed = Vec::new();
@@ -300,13 +299,19 @@ fn frames_change_the_masks_for_every_reason() {
             power(Sort::On, Sort::Failed, true),
             power(Sort::Failed, Sort::On, false),
         ];
+        let mission = [
+            request(true, By::Timed),
+            request(false, By::End),
+            request(false, By::Fall),
+        ];
         match row.core {
-            true => wanted.push(request(true, By::Rise)),
-            false => wanted.extend([
-                request(true, By::Timed),
-                request(false, By::End),
-                request(false, By::Fall),
-            ]),
+            // Orders alone change it.
+            true => assert!(!mission.iter().any(|own| met.contains(own)), "{number}"),
+            false => wanted.extend(mission),
+        }
+        // What drops a request makes none.
+        for never in [By::End, By::Fall].map(|by| request(true, by)) {
+            assert!(!met.contains(&never), "met: {never:?}");
         }
         for wanted in wanted {
             assert!(met.contains(&wanted), "not met: {wanted:?}");

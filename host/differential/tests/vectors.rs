@@ -1,6 +1,7 @@
 //! The streams and cases of `tests/vectors` through the compiled library: the log
 //! must be theirs, byte for byte, and so must all that a call leaves behind.
 
+mod crossings;
 mod masks;
 mod wrong;
 
@@ -92,7 +93,11 @@ fn every_other_wrong_greeting_gives_another_log_of_some_stream() {
 }
 
 /// From the fresh start none of the mission four gets to be requested in RECOVERY.
-const UNREACHED: [&str; 1] = ["has in the requested mask what RECOVERY allows"];
+const UNREACHED: [&str; 3] = [
+    "has in the requested mask what RECOVERY allows",
+    "drops the mission four as the mode rises",
+    "drops the mission four while in RECOVERY",
+];
 
 #[test]
 fn every_other_frame_that_leaves_a_mask_gives_another_log_of_some_stream() {
@@ -101,6 +106,35 @@ fn every_other_frame_that_leaves_a_mask_gives_another_log_of_some_stream() {
         let differs = |stream: &Stream| log_by(step, &stream.input) != stream.log;
         let seen = streams.iter().any(differs);
         assert_eq!(seen, !UNREACHED.contains(&name), "{name}");
+    }
+}
+
+#[test]
+fn every_other_wrong_judgement_gives_another_log_of_some_stream() {
+    let streams = streams();
+    for (name, step) in crossings::JUDGED {
+        let differs = |stream: &Stream| log_by(step, &stream.input) != stream.log;
+        let seen = streams.iter().any(differs);
+        assert_eq!(seen, !UNREACHED.contains(&name), "{name}");
+    }
+}
+
+/// The rule that wish 10 took away.
+#[test]
+fn the_former_rule_gives_another_log_of_three_streams() {
+    let step = crossings::FORMER.1;
+    let differs = |stream: &Stream| log_by(step, &stream.input) != stream.log;
+    let differing = streams().into_iter().filter(differs);
+    let mut names: Vec<String> = differing.map(|stream| stream.name).collect();
+    names.sort_unstable();
+    let wanted = [
+        "crossings_at_equality_1",
+        "mix_in_flight_1",
+        "orders_each_mode_1",
+    ];
+    assert_eq!(names.len(), wanted.len(), "{names:?}");
+    for (name, wanted) in names.iter().zip(wanted) {
+        assert!(name.ends_with(&format!("/{wanted}.bin")), "{name}");
     }
 }
 

@@ -38,7 +38,8 @@ impl Module {
     ];
 
     /// The mask of the mission four, which are on in SAFE only and can be ordered on
-    /// for some minutes; the others are the core four.
+    /// for some minutes; the fall into RECOVERY drops their requests. The others are the
+    /// core four: requested from the fresh start on, and then as they are ordered.
     pub const MISSION: u8 =
         Module::Adcs.bit() | Module::Payload.bit() | Module::Sband1.bit() | Module::Sband2.bit();
 

@@ -1,7 +1,7 @@
 //! The wrapper's `Craft`: only what the library takes becomes one.
 
 use ems::{
-    answer, calls, Craft, Module, Passed, Report, BEACON_EXTENDED_BYTES, IMAGE_BYTES,
+    answer, calls, Craft, Mode, Module, Passed, Report, BEACON_EXTENDED_BYTES, IMAGE_BYTES,
     MESSAGE_BYTES, REPORT_BYTES,
 };
 use model::image::at;
@@ -72,6 +72,38 @@ fn a_mask_with_a_bit_turned_is_no_image() {
             assert_eq!(count, (answer::BAD_STATE, 0), "byte {mask}, bit {bit}");
         }
     }
+}
+
+/// A reading, and ticks up to the next judgement: the last report.
+fn judged(craft: &mut Craft, millivolts: u16) -> Report {
+    let [high, low] = millivolts.to_be_bytes();
+    let mut report = craft.report_on(&[0x02, high, low]);
+    for _ in 0..30 {
+        report = craft.report_on(&[0x01, 0]);
+    }
+    report.expect("a report")
+}
+
+/// No crossing brings it back, up or down.
+#[test]
+fn a_radio_ordered_off_is_off_until_it_is_ordered_on() {
+    let mut craft = Craft::fresh();
+    craft.report_on(&[0x03, 1]).expect("a report");
+    for _ in 0..901 {
+        craft.report_on(&[0x01, 0]).expect("a report");
+    }
+    let order = |number, wanted| [0x04, 1, 0, number, Module::Comm2.number(), wanted];
+    craft.report_on(&order(1, 0)).expect("a report");
+    let quiet = !Module::MISSION & !Module::Comm2.bit();
+    let (recovery, safe) = (Mode::Recovery.number(), Mode::Safe.number());
+    for (millivolts, mode) in [(7_800, safe), (6_000, recovery), (7_800, safe)] {
+        let report = judged(&mut craft, millivolts);
+        let given = (report.mode, report.requested, report.on);
+        assert_eq!(given, (mode, quiet, quiet));
+    }
+    craft.report_on(&order(2, 1)).expect("a report");
+    let report = judged(&mut craft, 7_800);
+    assert_eq!((report.mode, report.on), (safe, !Module::MISSION));
 }
 
 /// Into SAFE, with one more of the mission four on after each order, and all eight shorted.

@@ -48,7 +48,7 @@ fn ends(state: &mut State) {
     }
 }
 
-/// The control stage.
+/// The control stage: a crossing upward changes the mode alone.
 fn control(state: &mut State) {
     state.control += 1;
     if state.control < CONTROL_TICKS {
@@ -57,21 +57,18 @@ fn control(state: &mut State) {
     state.control = 0;
     if state.mode == Mode::Recovery && state.tension > state.ascend {
         state.mode = Mode::Safe;
-        request(state, true);
     } else if state.mode == Mode::Safe && state.tension < state.descend {
         state.mode = Mode::Recovery;
-        request(state, false);
-        state.ends = [0; 4];
+        drop_mission(state);
     }
 }
 
-/// A crossing's requests: the core four on, or the mission four off.
-fn request(state: &mut State, on: bool) {
-    for (module, row) in state.modules.iter_mut().zip(&MODULES) {
-        if row.core == on {
-            module.requested = on;
-        }
+/// The mission four are requested off, and their ends dropped.
+fn drop_mission(state: &mut State) {
+    for module in MISSION {
+        state.modules[usize::from(module)].requested = false;
     }
+    state.ends = [0; 4];
 }
 
 /// A module's power after a second of the module stage.

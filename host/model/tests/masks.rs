@@ -121,15 +121,16 @@ fn a_tick_switches_bits_of_the_on_and_failed_masks() {
 }
 
 #[test]
-fn crossings_and_ends_move_the_requested_mask() {
-    // Upward, all requests were dropped before.
+fn a_crossing_downward_and_ends_move_the_requested_mask() {
+    // Upward, with nothing requested: none is, and none is on.
     let mut state = State::fresh();
     for module in &mut state.modules {
         module.requested = false;
     }
     state.gather_masks();
     (state.mode, state.tension, state.control) = (Mode::Recovery, 8_000, 29);
-    assert_eq!(masks_after(&mut state, &[0x01, 0]), masks(0x27, 0x27, 0));
+    assert_eq!(masks_after(&mut state, &[0x01, 0]), masks(0, 0, 0));
+    assert_eq!(state.mode, Mode::Safe);
     // Downward, the mission four were requested and on.
     let mut state = board();
     for module in &mut state.modules {

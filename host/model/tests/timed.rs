@@ -254,20 +254,22 @@ fn an_order_that_is_not_done_leaves_the_end() {
 }
 
 #[test]
-fn crossings_drop_ends_downward_only() {
-    for (mode, tension, wanted) in [
-        (Mode::Safe, 7_000, [10, 0, 99, 86_399]),
-        (Mode::Safe, 6_999, [0; 4]),
-        (Mode::Recovery, 7_400, [10, 0, 99, 86_399]),
-        (Mode::Recovery, 7_401, [10, 0, 99, 86_399]),
+fn crossings_drop_ends_and_requests_downward_only() {
+    // A second less of each; that of PAYLOAD was the last.
+    let a_second_on = ([10, 0, 99, 86_399], 0xEF);
+    for (mode, tension, (ends, requested)) in [
+        (Mode::Safe, 7_000, a_second_on),
+        (Mode::Safe, 6_999, ([0; 4], 0x27)),
+        (Mode::Recovery, 7_400, a_second_on),
+        (Mode::Recovery, 7_401, a_second_on),
     ] {
         let mut state = running([11, 1, 100, 86_400]);
         state.mode = mode;
         state.control = 29;
         state.tension = tension;
         ticks(&mut state, 1);
-        assert_eq!(state.ends, wanted, "{mode:?} {tension}");
-        assert!(!state.modules[4].requested);
+        assert_eq!(state.ends, ends, "{mode:?} {tension}");
+        assert_eq!(state.masks.requested, requested, "{mode:?} {tension}");
     }
 }
 

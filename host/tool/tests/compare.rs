@@ -2,7 +2,7 @@
 
 mod common;
 
-use common::{fed, run, scratch, Ran};
+use common::{fed, place, run, scratch, Ran};
 
 /// Two scripts, compared.
 fn compared(name: &str, a: &str, b: &str) -> Ran {
@@ -11,11 +11,15 @@ fn compared(name: &str, a: &str, b: &str) -> Ran {
     run(&["compare", &a, &b])
 }
 
+/// What is said of the core four, up to whether it holds.
+const CORE: &str = "\n  core       of MCS, COMM1, COMM2 and I2C, shorted or not, \
+                    both have the same requested, on and failed: ";
+
 #[test]
 fn the_same_flight_never_differs() {
     let ran = run(&["compare", "examples/dawn.pass", "examples/dawn.pass"]).status(0);
     assert!(ran.text().contains("\nThey never differ.\n"));
-    assert_eq!(ran.text().matches(": holds\n").count(), 3);
+    assert_eq!(ran.text().matches(": holds\n").count(), 4);
 }
 
 /// A greeting is a frame like others: with the same one the promise holds, also where
@@ -29,7 +33,7 @@ fn greetings_are_among_the_same_frames() {
     };
     let (low, high) = (flight("7000", "HELLO"), flight("7800", "HELLO"));
     let ran = compared("greeted", &low, &high).status(0);
-    assert_eq!(ran.text().matches(": holds\n").count(), 3);
+    assert_eq!(ran.text().matches(": holds\n").count(), 4);
     let ran = compared("differently", &low, &flight("7800", "HELLo")).status(3);
     ran.says("frame 3, the frames are not the same: `greet ground 1 5 \"HELLO\"` on A, `greet ground 1 5 \"HELLo\"` on B");
 }
@@ -48,6 +52,8 @@ fn a_lower_reading_on_b_breaks_the_premises() {
         ran.text().matches(": DOES NOT HOLD: frame 4,240, ").count(),
         3
     );
+    // No reading tells the two apart by a core module.
+    ran.prints(&format!("{CORE}holds\n"));
 }
 
 #[test]
@@ -153,10 +159,92 @@ fn a_module_that_saw_a_short_is_not_spoken_of() {
         &format!("{start}tick 2 shorts ADCS"),
         &format!("{start}tick 2 shorts ADCS"),
     );
-    let ran = ran.status(0);
-    assert!(ran
+    ran.status(0)
+        .prints("on         of all but ADCS, which saw a short, all that A has on, B has: holds\n");
+    let ran = compared("no-short", start, start).status(0);
+    ran.prints("on         of all eight, which saw no short, all that A has on, B has: holds\n");
+}
+
+/// In `core` it is spoken of.
+#[test]
+fn a_core_module_that_saw_a_short_is_the_same_on_both() {
+    let start = "antennas deployed\nbattery 8000\ntick 931\n";
+    let shorted = format!("{start}tick 5 shorts COMM1\ntick 10\n");
+    compared("core-short", &shorted, &shorted)
+        .status(0)
+        .prints("on         of all but COMM1, which saw a short, all that A has on, B has: holds\n")
+        .prints(&format!("{CORE}holds\n"));
+    // With shorts on A alone the premises don't hold, and it shows here alone.
+    compared("short-at-a", &shorted, &format!("{start}tick 15\n"))
+        .status(3)
+        .prints("on         of all but COMM1, which saw a short, all that A has on, B has: holds\n")
+        .prints(&format!(
+            "{CORE}DOES NOT HOLD: frame 934, different in COMM1\n"
+        ));
+}
+
+/// COMM2 is ordered off where A is in RECOVERY and B in SAFE; then A is back in SAFE, by
+/// a way up that B has not.
+#[test]
+fn a_radio_that_is_ordered_off_is_off_on_both() {
+    let flight = |reading: u16| {
+        format!(
+            "antennas deployed\nbattery 8000\ntick 931\nbattery {reading}\ntick 30\n\
+             order ground 1 COMM2 off\ntick 30\nbattery 8000\ntick 60\n"
+        )
+    };
+    let ran = compared("quiet", &flight(6_900), &flight(7_100)).status(0);
+    assert_eq!(ran.text().matches(": holds\n").count(), 4);
+    // They differ in their modes, and in nothing else.
+    let (shown, _) = ran
         .text()
-        .contains("on         of PAYLOAD, SBAND1 and SBAND2, which saw no short"));
+        .split_once("\nThe premises hold: ")
+        .expect("a verdict");
+    let (_, differences) = shown.split_once('\n').expect("their names");
+    assert_eq!(
+        differences,
+        "\nframes 964 to 1,025, 00:16:01 to 00:17:00\n             \
+         A                           B\n  \
+         mode       RECOVERY                    SAFE\n"
+    );
+    for craft in ["quiet-a.pass", "quiet-b.pass"] {
+        let log = run(&["log", &place(craft)]).status(0);
+        let ordered = log
+            .text()
+            .lines()
+            .skip_while(|line| !line.contains(" 04 1 1 0 "));
+        let masks: Vec<&str> = ordered
+            .map(|line| line.splitn(7, ' ').nth(6).expect("masks"))
+            .collect();
+        assert_eq!(masks.len(), 92, "{craft}");
+        assert!(masks[0].starts_with("23 27 00 "), "{craft}");
+        assert!(
+            masks[1..]
+                .iter()
+                .all(|masks| masks.starts_with("23 23 00 ")),
+            "{craft}"
+        );
+    }
+}
+
+/// An order that B alone gets: the premises don't hold, and `core` says where it shows.
+#[test]
+fn another_order_for_a_core_module_shows_in_core() {
+    let flight = |order: &str| {
+        format!(
+            "antennas deployed\nbattery 8000\ntick 931\norder ground 1 COMM2 off\ntick 60\n\
+             order ground 2 {order}\ntick 60\n"
+        )
+    };
+    let ran = compared("order-at-b", &flight("MCS on"), &flight("COMM2 on")).status(3);
+    let ran = ran
+        .prints(&format!("{CORE}DOES NOT HOLD: frame 995, different in COMM2\n"))
+        .says("frame 995, the frames are not the same: `order ground 2 MCS on` on A, `order ground 2 COMM2 on` on B");
+    assert_eq!(ran.text().matches(": holds\n").count(), 3);
+    let ran = compared("two-at-b", &flight("MCS off"), &flight("COMM2 on")).status(3);
+    ran.prints(&format!(
+        "{CORE}DOES NOT HOLD: frame 995, different in MCS and COMM2\n"
+    ));
 }
 
 /// The weaker craft loses its camera, and with it the end; on the stronger one the
@@ -171,7 +259,7 @@ fn timed_orders_are_among_the_same_frames() {
         )
     };
     let ran = compared("timed", &flight(6_900), &flight(7_100)).status(0);
-    assert_eq!(ran.text().matches(": holds\n").count(), 3);
+    assert_eq!(ran.text().matches(": holds\n").count(), 4);
     ran.prints("hold: 2,257 frames, the same on both but for 1 of 3 battery readings")
         .prints(", 00:17:31: order ground 2 ADCS on for 1 min\n")
         .prints("  answer     10 not now                  0 done\n");

@@ -2,11 +2,12 @@
 
 mod common;
 
+use common::picture::Picture;
 use common::{is_file, root, run, scratch};
 use std::fs;
 
 /// Each with its picture's title.
-const EXAMPLES: [(&str, &str); 8] = [
+const EXAMPLES: [(&str, &str); 9] = [
     ("dawn", "The night of the mission, as it goes now"),
     (
         "twenty-minutes",
@@ -16,6 +17,7 @@ const EXAMPLES: [(&str, &str); 8] = [
     ("shorted", "Modules with a short"),
     ("starts-and-shorts", "A board that starts and shorts"),
     ("school", "A school's greeting on the beacon"),
+    ("quiet-radio", "A radio that is quieted stays quiet"),
     ("sister-craft-a", "Sister craft A, the tired battery"),
     ("sister-craft-b", "Sister craft B, the fresh battery"),
 ];
@@ -309,6 +311,63 @@ fn a_school_s_greeting_goes_out_twelve_times() {
         .prints("RECOVERY to SAFE, tension 7,600 mV above ascend 7,400 mV; extended beacon due: EMS S 7600 27 00 HELLO FROM 4B\n")
         .prints("tick: the greeting goes out for the last time; extended beacon due: EMS S 7600 27 00 HELLO FROM 4B\n")
         .prints("greet ground 23 0 \"\": done, the greeting \"73 DE 4B\" is cleared\n");
+}
+
+/// The sentence on top of `quiet-radio.pass`, in its log: from the order's tick on until
+/// the morning's order COMM2 is neither requested nor on, whatever the mode does and
+/// whatever is sent again; a second after that order it is on.
+#[test]
+fn a_radio_that_is_quieted_stays_quiet_until_the_ground_wants_it_back() {
+    let ran = run(&["log", "examples/quiet-radio.pass"]).status(0);
+    let lines: Vec<Vec<&str>> = ran
+        .text()
+        .lines()
+        .map(|line| line.split(' ').collect())
+        .collect();
+    let orders = (0..lines.len()).filter(|&at| lines[at][1] == "04");
+    let [listed, quieted, again, morning] = orders.collect::<Vec<usize>>()[..] else {
+        panic!("four orders");
+    };
+    let answers = [listed, quieted, again, morning].map(|at| (lines[at][3], lines[at][4]));
+    assert_eq!(
+        answers,
+        [("40", "0"), ("41", "0"), ("40", "9"), ("42", "0")]
+    );
+    let masks = |at: usize| (lines[at][6], lines[at][7]);
+    assert_eq!(masks(quieted), ("23", "27"));
+    for at in quieted + 1..morning {
+        assert_eq!(masks(at), ("23", "23"), "report {at}");
+    }
+    let modes: Vec<&str> = lines[quieted + 1..morning]
+        .chunk_by(|a, b| a[5] == b[5])
+        .map(|same| same[0][5])
+        .collect();
+    assert_eq!(modes, ["2", "1", "2", "1", "2", "1", "2", "1", "2"]);
+    assert_eq!(
+        (masks(morning), masks(morning + 1)),
+        (("27", "23"), ("27", "27"))
+    );
+    // The one line that tells of a request is the morning's.
+    let told = run(&["log", "--explain", "examples/quiet-radio.pass"]).status(0);
+    let requests: Vec<&str> = told
+        .text()
+        .lines()
+        .filter(|line| line.contains(" requested on"))
+        .collect();
+    assert_eq!(
+        requests,
+        ["07:35:00     27,314  order ground 42 COMM2 on: done, COMM2 requested on"]
+    );
+    // In the picture COMM2's lane is empty in between.
+    let drawn = run(&["plot", "examples/quiet-radio.pass", "-o", "-"]).status(0);
+    let picture = Picture::read(drawn.text());
+    for state in ["requested", "on"] {
+        let bars = picture.about(&format!("COMM2 {state}, "));
+        let [before, after] = bars[..] else {
+            panic!("{} bars", bars.len());
+        };
+        assert!(after.left - before.right > 600.0, "{before:?}, {after:?}");
+    }
 }
 
 #[test]

@@ -75,6 +75,16 @@ fn help_says_what_a_curve_is_and_what_is_promised() {
 }
 
 #[test]
+fn help_says_what_is_promised_of_two_craft() {
+    run(&["compare", "--help"])
+        .status(0)
+        .prints("in range and never lower on B. Then, after every frame, B's mode is as good as A's,\n")
+        .prints("each module requested on A is requested on B, and each that never saw a short and is\non at A")
+        .prints("The core four (MCS, COMM1, COMM2 and I2C) are the same on both,\nshorted or not")
+        .prints("\n  ems compare examples/sister-craft-a.pass examples/sister-craft-b.pass\n");
+}
+
+#[test]
 fn wrong_usage_is_told_with_status_1() {
     for args in [
         &[][..],

@@ -145,6 +145,7 @@ fn every_mark_and_bar_says_what_it_is() {
     for script in [
         "dawn",
         "orbit",
+        "quiet-radio",
         "school",
         "shorted",
         "sister-craft-a",

@@ -83,6 +83,7 @@ fn the_answer_is_that_of_one_call_with_the_bytes_of_frames() {
     for name in [
         "dawn",
         "morning",
+        "quiet-radio",
         "school",
         "shorted",
         "sister-craft-a",

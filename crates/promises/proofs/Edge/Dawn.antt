@@ -1,24 +1,21 @@
--- Dawn, a hair more: 32,769 is too far, COMM2 comes back, and what was ordered off is on until the next tick.
+-- Dawn, a hair more: 32,769 is too far, and what was ordered off is on until the next tick.
 -- Assumes nothing.
 use Prim.Native.Nat.{ℕ}
 use native.Mathlib.Omega.{arith}
 use mathlib.Core.Path.{_≡_, refl}
-use mathlib.Core.Bool.{Bool, true, false, not, _&&_, true≢false, false≢true}
+use mathlib.Core.Bool.{true, true≢false, false≢true}
 use mathlib.Core.List.{List, [], _∷_, _++_, append-nil, append-assoc}
-use lib.Dec.{T, lit≤}
-use Rattle.basics.specs.Choice.{bit}
-use Rattle.basics.proofs.ChoiceLaws.{and-left, and-right}
-use Rattle.modules.specs.Groups.{isMission}
+use lib.Dec.{lit<, lit≤}
 use Rattle.frames.specs.declared.sender.Origin.the-variants.{Ground}
 use Rattle.supervisor.specs.Fresh.{freshState}
 use Rattle.supervisor.specs.History.{Call, aboutOf, answered, after}
 use Rattle.supervisor.specs.State.{moduleAt}
 use Rattle.supervisor.proofs.Rules.{rules}
-use Rattle.promises.specs.AsTold.{plain, says, orders, SaysOn, SaysOff}
+use Rattle.promises.specs.AsTold.{SaysOn, SaysOff}
 use Rattle.promises.specs.Dawn.{Old, StaysOff, OrderedOff, Late, memory}
-use Rattle.promises.proofs.Edge.Flights.{battery, comm2, camera, comm2Off, cameraOff, cameraOn, seconds, toRecovery, toSafe, cameraRuns, send, sent}
+use Rattle.promises.proofs.Edge.Flights.{camera, cameraOff, cameraOn, toSafe, cameraRuns, send, sent}
 
--- every "on" of a history for a module, with what came before it: each where it stands, or none
+-- every "on" of a history for a module, with what came before it, each where it stands
 module _ (which : ℕ) (Fits : (before : List Call) (on : Call) → Type 0) where
   abbrev Ons : (before rest : List Call) → Type 0
   Ons before [] = Unit {0}
@@ -34,17 +31,6 @@ module _ (which : ℕ) (Fits : (before : List Call) (on : Call) → Type 0) wher
       let same : b ≡ c = cc in
       let tail : rest ≡ before ++ on ∷ later = cc in
       rw same (rw append-assoc at (at-on (first ++ (c ∷ [])) before later rest on (h .1) tail asks))
-
-  -- none at all
-  abbrev noOns : List Call → Bool
-  noOns [] = true
-  noOns (c ∷ rest) = not (says (orders which (aboutOf c) (plain false))) && noOns rest
-
-  no-ons : (before rest : List Call) → T (noOns rest) → Ons before rest
-  no-ons before [] t = tt
-  no-ons before (c ∷ rest) t =
-      let on : Bool = says (orders which (aboutOf c) (plain false)) in
-      (λ e. absurd (rw e at (and-left (not on) (noOns rest) t)), no-ons (before ++ (c ∷ [])) rest (and-right (not on) (noOns rest) t))
 
 -- a done "off" of ground's, with the "on"s since
 module _ (reach which : ℕ) (cs : List Call) (off : Call) (since : List Call) where
@@ -67,32 +53,20 @@ pub not-old-at-32769 : Old 32769 → ⊥
 unfolding rules
 not-old-at-32769 old = old Ground (after freshState (sent toSafe)) (send (cameraOff 5)) (send (cameraOff 32772) ∷ []) (send (cameraOn 3)) late3 .answer
 
-pub not-dark-at-32769 : StaysOff 32769 isMission 1 → ⊥
+pub not-dark-at-32769 : StaysOff 32769 1 → ⊥
 unfolding rules
 not-dark-at-32769 dark =
     let off : OrderedOff 32769 Ground camera (sent toSafe) (send (cameraOff 5)) (sent overtaken) =
     ordered-off 32769 camera (sent toSafe) (send (cameraOff 5)) (sent overtaken) refl refl (λ on. absurd (false≢true on), (λ on. late3, tt)) in
-    true≢false (dark Ground camera (sent toSafe) (send (cameraOff 5)) (sent overtaken) refl off .requested)
-
--- COMM2, ordered off in RECOVERY, is requested again by a crossing up
-abbrev pub judgedUp : List (List ℕ)
-judgedUp = battery 8000 ∷ seconds 30
-
-pub not-dark-with-comm2 : StaysOff memory (λ i. bit i 0xDC) 1 → ⊥
-unfolding rules
-not-dark-with-comm2 dark =
-    let off : OrderedOff memory Ground comm2 (sent toRecovery) (send (comm2Off 1)) (sent judgedUp) =
-    ordered-off memory comm2 (sent toRecovery) (send (comm2Off 1)) (sent judgedUp) refl refl
-    (no-ons comm2 (IsLate memory comm2 (sent toRecovery) (send (comm2Off 1)) (sent judgedUp)) [] (sent judgedUp) tt) in
-    true≢false (dark Ground comm2 (sent toRecovery) (send (comm2Off 1)) (sent judgedUp) refl off .requested)
+    true≢false (dark Ground camera (sent toSafe) (send (cameraOff 5)) (sent overtaken) (lit< tt) off .requested)
 
 -- the camera is on and is ordered off: it stays on until the next tick
-pub not-dark-at-once : StaysOff memory isMission 0 → ⊥
+pub not-dark-at-once : StaysOff memory 0 → ⊥
 unfolding rules
 not-dark-at-once dark =
     let off : OrderedOff memory Ground camera (sent cameraRuns) (send (cameraOff 2)) [] =
     ordered-off memory camera (sent cameraRuns) (send (cameraOff 2)) [] refl refl tt in
-    true≢false (dark Ground camera (sent cameraRuns) (send (cameraOff 2)) [] refl off .power (lit≤ tt))
+    true≢false (dark Ground camera (sent cameraRuns) (send (cameraOff 2)) [] (lit< tt) off .power (lit≤ tt))
 
 -- the payload's own "on" is done after ground's "off"
 abbrev pub payloadsOwn : List (List ℕ)

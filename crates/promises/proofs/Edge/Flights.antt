@@ -72,9 +72,13 @@ toSafe = toRecovery ++ (battery 8000 ∷ seconds 30)
 abbrev pub cameraRuns : List (List ℕ)
 cameraRuns = toSafe ++ (cameraOn 1 ∷ seconds 1)
 
--- RECOVERY with COMM2 ordered off, 8,000 mV, and 29 ticks: the next one crosses upward
-abbrev pub aboutToCross : List (List ℕ)
-aboutToCross = toRecovery ++ (comm2Off 1 ∷ battery 8000 ∷ seconds 29)
+-- RECOVERY, 8,000 mV, and 29 ticks: the next one crosses upward
+abbrev pub aboutToRise : List (List ℕ)
+aboutToRise = toRecovery ++ (battery 8000 ∷ seconds 29)
+
+-- SAFE with the camera on, then 6,900 mV, and 28 ticks more: the next one crosses downward
+abbrev pub aboutToFall : List (List ℕ)
+aboutToFall = cameraRuns ++ (battery 6900 ∷ seconds 28)
 
 -- a call with room for its report
 abbrev pub send : List ℕ → Call

@@ -3,7 +3,7 @@
 use Prim.Native.Nat.{ℕ}
 use native.Mathlib.Omega.{arith}
 use mathlib.Core.Path.{_≡_, refl}
-use mathlib.Core.Bool.{Bool, true≢false, false≢true}
+use mathlib.Core.Bool.{Bool, false≢true}
 use mathlib.Core.List.{List, [], _∷_, _++_}
 use Rattle.supervisor.specs.Fresh.{freshState}
 use Rattle.supervisor.specs.State.{moduleAt, endAt}
@@ -11,17 +11,17 @@ use Rattle.supervisor.specs.History.{after}
 use Rattle.supervisor.proofs.Rules.{rules}
 use Rattle.promises.specs.OnlyTicks.{OthersLeave, TicksLeave}
 use Rattle.promises.proofs.Edge.Flights.{quiet, comm2, camera, comm2Off, cameraFor, greeting, hi}
-use Rattle.promises.proofs.Edge.Flights.{seconds, toSafe, aboutToCross, send, sent}
+use Rattle.promises.proofs.Edge.Flights.{seconds, toSafe, aboutToFall, send, sent}
 
 -- the fresh board and an "off" for COMM2: its request goes at once
 pub not-requests-by-others : OthersLeave Bool (λ s. moduleAt comm2 s .requested) → ⊥
 unfolding rules
 not-requests-by-others says = false≢true (says freshState (send (comm2Off 1)) refl)
 
--- the tick that crosses upward requests COMM2 again
-pub not-requests-by-ticks : TicksLeave Bool (λ s. moduleAt comm2 s .requested) → ⊥
+-- the tick that crosses downward drops the camera's
+pub not-requests-by-ticks : TicksLeave Bool (λ s. moduleAt camera s .requested) → ⊥
 unfolding rules
-not-requests-by-ticks says = true≢false (says (after freshState (sent aboutToCross)) (send quiet) tt)
+not-requests-by-ticks says = false≢true (says (after freshState (sent aboutToFall)) (send quiet) tt)
 
 -- in SAFE the camera is ordered on for a minute: its end is 60, and 59 after a tick
 pub not-ends-by-others : OthersLeave ℕ (λ s. endAt camera s) → ⊥

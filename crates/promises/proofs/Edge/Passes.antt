@@ -2,9 +2,8 @@
 -- Assumes nothing.
 use Prim.Native.Nat.{ℕ, _-_, _*_}
 use native.Mathlib.Omega.{arith}
-use mathlib.Core.Path.{refl}
 use mathlib.Core.List.{List, [], _∷_, _++_, flatten}
-use lib.Dec.{lit≤}
+use lib.Dec.{lit<, lit≤}
 use lib.ListN.{length, replicate}
 use Rattle.frames.specs.Cut.{cutOf, frontOf}
 use Rattle.frames.specs.Kind.{reportBytes}
@@ -37,4 +36,4 @@ unfolding rules framesUpTo framesIn cutOf frontOf inOrder passOf flatten
 not-if-first-lacks-a-byte says =
     let paired : PairedPasses 1 0 (inOnePass 1 cameraStopped) (inOnePass 0 cameraStopped) =
     nextPass (lit≤ tt) (lit≤ tt) (same-calls inReach (singles (framesIn (flatten cameraStopped)))) noPass in
-    says (inOnePass 1 cameraStopped) (inOnePass 0 cameraStopped) paired 1 .requested camera refl tt
+    says (inOnePass 1 cameraStopped) (inOnePass 0 cameraStopped) paired 1 .requested camera (lit< tt) tt

@@ -1,19 +1,19 @@
--- The better battery, a hair more: COMM2 too, a fifth short, a reading out of range. Each is false.
+-- The better battery, a hair more: the camera the same too, a fifth short, a reading out of range. Each is false.
 -- Assumes nothing.
 use Prim.Native.Nat.{ℕ}
 use native.Mathlib.Omega.{arith}
-use mathlib.Core.Path.{refl}
-use mathlib.Core.Bool.{Bool}
+use mathlib.Core.Path.{refl, ap}
+use mathlib.Core.Bool.{Bool, false≢true}
 use mathlib.Core.List.{List, [], _∷_, _++_}
-use lib.Dec.{lit≤}
+use lib.Dec.{lit<, lit≤}
 use lib.ListN.{take}
 use Rattle.basics.specs.Choice.{within, bit}
-use Rattle.modules.specs.Groups.{isMission}
+use Rattle.modules.specs.Groups.{isCore}
 use Rattle.supervisor.specs.Fresh.{freshState}
 use Rattle.supervisor.specs.History.{Call, after}
 use Rattle.supervisor.proofs.Rules.{rules}
 use Rattle.promises.specs.TwoCraft.{TwoCraftOf, Better, AsGood, Paired, start, next, same, higher, inReach, shortsBorne}
-use Rattle.promises.proofs.Edge.Flights.{battery, short, comm2, camera, comm2Off, cameraOn, seconds, toRecovery, toSafe, sent, sent-roomy}
+use Rattle.promises.proofs.Edge.Flights.{battery, short, camera, cameraOn, seconds, toRecovery, toSafe, sent, sent-roomy}
 
 -- the same calls, and the same frames but for one
 module _ (readings : ℕ → Bool) where
@@ -36,16 +36,17 @@ module _ (modules readings : ℕ → Bool) (shorts : ℕ) (says : TwoCraftOf mod
 lower : AsGood inReach (battery 7000) (battery 8000)
 lower = higher 27 88 31 64 tt tt (lit≤ tt)
 
--- COMM2, ordered off on both craft while the second alone is in SAFE, is requested again on the first as it crosses upward
-abbrev quieted : List (List ℕ)
-quieted = seconds 30 ++ (comm2Off 1 ∷ battery 8000 ∷ seconds 30)
+-- the camera, ordered on while the second craft alone is in SAFE, is requested there alone
+abbrev asked : List (List ℕ)
+asked = seconds 30 ++ (cameraOn 1 ∷ [])
 
-abbrev pub comm2Quieted : (millivolts : ℕ) → List (List ℕ)
-comm2Quieted millivolts = toRecovery ++ (battery millivolts ∷ quieted)
+abbrev pub cameraAsked : (millivolts : ℕ) → List (List ℕ)
+cameraAsked millivolts = toRecovery ++ (battery millivolts ∷ asked)
 
-pub not-with-comm2 : TwoCraftOf (λ i. bit i 0xDC) inReach shortsBorne → ⊥
+pub not-the-camera-alike : TwoCraftOf (λ i. bit i 0x37) inReach shortsBorne → ⊥
 unfolding rules
-not-with-comm2 says = after-all (λ i. bit i 0xDC) inReach shortsBorne says comm2Quieted 7000 8000 (but-one inReach lower toRecovery quieted) .requested comm2 refl tt
+not-the-camera-alike says =
+    false≢true (ap (λ m. m .requested) (after-all (λ i. bit i 0x37) inReach shortsBorne says cameraAsked 7000 8000 (but-one inReach lower toRecovery asked) .alike camera refl))
 
 -- the camera, ordered on while the second craft alone is in SAFE, fails there by five shorts; ordered on again once the first is in SAFE too, it is
 -- on there, and on the second ten minutes later
@@ -57,26 +58,26 @@ shorted =
 abbrev pub cameraShorted : (millivolts : ℕ) → List (List ℕ)
 cameraShorted millivolts = toRecovery ++ (battery millivolts ∷ shorted)
 
-pub not-with-five-shorts : TwoCraftOf isMission inReach 5 → ⊥
+pub not-with-five-shorts : TwoCraftOf isCore inReach 5 → ⊥
 unfolding rules
-not-with-five-shorts says = after-all isMission inReach 5 says cameraShorted 7000 8000 (but-one inReach lower toRecovery shorted) .on camera refl (lit≤ tt) tt
+not-with-five-shorts says = after-all isCore inReach 5 says cameraShorted 7000 8000 (but-one inReach lower toRecovery shorted) .on camera (lit< tt) (lit≤ tt) tt
 
 -- at 7,500 and 9,001 mV: the second is refused, and that craft has no reading yet, where the first crosses to SAFE
 abbrev pub firstReading : (millivolts : ℕ) → List (List ℕ)
 firstReading millivolts = toRecovery ++ (battery millivolts ∷ seconds 30)
 
-pub not-with-9001 : TwoCraftOf isMission (within 5000 9001) shortsBorne → ⊥
+pub not-with-9001 : TwoCraftOf isCore (within 5000 9001) shortsBorne → ⊥
 unfolding rules
 not-with-9001 says =
     let pair : AsGood (within 5000 9001) (battery 7500) (battery 9001) = higher 29 76 35 41 tt tt (lit≤ tt) in
-    omega (arith, after-all isMission (within 5000 9001) shortsBorne says firstReading 7500 9001 (but-one (within 5000 9001) pair toRecovery (seconds 30)) .mode)
+    omega (arith, after-all isCore (within 5000 9001) shortsBorne says firstReading 7500 9001 (but-one (within 5000 9001) pair toRecovery (seconds 30)) .mode)
 
 -- at 4,999 and 5,000 mV: the first is refused, and that craft's 8,000 stands, where the second crosses to RECOVERY
 abbrev pub laterReading : (millivolts : ℕ) → List (List ℕ)
 laterReading millivolts = toSafe ++ (battery millivolts ∷ seconds 30)
 
-pub not-with-4999 : TwoCraftOf isMission (within 4999 9000) shortsBorne → ⊥
+pub not-with-4999 : TwoCraftOf isCore (within 4999 9000) shortsBorne → ⊥
 unfolding rules
 not-with-4999 says =
     let pair : AsGood (within 4999 9000) (battery 4999) (battery 5000) = higher 19 135 19 136 tt tt (lit≤ tt) in
-    omega (arith, after-all isMission (within 4999 9000) shortsBorne says laterReading 4999 5000 (but-one (within 4999 9000) pair toSafe (seconds 30)) .mode)
+    omega (arith, after-all isCore (within 4999 9000) shortsBorne says laterReading 4999 5000 (but-one (within 4999 9000) pair toSafe (seconds 30)) .mode)

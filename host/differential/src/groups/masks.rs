@@ -5,14 +5,14 @@
 //! on.
 
 use super::passes::pass;
-use super::{call, Verdict, MODES, ROOM};
-use crate::compare::{self, hex, Stepped};
+use super::{call, step, Verdict, MODES, ROOM};
+use crate::compare::hex;
 use crate::frames::{Maker, Stream};
 use crate::images;
 use crate::masks::{self, Sort, MASKS, SORTS};
 use crate::passes;
 use crate::rng::Rng;
-use crate::shrink::{tell_flight, Shot};
+use crate::shrink::Shot;
 use crate::sides::Calls;
 use model::image;
 use model::state::Last;
@@ -131,12 +131,6 @@ fn every_call(sides: &[Calls; 2], rng: &mut Rng, last: Last, image: &[u8], agree
     };
     count(sides, image, wanted)?;
     Ok(6)
-}
-
-/// A step, or its telling.
-fn step(sides: &[Calls; 2], image: &[u8], (frame, room): Shot) -> Result<Stepped, String> {
-    let stepped = compare::step(sides, image, &frame, room.into());
-    stepped.map_err(|_| tell_flight(sides, image, vec![(frame, room)]))
 }
 
 /// A frame of any kind by the table, with room for its report; or one that is refused by

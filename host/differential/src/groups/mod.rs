@@ -1,5 +1,6 @@
 //! The groups of cases, each with how many calls it makes on the library.
 
+mod crossings;
 mod flights;
 mod greetings;
 mod images;
@@ -10,8 +11,9 @@ mod texts;
 mod timed;
 mod tracks;
 mod tries;
+mod two_craft;
 
-use crate::compare;
+use crate::compare::{self, Stepped};
 use crate::frames::Maker;
 use crate::rng::Rng;
 use crate::shrink::{flight, tell_counted, tell_flight, Shot};
@@ -38,7 +40,7 @@ pub type Verdict = Result<u64, String>;
 pub type Group = (&'static str, fn(&[Calls; 2], &mut Rng) -> Verdict);
 
 /// All groups.
-pub const GROUPS: [Group; 40] = [
+pub const GROUPS: [Group; 43] = [
     ("fresh start, every length", images::fresh_starts),
     ("flights by the table", |sides, rng| {
         flights::of(sides, rng, Maker::Structured, 4_000_000)
@@ -87,6 +89,15 @@ pub const GROUPS: [Group; 40] = [
         masks::changed_modules,
     ),
     ("frames that change the masks", masks::frames),
+    (
+        "requests about a crossing",
+        crossings::requests_about_a_crossing,
+    ),
+    (
+        "core modules ordered between crossings",
+        crossings::core_ordered_between,
+    ),
+    ("two craft", two_craft::two_craft),
     ("every text of up to 2 bytes", texts::short_texts),
     ("every byte in every place of a text", texts::every_place),
     ("every sign of up to 7 marks", texts::every_sign),
@@ -107,6 +118,12 @@ fn fly(sides: &[Calls; 2], start: &[u8], shots: Vec<Shot>) -> Result<(u64, Vec<u
         Ok(image) => Ok((shots.len() as u64, image)),
         Err(_) => Err(tell_flight(sides, start, shots)),
     }
+}
+
+/// Makes a step, or tells.
+fn step(sides: &[Calls; 2], image: &[u8], (frame, room): Shot) -> Result<Stepped, String> {
+    compare::step(sides, image, &frame, room.into())
+        .map_err(|_| tell_flight(sides, image, vec![(frame, room)]))
 }
 
 /// Makes a counted call, or tells.

@@ -65,10 +65,10 @@ pub const LEFT: [(&str, Step); 17] = [
         }
     ),
     leaves!(
-        "leaves the requested mask as the mode rises",
+        "sets the core four in the requested mask as the mode rises",
         |before, after, _| {
             if before.mode == Mode::Recovery && after.mode == Mode::Safe {
-                after.masks.requested &= before.masks.requested;
+                after.masks.requested |= 0x27;
             }
         }
     ),

@@ -108,8 +108,9 @@ Examples:
 pub const COMPARE: &str = "\
 The promise: two craft are sent the same frames, but for battery readings, which are
 in range and never lower on B. Then, after every frame, B's mode is as good as A's,
-each mission module requested on A is requested on B, and each that never saw a
-short and is on at A is on at B.
+each module requested on A is requested on B, and each that never saw a short and is
+on at A is on at B. The core four (MCS, COMM1, COMM2 and I2C) are the same on both,
+shorted or not: requested, on and failed.
 
 It ends where a frame is refused; with --keep-going, where it is refused with 4 or 5.
 

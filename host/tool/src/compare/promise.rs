@@ -5,6 +5,10 @@ use crate::tables::{mode, shorts, BATTERY};
 use crate::words::{count, list, modules, thousands};
 use ems::{Module, Report};
 
+/// The core four: no crossing moves their requests, and both modes that one leads to
+/// allow them.
+const CORE: u8 = !Module::MISSION;
+
 /// A frame as it was sent, and what came of it.
 type Sent<'a> = (&'a [u8], Result<Report, u8>);
 
@@ -25,6 +29,7 @@ pub struct Promise {
     mode: Option<String>,
     requested: Option<String>,
     on: Option<String>,
+    core: Option<String>,
 }
 
 impl Promise {
@@ -68,13 +73,19 @@ impl Promise {
         }
         let n = thousands(n);
         let alone = |mask: u8| format!("frame {n}, {} at A alone", list(&modules(mask)));
-        let requested = a.requested & !b.requested & Module::MISSION;
+        let requested = a.requested & !b.requested;
         if requested != 0 {
             self.requested.get_or_insert_with(|| alone(requested));
         }
-        let on = a.on & !b.on & Module::MISSION & !self.shorted;
+        let on = a.on & !b.on & !self.shorted;
         if on != 0 {
             self.on.get_or_insert_with(|| alone(on));
+        }
+        let differ = (a.requested ^ b.requested) | (a.on ^ b.on) | (a.failed ^ b.failed);
+        let core = differ & CORE;
+        if core != 0 {
+            let said = || format!("frame {n}, different in {}", list(&modules(core)));
+            self.core.get_or_insert_with(said);
         }
     }
 
@@ -85,8 +96,9 @@ impl Promise {
 
     /// Whether all that is promised holds; else what doesn't.
     pub fn conclusions(&self) -> Result<(), &str> {
-        let first = self.mode.as_deref().or(self.requested.as_deref());
-        first.or(self.on.as_deref()).map_or(Ok(()), Err)
+        let broken = [&self.mode, &self.requested, &self.on, &self.core];
+        let first = broken.into_iter().find_map(|at| at.as_deref());
+        first.map_or(Ok(()), Err)
     }
 
     /// All of it in words.
@@ -104,7 +116,10 @@ impl Promise {
             Some(at) => format!("DOES NOT HOLD: {at}"),
             None => "holds".to_string(),
         };
-        let unshorted = list(&modules(Module::MISSION & !self.shorted));
+        let unshorted = match self.shorted {
+            0 => "all eight, which saw no short".to_string(),
+            shorted => format!("all but {}, which saw a short", list(&modules(shorted))),
+        };
         let promised = match self.premises {
             Some(_) => "nothing is promised, and",
             None => "it is promised that",
@@ -112,13 +127,15 @@ impl Promise {
         format!(
             "The premises {premises}.\nSo {promised} {}:\n  \
              mode       B's is as good as A's or better: {}\n  \
-             requested  of {}, all that A has requested, B has: {}\n  \
-             on         of {unshorted}, which saw no short, all that A has on, B has: {}\n",
+             requested  of all eight, all that A has requested, B has: {}\n  \
+             on         of {unshorted}, all that A has on, B has: {}\n  \
+             core       of {}, shorted or not, both have the same requested, on and failed: {}\n",
             self.looked_at(),
             holds(&self.mode),
-            list(&modules(Module::MISSION)),
             holds(&self.requested),
             holds(&self.on),
+            list(&modules(CORE)),
+            holds(&self.core),
         )
     }
 
@@ -148,4 +165,53 @@ fn out_of_range(sent: Sent, which: &str) -> Option<String> {
     sent.1
         .is_err()
         .then(|| format!("{which}'s reading is out of range"))
+}
+
+#[cfg(test)]
+mod tests {
+    use super::*;
+
+    /// A report with these masks.
+    fn report([requested, on, failed]: [u8; 3]) -> Report {
+        let bytes = [0x81, 1, 0, 0, 0, 0, 2, requested, on, failed, 0];
+        Report::read(&bytes).expect("a report")
+    }
+
+    /// Which conclusions don't hold of these masks, where these modules saw a short.
+    fn broken(a: [u8; 3], b: [u8; 3], shorted: u8) -> [bool; 4] {
+        let mut promise = Promise {
+            shorted,
+            ..Promise::default()
+        };
+        promise.found(1, &report(a), &report(b));
+        let Promise {
+            mode,
+            requested,
+            on,
+            core,
+            ..
+        } = promise;
+        [mode, requested, on, core].map(|broken| broken.is_some())
+    }
+
+    /// One module more in one mask of A or of B, for every module and mask.
+    #[test]
+    fn each_conclusion_speaks_of_its_masks_and_modules() {
+        const NONE: [u8; 3] = [0; 3];
+        for module in Module::ALL {
+            let bit = module.bit();
+            let core = CORE & bit != 0;
+            for mask in 0..3 {
+                let mut one = NONE;
+                one[mask] = bit;
+                let lost = [false, mask == 0, mask == 1, core];
+                assert_eq!(broken(one, NONE, 0), lost, "{module} at A, mask {mask}");
+                let short = [false, mask == 0, false, core];
+                assert_eq!(broken(one, NONE, bit), short, "{module}, shorted");
+                let more = [false, false, false, core];
+                assert_eq!(broken(NONE, one, 0), more, "{module} at B, mask {mask}");
+                assert_eq!(broken(one, one, 0), [false; 4], "{module} at both");
+            }
+        }
+    }
 }

@@ -1,26 +1,10 @@
 -- `State::control` meets its contract.
 -- Assumes nothing.
-use mathlib.Core.Path.{_≡_, refl}
-use mathlib.Core.List.{[], _∷_}
-use mathlib.Core.Logic.{⊎-elim}
-use native.Mathlib.Omega.{arith}
-use types.Run.{OneOf}
-use denote.Enum.Declared
 use borrow.Author.Tests.{eq-eqb, ne-eqb}
 use borrow.Author.Needs.{needs}
-use Rattle.basics.specs.Choice.{if_then_else_}
-use Rattle.supervisor.specs.Control.{isUpward, controlled}
-use Rattle.supervisor.specs.declared.control.Crossing.{Crossing}
-use Rattle.supervisor.specs.declared.control.Crossing.the-variants.{Level, Upward, Downward}
-use Rattle.supervisor.proofs.control.Crossing as crossing-tags
+use Rattle.supervisor.specs.Control.{controlled}
 use Rattle.supervisor.proofs.state.State.control.Statement.{statement}
 use Rattle.supervisor.proofs.state.State.control.Tie as tie
-
--- the arm that is not of the level crossing is of the two others
-crosses : (x : Crossing) → OneOf (1 ∷ 2 ∷ []) (Declared.tagOf crossing-tags.the-type x) → (if isUpward x then Upward else Downward) ≡ x
-crosses Level h = ⊎-elim (λ e. absurd (omega arith)) (λ e. absurd (omega arith)) h
-crosses Upward h = refl
-crosses Downward h = refl
 
 add-count : tie.Need-add-count
 add-count c = search needs
@@ -35,26 +19,38 @@ crossing-requires c κs = search needs
 enum-told : tie.Need-enum-told
 enum-told c = search needs
 
-is-upward-requires : tie.Need-is-upward-requires
-is-upward-requires c κs = search needs
+enum-told-2 : tie.Need-enum-told-2
+enum-told-2 c = search needs
 
-crossed-requires : tie.Need-crossed-requires
-crossed-requires c κs = search needs
+risen-requires : tie.Need-risen-requires
+risen-requires c κs = search needs
+
+enum-told-3 : tie.Need-enum-told-3
+enum-told-3 c = search needs
+
+fallen-requires : tie.Need-fallen-requires
+fallen-requires c κs = search needs
 
 returns-2 : tie.Need-returns-2
 unfolding controlled
-returns-2 c = simp (eq-eqb _ _ (c .before .before .before .before .before .if1 .left), (rw (c .before .before .crossing .ensures) at (c .enum-told .given .1)))
+returns-2 c = simp (eq-eqb _ _ (c .before .before .before .before .before .if1 .left), rw (c .before .before .crossing .ensures) at (c .enum-told .given .1))
 
 returns-3 : tie.Need-returns-3
 unfolding controlled
 returns-3 c =
-    let judged : tie.After-crossing = c .before .before .before in
     simp (
-      eq-eqb _ _ (judged .before .before .before .if1 .left),
-      c .crossed .ensures,
-      c .before .is-upward .ensures,
-      rw (judged .crossing .ensures) at (crosses (judged .crossing .result) (c .before .before .match .keys2)),
-      judged .crossing .ensures,
+      eq-eqb _ _ (c .before .before .before .before .before .before .if1 .left),
+      c .risen .ensures,
+      rw (c .before .before .before .crossing .ensures) at (c .before .enum-told2 .given .1),
+    )
+
+returns-4 : tie.Need-returns-4
+unfolding controlled
+returns-4 c =
+    simp (
+      eq-eqb _ _ (c .before .before .before .before .before .before .if1 .left),
+      c .fallen .ensures,
+      rw (c .before .before .before .crossing .ensures) at (c .before .enum-told3 .given .1),
     )
 
 pub control-spec : {M : Type 1} → statement M
@@ -65,7 +61,10 @@ control-spec =
     returns
     crossing-requires
     enum-told
-    is-upward-requires
-    crossed-requires
+    enum-told-2
+    risen-requires
+    enum-told-3
+    fallen-requires
     returns-2
-    returns-3)
+    returns-3
+    returns-4)
