@@ -3,10 +3,10 @@
 use Prim.Native.Nat.{ℕ, _+_, _/_, _%_}
 use mathlib.Core.Bool.{Bool, true}
 use mathlib.Core.List.{List, [], _∷_, _++_}
-use lib.Dec.{ltb}
 use lib.ListN.{take}
 use Rattle.basics.specs.Bytes.{twoHex, space}
 use Rattle.modules.specs.Masks.{masksOf}
+use Rattle.supervisor.specs.Message.{isKept}
 use Rattle.supervisor.specs.declared.state.Mode.{Mode}
 use Rattle.supervisor.specs.declared.state.Mode.the-variants.{DeployWait, Recovery, Safe}
 use Rattle.supervisor.specs.declared.state.State.{State}
@@ -43,9 +43,13 @@ maskText mask = space ∷ twoHex mask
 unfoldable pub completeText : State → List ℕ
 completeText s = basicText s ++ (maskText (masksOf (s .modules) .on) ++ maskText (masksOf (s .modules) .failed))
 
+-- the message, character by character
+abbrev pub messageText : State → List ℕ
+messageText s = take (s .message .length) (s .message .text)
+
 -- extended: the complete text, a space and the message
 unfoldable pub extendedText : State → List ℕ
-extendedText s = completeText s ++ (space ∷ take (s .message .length) (s .message .text))
+extendedText s = completeText s ++ (space ∷ messageText s)
 
 -- the text of each form
 abbrev pub textOf : Form → State → List ℕ
@@ -57,7 +61,7 @@ textOf Extended s = extendedText s
 abbrev pub hasText : Form → (length : ℕ) → Bool
 hasText Basic length = true
 hasText Complete length = true
-hasText Extended length = ltb 0 length
+hasText Extended length = isKept length
 
 -- the bytes of the basic text
 abbrev pub basicBytes : ℕ

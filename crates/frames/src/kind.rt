@@ -44,7 +44,7 @@ const TOTALS: [u8; NUMBERS] = [
     6, // order
     8, // thresholds
     7, // timed order
-    22, // greeting
+    GREETING_BYTES as u8,
 ];
 
 // The table: each entry is the total of its number.

@@ -3,6 +3,7 @@ ghost use mathlib.Core.Path.{_≡_};
 ghost use Prim.Native.Nat.{_≤_};
 ghost use lib.ListN.{length};
 ghost use Rattle.basics.specs.Choice.{word};
+ghost use Rattle.frames.specs.Kind.{greetingBytes};
 ghost use Rattle.frames.specs.Reading.{isReading, areThresholds, areMinutes, isForeign, senderFrom};
 ghost use Rattle.frames.specs.Reading.{batteryFields, antennasFields, orderFields, timedFields};
 ghost use Rattle.frames.specs.Reading.{ofGround, thresholdsFields, greetingFields, readFrame};
@@ -192,7 +193,7 @@ fn thresholds(bytes: &[u8]) -> Reading
 
 // A greeting, which the payload may not send.
 fn greeting(bytes: &[u8]) -> Reading
-    requires { ⌜ length (now bytes) ≡ 22 ⌝ }
+    requires { ⌜ length (now bytes) ≡ greetingBytes ⌝ }
     ensures { λ r. ⌜ r ≡ greetingFields (now (bytes .entry)) ⌝ }
 {
     let origin = bytes[1];

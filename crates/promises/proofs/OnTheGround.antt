@@ -28,13 +28,14 @@ use Rattle.morse.proofs.KeyingLaws.{keyed-within}
 use Rattle.hearing.specs.Reading.{readText}
 use Rattle.morse.specs.declared.texts.Fault.the-variants.{Nothing}
 use Rattle.hearing.proofs.ReadBack.{same-keying}
-use Rattle.beacon.specs.Text.{basicText, completeText, extendedText, textOf, hasText, formBytes, modeLetter, figure}
+use Rattle.beacon.specs.Text.{basicText, completeText, messageText, extendedText, textOf, hasText, formBytes}
+use Rattle.beacon.specs.Text.{modeLetter, figure}
 use Rattle.beacon.specs.Writing.{beaconOf}
 use Rattle.beacon.specs.declared.text.Form.{Form}
 use Rattle.beacon.specs.declared.text.Form.the-variants.{Basic, Complete, Extended}
 use Rattle.beacon.proofs.Keyable.{keyable}
 use Rattle.beacon.proofs.TextLaws.{form-most, text-length}
-use Rattle.promises.specs.OnTheGround.{OnTheGround, Whole, Has, HeardWith, sound, messageText}
+use Rattle.promises.specs.OnTheGround.{OnTheGround, Whole, Has, HeardWith, sound}
 
 -- a text of any form can be keyed
 fair : (form : Form) (s : State) → Whole s → Has form s → faultOf (textOf form s) ≡ Nothing

@@ -6,7 +6,7 @@ use Prim.Native.Nat.{ℕ, _≤_}
 use mathlib.Core.Path.{_≡_}
 use mathlib.Core.List.{List}
 use lib.Dec.{T}
-use lib.ListN.{length, take}
+use lib.ListN.{length}
 use Rattle.basics.specs.Outcome.{Outcome, outcome, written}
 use Rattle.modules.specs.Masks.{masksOf}
 use Rattle.supervisor.specs.Range.{inRange}
@@ -18,7 +18,7 @@ use Rattle.hearing.specs.Reading.{Read}
 use Rattle.morse.specs.declared.keying.Keyed.the-variants as keyed
 use Rattle.hearing.specs.declared.reading.Heard.{Heard}
 use Rattle.hearing.specs.declared.reading.Heard.the-variants as heard
-use Rattle.beacon.specs.Text.{textOf, hasText}
+use Rattle.beacon.specs.Text.{textOf, messageText, hasText}
 use Rattle.beacon.specs.Writing.{beaconOf}
 use Rattle.beacon.specs.declared.text.Form.{Form}
 use Rattle.beacon.specs.declared.text.Form.the-variants.{Basic, Complete, Extended}
@@ -58,10 +58,6 @@ HeardWith form bytes =
 abbrev pub Tells : Form → {Look : Type 0} → (State → Look) → Type 0
 Tells form look =
     (s t : State) → Whole s → Whole t → Has form s → Has form t → sound form s ≡ sound form t → look s ≡ look t
-
--- the message, character by character
-abbrev pub messageText : State → List ℕ
-messageText s = take (s .message .length) (s .message .text)
 
 -- what is heard, and what it tells
 pub record OnTheGround : Type 0 where

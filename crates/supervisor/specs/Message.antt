@@ -14,10 +14,10 @@ messageFrom repeats length text =
     if eqb length 0 || eqb repeats 0 then noMessage
     else record { repeats = repeats; length = length; text = text }
 
--- a message is kept: its length is above 0
-abbrev pub isKept : Message → Bool
-isKept m = ltb 0 (m .length)
+-- a message of this length is kept
+abbrev pub isKept : (length : ℕ) → Bool
+isKept length = ltb 0 length
 
 -- a message is kept and its repeats are above 0
 abbrev pub isToBeSent : Message → Bool
-isToBeSent m = isKept m && ltb 0 (m .repeats)
+isToBeSent m = isKept (m .length) && ltb 0 (m .repeats)

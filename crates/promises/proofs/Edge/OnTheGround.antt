@@ -17,11 +17,11 @@ use Rattle.supervisor.specs.declared.state.State.{State}
 use Rattle.supervisor.proofs.Rules.{rules}
 use Rattle.morse.specs.Signs.{alphabet, signOf}
 use Rattle.morse.specs.Units.{unitsOf}
-use Rattle.beacon.specs.Text.{basicText, completeText, extendedText}
+use Rattle.beacon.specs.Text.{basicText, completeText, messageText, extendedText}
 use Rattle.beacon.specs.Writing.{beaconOf, writtenReply}
 use Rattle.beacon.specs.declared.text.Form.the-variants.{Basic, Complete, Extended}
 use Rattle.beacon.specs.declared.writing.Written.{Written}
-use Rattle.promises.specs.OnTheGround.{HeardWith, Tells, messageText}
+use Rattle.promises.specs.OnTheGround.{HeardWith, Tells}
 use Rattle.promises.proofs.Edge.Flights.{quiet, comm2Off, greeting, hi, send}
 
 -- the number that writing answers
