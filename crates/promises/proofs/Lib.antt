@@ -33,7 +33,6 @@ pub mod OnTheGround
 pub mod Spelling
 pub mod KeyingRoom
 pub mod Counted
-pub mod Numbers
 pub mod Edge
 pub mod ImageFlies
 pub mod Tied

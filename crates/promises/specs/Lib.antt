@@ -1,7 +1,6 @@
 pub mod TwoCraft
 pub mod Passes
 pub mod Serials
-pub mod Numbers
 pub mod InRange
 pub mod Deployment
 pub mod OnlyTicks

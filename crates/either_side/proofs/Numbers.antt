@@ -6,7 +6,7 @@ use Rattle.morse.specs.Texts.{faultOf}
 use Rattle.morse.specs.Units.{unitsOf}
 use Rattle.morse.specs.Keying.{keyUnits, keyOf}
 use Rattle.supervisor.proofs.Rules.{rules}
-use Rattle.promises.specs.Numbers.{Numbers}
+use Rattle.either_side.specs.Numbers.{Numbers}
 
 pub numbers : Numbers
 unfolding rules alphabet signOf faultOf unitsOf keyUnits keyOf
