@@ -15,7 +15,7 @@ use Rattle.frames.specs.Answer.{answerNumber, isReported}
 use Rattle.frames.specs.declared.answer.Answer.{Answer}
 use Rattle.frames.specs.declared.answer.Answer.the-variants as answer
 use Rattle.supervisor.specs.Range.{inRange}
-use Rattle.supervisor.specs.Counting.{modulesOnOf}
+use Rattle.counting.specs.Counting.{modulesOnOf}
 use Rattle.supervisor.specs.Step.{stepOf}
 use Rattle.supervisor.specs.History.{Call, called}
 use Rattle.supervisor.specs.declared.step.Stepped.{Stepped}

@@ -15,8 +15,8 @@ use Rattle.frames.specs.Answer.{answerNumber}
 use Rattle.frames.specs.declared.answer.Answer.the-variants as answer
 use Rattle.supervisor.specs.Fresh.{freshState}
 use Rattle.supervisor.specs.Step.{stepOf}
-use Rattle.supervisor.specs.Counting.{modulesOnOf}
-use Rattle.supervisor.specs.declared.counting.ModulesOn.{ModulesOn}
+use Rattle.counting.specs.Counting.{modulesOnOf}
+use Rattle.counting.specs.declared.ModulesOn.{ModulesOn}
 use Rattle.supervisor.specs.declared.state.State.{State}
 use Rattle.supervisor.specs.declared.step.Stepped.{Stepped}
 use Rattle.pass.specs.Pass.{passOf}

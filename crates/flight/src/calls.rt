@@ -83,7 +83,7 @@ pub extern "C" fn ems_modules_on(image: &[u8], count: &mut usize) -> u8
         return Answer::BadState.number();
     }
     let state = decode(image);
-    let on = supervisor::counting::modules_on(state);
+    let on = counting::modules_on(state);
     let answer = on.answer;
     *count = on.count as usize;
     answer.number()

@@ -20,7 +20,7 @@ use Rattle.supervisor.specs.Fresh.{freshState}
 use Rattle.supervisor.specs.Tick.{ticked}
 use Rattle.supervisor.specs.Act.{actOf}
 use Rattle.supervisor.specs.Report.{shownIn}
-use Rattle.supervisor.specs.Counting.{modulesOnOf}
+use Rattle.counting.specs.Counting.{modulesOnOf}
 use Rattle.supervisor.specs.History.{Call, called, after}
 use Rattle.supervisor.specs.declared.state.State.{State}
 use Rattle.supervisor.proofs.RangeLaws.{parts}

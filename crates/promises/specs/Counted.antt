@@ -18,7 +18,7 @@ use Rattle.frames.specs.declared.answer.Answer.the-variants.{Done, BadState}
 use Rattle.supervisor.specs.State.{HasMasks}
 use Rattle.supervisor.specs.Fresh.{freshState}
 use Rattle.supervisor.specs.Report.{shownIn}
-use Rattle.supervisor.specs.Counting.{modulesOnOf}
+use Rattle.counting.specs.Counting.{modulesOnOf}
 use Rattle.supervisor.specs.History.{Call, called, after}
 use Rattle.supervisor.specs.declared.state.State.{State}
 use Rattle.flight.specs.Saving.{saved}

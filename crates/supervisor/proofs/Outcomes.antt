@@ -8,8 +8,6 @@ use Rattle.supervisor.proofs.fresh.fresh as fresh
 use Rattle.supervisor.proofs.fresh.fresh.Reads as fresh-reads
 use Rattle.supervisor.proofs.state.State.in_range as in-range
 use Rattle.supervisor.proofs.state.State.in_range.Reads as in-range-reads
-use Rattle.supervisor.proofs.counting.modules_on as modules-on
-use Rattle.supervisor.proofs.counting.modules_on.Reads as modules-on-reads
 use Rattle.supervisor.proofs.step.step as step
 use Rattle.supervisor.proofs.step.step.Reads as step-reads
 
@@ -21,9 +19,6 @@ fresh-one = record { taken = λ κs a. tt; one = λ κs a x y p q i. ((p ∙ sym
 
 pub in-range-one : OneOutcome in-range.ended in-range-reads.Asked in-range-reads.Learnt
 in-range-one = record { taken = λ κs a. tt; one = λ κs a x y p q i. ((p ∙ sym q) i, (tt, tt)) }
-
-pub modules-on-one : OneOutcome modules-on.ended modules-on-reads.Asked modules-on-reads.Learnt
-modules-on-one = record { taken = λ κs a. tt; one = λ κs a x y p q i. ((p ∙ sym q) i, (tt, tt)) }
 
 -- what `step` hands back, and the room as it leaves it
 pub step-one : OneOutcome step.ended step-reads.Asked step-reads.Learnt

@@ -2,7 +2,6 @@ pub mod State
 pub mod Message
 pub mod Fresh
 pub mod Range
-pub mod Counting
 pub mod Acted
 pub mod Deploy
 pub mod Ending

@@ -9,11 +9,11 @@ use Rattle.basics.proofs.ChoiceLaws.{holds}
 use Rattle.modules.specs.Masks.{countOn}
 use Rattle.modules.specs.declared.masks.Masks.{Masks}
 use Rattle.modules.proofs.MasksLaws.{ones-on}
 use Rattle.supervisor.specs.Range.{inRange}
-use Rattle.supervisor.specs.Counting.{modulesOnOf}
 use Rattle.supervisor.proofs.RangeLaws.{parts}
-use Rattle.supervisor.proofs.counting.modules_on.Statement.{statement}
-use Rattle.supervisor.proofs.counting.modules_on.Tie as tie
+use Rattle.counting.specs.Counting.{modulesOnOf}
+use Rattle.counting.proofs.modules_on.Statement.{statement}
+use Rattle.counting.proofs.modules_on.Tie as tie
 
 in-range-requires : tie.Need-in-range-requires
 in-range-requires c κs = search needs

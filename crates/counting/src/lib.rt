@@ -1,8 +1,8 @@
 // How many modules are on.
 ghost use mathlib.Core.Path.{_≡_};
-ghost use Rattle.supervisor.specs.Counting.{modulesOnOf};
-use crate::state::State;
+ghost use Rattle.counting.specs.Counting.{modulesOnOf};
 use frames::answer::Answer;
+use supervisor::state::State;
 
 // The answer, 0 or 1, and how many modules are on; 0 at a refusal.
 pub struct ModulesOn {
