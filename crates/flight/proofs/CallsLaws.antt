@@ -15,7 +15,6 @@ use Rattle.frames.specs.Answer.{answerNumber, isReported}
 use Rattle.frames.specs.declared.answer.Answer.{Answer}
 use Rattle.frames.specs.declared.answer.Answer.the-variants as answer
 use Rattle.supervisor.specs.Range.{inRange}
-use Rattle.counting.specs.Counting.{modulesOnOf}
 use Rattle.supervisor.specs.Step.{stepOf}
 use Rattle.supervisor.specs.History.{Call, called}
 use Rattle.supervisor.specs.declared.step.Stepped.{Stepped}
@@ -26,6 +25,7 @@ use Rattle.pass.specs.Pass.{passOf}
 use Rattle.pass.specs.declared.Passed.{Passed}
 use Rattle.pass.proofs.PassLaws.{pass-outside, pass-keeps-range}
 use Rattle.pass.proofs.Flight.{pass-idle}
+use Rattle.counting.specs.Counting.{modulesOnOf}
 use Rattle.beacon.specs.Writing.{beaconOf}
 use Rattle.beacon.specs.declared.text.Form.{Form}
 use Rattle.beacon.specs.declared.writing.Written.the-variants.{BadState}

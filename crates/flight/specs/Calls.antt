@@ -15,12 +15,12 @@ use Rattle.frames.specs.Answer.{answerNumber}
 use Rattle.frames.specs.declared.answer.Answer.the-variants as answer
 use Rattle.supervisor.specs.Fresh.{freshState}
 use Rattle.supervisor.specs.Step.{stepOf}
-use Rattle.counting.specs.Counting.{modulesOnOf}
-use Rattle.counting.specs.declared.ModulesOn.{ModulesOn}
 use Rattle.supervisor.specs.declared.state.State.{State}
 use Rattle.supervisor.specs.declared.step.Stepped.{Stepped}
 use Rattle.pass.specs.Pass.{passOf}
 use Rattle.pass.specs.declared.Passed.{Passed}
+use Rattle.counting.specs.Counting.{modulesOnOf}
+use Rattle.counting.specs.declared.ModulesOn.{ModulesOn}
 use Rattle.beacon.specs.Writing.{beaconOf}
 use Rattle.beacon.specs.declared.text.Form.{Form}
 use Rattle.beacon.specs.declared.writing.Written.{Written}

@@ -20,7 +20,6 @@ use Rattle.supervisor.specs.Fresh.{freshState}
 use Rattle.supervisor.specs.Tick.{ticked}
 use Rattle.supervisor.specs.Act.{actOf}
 use Rattle.supervisor.specs.Report.{shownIn}
-use Rattle.counting.specs.Counting.{modulesOnOf}
 use Rattle.supervisor.specs.History.{Call, called, after}
 use Rattle.supervisor.specs.declared.state.State.{State}
 use Rattle.supervisor.proofs.RangeLaws.{parts}
@@ -28,6 +27,7 @@ use Rattle.supervisor.proofs.RangeKept.{ticked-in-range, acted-masks}
 use Rattle.supervisor.proofs.FreshLaws.{fresh-in-range, fresh-eight}
 use Rattle.supervisor.proofs.ReportLaws.{report-masks}
 use Rattle.supervisor.proofs.HistoryLaws.{Comes, stopped, ticking, other, comes, after-in-range, after-eight}
+use Rattle.counting.specs.Counting.{modulesOnOf}
 use Rattle.flight.specs.Calls.{modulesOnReply, modulesOnLoaded, modulesOnImage}
 use Rattle.flight.proofs.LoadSave.{load-save}
 use Rattle.promises.specs.Counted.{Reached, ShownWhere, Counts, Uncounted, Counted}

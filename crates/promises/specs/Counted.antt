@@ -18,9 +18,9 @@ use Rattle.frames.specs.declared.answer.Answer.the-variants.{Done, BadState}
 use Rattle.supervisor.specs.State.{HasMasks}
 use Rattle.supervisor.specs.Fresh.{freshState}
 use Rattle.supervisor.specs.Report.{shownIn}
-use Rattle.counting.specs.Counting.{modulesOnOf}
 use Rattle.supervisor.specs.History.{Call, called, after}
 use Rattle.supervisor.specs.declared.state.State.{State}
+use Rattle.counting.specs.Counting.{modulesOnOf}
 use Rattle.flight.specs.Saving.{saved}
 use Rattle.flight.proofs.calls.ems_modules_on as ems-modules-on
 use Rattle.flight.proofs.calls.ems_modules_on.Reads as ems-modules-on-reads

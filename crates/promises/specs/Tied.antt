@@ -8,19 +8,19 @@ use denote.Triple.Entry.{Args, Res}
 use denote.Triple.Clauses.{Ended, AtExit, atExit}
 use Rattle.basics.specs.Outcome.{outcome, reply}
 use Rattle.basics.specs.OneOutcome.{Leaves}
-use Rattle.counting.specs.Counting.{modulesOnOf}
 use Rattle.supervisor.specs.History.{called}
 use Rattle.pass.specs.Flight.{passed}
+use Rattle.counting.specs.Counting.{modulesOnOf}
 use Rattle.morse.specs.Keying.{keyReply, keyOf}
 use Rattle.hearing.specs.Reading.{Read}
 use Rattle.beacon.specs.Writing.{beaconOf}
 use Rattle.tracker.specs.Tracker.{trackOf}
 use Rattle.supervisor.proofs.step.step as step
 use Rattle.supervisor.proofs.step.step.Reads as step-reads
-use Rattle.counting.proofs.modules_on as modules-on
-use Rattle.counting.proofs.modules_on.Reads as modules-on-reads
 use Rattle.pass.proofs.pass as pass
 use Rattle.pass.proofs.pass.Reads as pass-reads
+use Rattle.counting.proofs.modules_on as modules-on
+use Rattle.counting.proofs.modules_on.Reads as modules-on-reads
 use Rattle.morse.proofs.keying.key as key
 use Rattle.morse.proofs.keying.key.Reads as key-reads
 use Rattle.hearing.proofs.reading.read as read

@@ -13,11 +13,11 @@ use Rattle.modules.specs.declared.masks.Masks.{Masks}
 use Rattle.frames.specs.Answer.{answerNumber}
 use Rattle.supervisor.specs.State.{HasMasks}
 use Rattle.supervisor.specs.Fresh.{freshState}
-use Rattle.counting.specs.Counting.{modulesOnOf}
 use Rattle.supervisor.specs.History.{Call, called}
-use Rattle.counting.specs.declared.ModulesOn.{ModulesOn}
 use Rattle.supervisor.specs.declared.state.State.{State}
 use Rattle.supervisor.proofs.Rules.{rules}
+use Rattle.counting.specs.Counting.{modulesOnOf}
+use Rattle.counting.specs.declared.ModulesOn.{ModulesOn}
 use Rattle.promises.specs.Counted.{Reached, ShownWhere, Counts}
 use Rattle.promises.proofs.Edge.Flights.{quiet, send}
 use Rattle.promises.proofs.Edge.InRange.{overdue}
