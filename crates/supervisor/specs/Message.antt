@@ -14,7 +14,7 @@ messageFrom repeats length text =
     if eqb length 0 || eqb repeats 0 then noMessage
     else record { repeats = repeats; length = length; text = text }
 
--- a message of this length is kept
+-- a message is kept: its length is above 0
 abbrev pub isKept : (length : ℕ) → Bool
 isKept length = ltb 0 length
 
