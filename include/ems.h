@@ -7,7 +7,8 @@
  * What the proof takes from you, and cannot check:
  *   - every pointer is non-null, also where its length is 0;
  *   - every length is true: that many bytes may be read there (and written,
- *     where the pointer isn't const);
+ *     where the pointer isn't const), or that many numbers, of `books` and
+ *     `shares`, which are aligned as their type asks;
  *   - no two buffers of one call overlap, and `count` or `reported` lies outside
  *     of all; nor do `set_point` and `step`;
  *   - one caller at a time for any one buffer, and for any one such number.
@@ -18,9 +19,10 @@
  *
  * What no call catches: an image whose write was interrupted halfway and that
  * happens to be a state in range; a bit flip elsewhere that stays within the ranges
- * (in a serial, a tension, a module's tries or seconds); and flips of a module and
- * of its masks that go together. A caller that keeps the image over a reset guards
- * it (two copies and a checksum, say).
+ * (in a serial, a tension, a module's tries or seconds); flips of a module and of its
+ * masks that go together; and a flip in the books that takes no number above its
+ * limit. A caller that keeps the image or the books over a reset guards them (two
+ * copies and a checksum, say).
  */
 #ifndef EMS_H
 #define EMS_H
@@ -120,9 +122,19 @@ extern "C" {
 #define EMS_MOST_MILLIAMPERES 5000
 #define EMS_LONGEST_STEP 500
 
-/* What a call answers. The checks run in the order that the call's comment gives,
- * which is that of their numbers but for 15 and 21, both before 14; the first that
- * applies is given. */
+/* The modules of the board, and so the shares of a summary. */
+#define EMS_MODULES 8
+
+/* The numbers of the books: for each module its seconds on, off and failed. */
+#define EMS_BOOKS_NUMBERS 24
+
+/* The most seconds that a number of the books may have: 10 to the 15th, more than
+ * 31 million years. */
+#define EMS_MOST_SECONDS 1000000000000000U
+
+/* What a call answers. The checks run in the order that the call's comment gives; the
+ * first that applies is given. That order is the one of their numbers, but 15 and 21
+ * go before 14, 18 before all others, and 17 before 7 and 14. */
 enum ems_answer {
     EMS_DONE = 0,           /* done by the rules; there is a report */
     EMS_BAD_STATE = 1,      /* the image is not that of a state in range, or its
@@ -148,6 +160,9 @@ enum ems_answer {
     EMS_NO_ROOM = 14,       /* the room is shorter than the result */
     EMS_NOT_A_KEYING = 15,  /* the units are not exactly the keying of a text */
     EMS_OUT_OF_RANGE = 16,  /* a reading, the set point or the step is out of range */
+    EMS_BOOKS_FULL = 17,    /* a number of the books is above EMS_MOST_SECONDS, or
+                               this tick would take it above */
+    EMS_NOT_BOOKS = 18,     /* not exactly EMS_BOOKS_NUMBERS numbers are lent */
     EMS_NO_MESSAGE = 21     /* no message is kept for the extended beacon */
 };
 
@@ -213,6 +228,40 @@ uint8_t ems_pass(uint8_t *image, size_t image_len,
 /* Tells how many modules are on, 0 to 8: the ones in the on mask. EMS_DONE with their
  * number in `*count`; or EMS_BAD_STATE with `*count` 0. */
 uint8_t ems_modules_on(const uint8_t *image, size_t image_len, size_t *count);
+
+/* Takes one frame as ems_step does, and writes each module's seconds into the books:
+ * as module m is found after a tick that is done, number 3m (on), 3m + 1 (off) or
+ * 3m + 2 (failed) grows by 1. A tick in DEPLOY_WAIT is one too. No other frame touches
+ * the books. They are numbers in the caller's memory, begun with zeros; from then on
+ * a module's three add up to the ticks done, if all go through this call.
+ *
+ * Answers, in this order:
+ *   EMS_NOT_BOOKS   not exactly EMS_BOOKS_NUMBERS numbers are lent; the image is not
+ *                   looked at
+ *   1 to 6          what ems_step refuses the frame with
+ *   EMS_BOOKS_FULL  any number is above EMS_MOST_SECONDS, whatever the frame; or this
+ *                   is a tick, and one of the eight numbers that it would raise is
+ *                   EMS_MOST_SECONDS
+ *   7 to 10, 0      what ems_step answers
+ * At EMS_NOT_BOOKS and 1 to 7, and at EMS_BOOKS_FULL, books, image and room stay as
+ * they are; so EMS_BOOKS_FULL uses up no serial. At the others image and room are as
+ * ems_step leaves them. */
+uint8_t ems_step_books(uint8_t *image, size_t image_len,
+                       const uint8_t *frame, size_t frame_len,
+                       uint8_t *room, size_t room_len,
+                       uint64_t *books, size_t books_len);
+
+/* Tells from the books which share of its time each module was on: its seconds on, in
+ * thousandths of its three numbers together, rounded down, 0 to 1000; 0 where they are
+ * all 0. Answers, in this order:
+ *   EMS_NOT_BOOKS   not exactly EMS_BOOKS_NUMBERS numbers are lent
+ *   EMS_BOOKS_FULL  any number is above EMS_MOST_SECONDS
+ *   EMS_NO_ROOM     fewer than EMS_MODULES shares are lent; nothing is written
+ *   EMS_DONE        the first EMS_MODULES shares are those of the modules
+ * At EMS_NOT_BOOKS and EMS_BOOKS_FULL the first EMS_MODULES shares are 0, or all where
+ * fewer are lent. Shares past them stay. */
+uint8_t ems_summary(const uint64_t *books, size_t books_len,
+                    uint16_t *shares, size_t shares_len);
 
 /* Write the beacon's text of a state, and its length to `*count`. Answers:
  * EMS_BAD_STATE, then EMS_NO_ROOM, both with `*count` 0 and the text untouched;

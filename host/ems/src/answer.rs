@@ -36,6 +36,11 @@ pub const NO_ROOM: u8 = 14;
 pub const NOT_A_KEYING: u8 = 15;
 /// A panel's reading, the set point or the step is out of range.
 pub const OUT_OF_RANGE: u8 = 16;
+/// A number of the books is above [`MOST_SECONDS`](crate::MOST_SECONDS), or this tick
+/// would take it above.
+pub const BOOKS_FULL: u8 = 17;
+/// Not exactly [`BOOKS_NUMBERS`](crate::BOOKS_NUMBERS) numbers are lent.
+pub const NOT_BOOKS: u8 = 18;
 /// No message is kept for the extended beacon.
 pub const NO_MESSAGE: u8 = 21;
 

@@ -3,8 +3,8 @@
 //!
 //! Why it is sound: the library reads and writes within the lengths it is given
 //! and nowhere else (proved), keeps no pointer and no state between calls, and
-//! asks four things of its caller. A slice's pointer is non-null, also when the
-//! slice is empty. A slice's length is true. A `&mut` slice overlaps nothing
+//! asks five things of its caller. A slice's pointer is non-null, also when the
+//! slice is empty, and aligned. A slice's length is true. A `&mut` slice overlaps nothing
 //! else that is borrowed, and `count` or `reported` is a local of the wrapper.
 //! And nobody else writes to what is borrowed while the call runs, which is what
 //! a borrow means. Of a `&mut` number all of this holds too. Any bytes and numbers are
@@ -33,6 +33,22 @@ mod c {
             reported: *mut usize,
         ) -> u8;
         pub fn ems_modules_on(image: *const u8, image_len: usize, count: *mut usize) -> u8;
+        pub fn ems_step_books(
+            image: *mut u8,
+            image_len: usize,
+            frame: *const u8,
+            frame_len: usize,
+            room: *mut u8,
+            room_len: usize,
+            books: *mut u64,
+            books_len: usize,
+        ) -> u8;
+        pub fn ems_summary(
+            books: *const u64,
+            books_len: usize,
+            shares: *mut u16,
+            shares_len: usize,
+        ) -> u8;
         pub fn ems_beacon_basic(
             image: *const u8,
             image_len: usize,
@@ -152,6 +168,52 @@ pub fn modules_on(image: &[u8]) -> (u8, usize) {
     // SAFETY: pointers and length are those of one borrowed slice and a local.
     let answer = unsafe { c::ems_modules_on(image.as_ptr(), image.len(), &mut count) };
     (answer, count)
+}
+
+/// Takes one frame as [`step`] does, and writes each module's seconds on, off and failed
+/// into the books: 18 unless [`BOOKS_NUMBERS`](crate::BOOKS_NUMBERS) numbers are lent,
+/// and 17, between 6 and 7, where one has no more room.
+pub fn step_books(image: &mut [u8], frame: &[u8], room: &mut [u8], books: &mut [u64]) -> u8 {
+    // SAFETY: pointers and lengths are those of four borrowed slices, the three
+    // that are written borrowed mutably.
+    unsafe {
+        c::ems_step_books(
+            image.as_mut_ptr(),
+            image.len(),
+            frame.as_ptr(),
+            frame.len(),
+            room.as_mut_ptr(),
+            room.len(),
+            books.as_mut_ptr(),
+            books.len(),
+        )
+    }
+}
+
+/// Writes each module's share on, in thousandths of its three numbers in the books: 18, 17
+/// or, with too few shares lent, 14; else 0.
+///
+/// ```
+/// use ems::{answer, summary, Module, BOOKS_NUMBERS};
+///
+/// let mut books = [0; BOOKS_NUMBERS];
+/// // On for two seconds, off for one.
+/// books[..3].copy_from_slice(&[2, 1, 0]);
+/// let mut shares = Module::ALL.map(|_| 0);
+/// assert_eq!(summary(&books, &mut shares), answer::DONE);
+/// assert_eq!(shares, [666, 0, 0, 0, 0, 0, 0, 0]);
+/// ```
+pub fn summary(books: &[u64], shares: &mut [u16]) -> u8 {
+    // SAFETY: pointers and lengths are those of two borrowed slices, the one that
+    // is written borrowed mutably.
+    unsafe {
+        c::ems_summary(
+            books.as_ptr(),
+            books.len(),
+            shares.as_mut_ptr(),
+            shares.len(),
+        )
+    }
 }
 
 /// Writes the basic beacon's text of the state; answer and length.

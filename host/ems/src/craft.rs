@@ -67,6 +67,13 @@ impl Craft {
         }
     }
 
+    /// Takes one frame as [`step`](Craft::step) does, and writes each module's seconds on,
+    /// off and failed into the caller's books, [`BOOKS_NUMBERS`](crate::BOOKS_NUMBERS)
+    /// numbers that begin with zeros. [`answer::BOOKS_FULL`] leaves the craft and the books.
+    pub fn step_books(&mut self, frame: &[u8], room: &mut [u8], books: &mut [u64]) -> u8 {
+        calls::step_books(&mut self.image, frame, room, books)
+    }
+
     /// How many modules are on.
     pub fn modules_on(&self) -> usize {
         let (_, count) = calls::modules_on(&self.image);

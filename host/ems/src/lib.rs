@@ -8,6 +8,9 @@
 //! [`Module`] and [`Beacon`] name a report's numbers. Answers are the numbers of
 //! documents 01 and 02, named in [`answer`].
 //!
+//! [`Craft::step_books`] keeps each module's seconds in numbers of the caller, and
+//! [`summary`] tells from them which share of its time each was on.
+//!
 //! [`track`] is the panel tracker, which goes by a panel's [`Reading`]s and has nothing
 //! to do with a board's state.
 //!
@@ -38,7 +41,7 @@ mod passed;
 mod reading;
 mod report;
 
-pub use calls::{key, read, track};
+pub use calls::{key, read, summary, track};
 pub use craft::Craft;
 pub use mode::Mode;
 pub use module::Module;
@@ -58,6 +61,11 @@ pub const BEACON_COMPLETE_BYTES: usize = 16;
 pub const BEACON_EXTENDED_BYTES: usize = 33;
 /// The bytes of a message's text, its filler included.
 pub const MESSAGE_BYTES: usize = 16;
+/// The numbers of the books: each module's seconds on, off and failed, one module after
+/// the other; `EMS_BOOKS_NUMBERS` of the header.
+pub const BOOKS_NUMBERS: usize = 24;
+/// The most seconds that a number of the books may have; `EMS_MOST_SECONDS` of the header.
+pub const MOST_SECONDS: u64 = 1_000_000_000_000_000;
 /// The longest text that is keyed.
 pub const TEXT_BYTES: usize = 64;
 /// Room enough for the units of any text that is keyed.
