@@ -15,6 +15,10 @@ pub struct Board {
 
 /// The bytes of a report.
 pub(crate) const REPORT: usize = 11;
+/// What stands in a room before a call, there and behind its end.
+pub(crate) const BEFORE: u8 = 0xA5;
+/// The bytes behind a room's end that are looked at too.
+pub(crate) const BEHIND: usize = 2 * REPORT;
 
 impl Board {
     /// The image after the frames of `from`, as `image` says that it is no good.

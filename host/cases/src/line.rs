@@ -66,6 +66,14 @@ impl Line {
         number.map_err(|_| self.wrong("a number"))
     }
 
+    /// The values as decimal numbers.
+    pub fn numbers<T: FromStr>(&self) -> Result<Vec<T>> {
+        let numbers = self.values.iter().map(|value| value.parse().ok());
+        numbers
+            .collect::<Option<_>>()
+            .ok_or_else(|| self.wrong("numbers"))
+    }
+
     /// That the values are not what they should be.
     pub fn wrong(&self, wanted: &str) -> String {
         format!("line {}: {} is not {wanted}", self.number, self.word)

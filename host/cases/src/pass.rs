@@ -1,6 +1,6 @@
 //! The cases of `pass.txt`: a whole pass in one call.
 
-use crate::board::{has_report, REPORT};
+use crate::board::{has_report, BEFORE, BEHIND, REPORT};
 use crate::{read, text, Board, Case, Result};
 
 /// The words of the file.
@@ -20,10 +20,6 @@ pub type Pass = fn(&mut [u8], &[u8], &mut [u8]) -> (u8, usize);
 const WRONG_LENGTH: u8 = 5;
 /// A second without shorts.
 const TICK: [u8; 2] = [0x01, 0x00];
-/// What stands in the room before a call, there and behind its end.
-const BEFORE: u8 = 0xA5;
-/// The bytes behind the room's end that are looked at too.
-const BEHIND: usize = 2 * REPORT;
 
 /// Makes the calls of a case: what came out otherwise, if anything did.
 pub fn check(case: &Case, board: &Board, pass: Pass) -> Result<()> {

@@ -1,7 +1,7 @@
 //! The calls of `include/ems.h`, with the same arguments and the same answers.
 
 use crate::track::{self, Reading};
-use crate::{beacon, image, morse, pass, report::Report, state::State, step};
+use crate::{beacon, books, image, morse, pass, report::Report, state::State, step};
 
 /// Writes the fresh start's image.
 pub fn fresh(bytes: &mut [u8]) -> u8 {
@@ -17,10 +17,16 @@ pub fn step(bytes: &mut [u8], frame: &[u8], room: &mut [u8]) -> u8 {
     let Some(mut state) = image::load(bytes) else {
         return 1;
     };
-    match step::step(&mut state, frame, room.len()) {
+    let stepped = step::step(&mut state, frame, room.len());
+    leave(stepped, &state, bytes, room)
+}
+
+/// Writes the state and the report that a frame leaves, if it leaves one: the answer.
+fn leave(stepped: Result<Report, u8>, state: &State, bytes: &mut [u8], room: &mut [u8]) -> u8 {
+    match stepped {
         Err(refusal) => refusal,
         Ok(report) => {
-            bytes.copy_from_slice(&image::save(&state));
+            bytes.copy_from_slice(&image::save(state));
             write(&report.bytes(), room);
             report.answer
         }
@@ -44,6 +50,33 @@ pub fn modules_on(bytes: &[u8]) -> (u8, usize) {
     match image::load(bytes) {
         Some(state) => (0, state.masks.modules_on()),
         None => (1, 0),
+    }
+}
+
+/// Takes one frame, and writes the seconds of the modules into the books.
+pub fn step_books(bytes: &mut [u8], frame: &[u8], room: &mut [u8], lent: &mut [u64]) -> u8 {
+    let Ok(books) = lent.try_into() else {
+        return 18;
+    };
+    let Some(mut state) = image::load(bytes) else {
+        return 1;
+    };
+    let stepped = books::step(&mut state, frame, room.len(), books);
+    leave(stepped, &state, bytes, room)
+}
+
+/// Each module's share on.
+pub fn summary(books: &[u64], shares: &mut [u16]) -> u8 {
+    match books::shares(books) {
+        Err(refusal) => {
+            write(&[0; 8], shares);
+            refusal
+        }
+        Ok(own) if shares.len() < own.len() => 14,
+        Ok(own) => {
+            write(&own, shares);
+            0
+        }
     }
 }
 
@@ -103,9 +136,9 @@ fn give(result: Result<Vec<u8>, u8>, room: &mut [u8]) -> (u8, usize) {
     }
 }
 
-/// Writes to the front of a room that is long enough.
-fn write(bytes: &[u8], room: &mut [u8]) {
-    for (to, from) in room.iter_mut().zip(bytes) {
+/// Writes to the front of a room, as far as it goes.
+fn write<T: Copy>(result: &[T], room: &mut [T]) {
+    for (to, from) in room.iter_mut().zip(result) {
         *to = *from;
     }
 }

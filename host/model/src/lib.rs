@@ -1,7 +1,7 @@
 //! The rules a second time, in plain Rust: document 01's, and of document 02 the
 //! orders with an end, the pass, the tries that a module keeps, the four signs more,
 //! the greetings, the panel tracker, the bound on keying room, the masks that are kept,
-//! and the crossing upward that requests nothing.
+//! the crossing upward that requests nothing, and the seconds in the books.
 //!
 //! It is written from their words alone and shares nothing with the proved
 //! library, so that a slip in either shows as a difference. It goes for being
@@ -15,6 +15,7 @@
 #![deny(missing_docs)]
 
 pub mod beacon;
+pub mod books;
 pub mod calls;
 pub mod frame;
 pub mod image;

@@ -2,7 +2,7 @@
 //! shares nothing with this one: the log must be theirs, byte for byte, and so
 //! must all that a call leaves behind.
 
-use cases::{modules_on, pass, track, Board};
+use cases::{books, modules_on, pass, summary, track, Board};
 use model::track::Reading;
 use model::{calls, image};
 use std::{fs, path::Path};
@@ -48,6 +48,25 @@ fn every_case_of_a_count_comes_out() {
     for case in cases {
         let checked = modules_on::check(&case, &MODEL, calls::modules_on);
         assert_eq!(checked, Ok(()));
+    }
+}
+
+#[test]
+fn every_case_of_the_books_comes_out() {
+    let cases = books::cases().expect("the cases are there");
+    assert!(cases.len() >= 190, "only {} cases", cases.len());
+    for case in cases {
+        let checked = books::check(&case, &MODEL, calls::step_books);
+        assert_eq!(checked, Ok(()));
+    }
+}
+
+#[test]
+fn every_case_of_a_summary_comes_out() {
+    let cases = summary::cases().expect("the cases are there");
+    assert!(cases.len() >= 190, "only {} cases", cases.len());
+    for case in cases {
+        assert_eq!(summary::check(&case, calls::summary), Ok(()));
     }
 }
 
