@@ -1,17 +1,17 @@
 //! The header and the wrapper say the same, and programs in C and C++ build
 //! with the header and fly with the library.
 
-use ems::{answer, units_for, Craft};
+use ems::{answer, units_for, Craft, Module};
 use std::{path::Path, process::Command};
 
 const HEADER: &str = include_str!("../../../include/ems.h");
 
-/// A name's number in the header: `#define NAME n` or `NAME = n`.
+/// A name's number in the header: `#define NAME n`, where n may be unsigned, or `NAME = n`.
 fn number(name: &str) -> Option<usize> {
     HEADER.lines().find_map(|line| {
         let mut words = line.split_whitespace();
         match (words.next()?, words.next()?, words.next()?) {
-            ("#define", own, value) if own == name => value.parse().ok(),
+            ("#define", own, value) if own == name => value.trim_end_matches('U').parse().ok(),
             (own, "=", value) if own == name => value.trim_end_matches(',').parse().ok(),
             _ => None,
         }
@@ -45,6 +45,17 @@ fn the_tracker_s_limits_are_the_header_s() {
 }
 
 #[test]
+fn the_books_numbers_are_the_header_s() {
+    for (name, value) in [
+        ("EMS_MODULES", Module::ALL.len()),
+        ("EMS_BOOKS_NUMBERS", ems::BOOKS_NUMBERS),
+        ("EMS_MOST_SECONDS", ems::MOST_SECONDS as usize),
+    ] {
+        assert_eq!(number(name), Some(value), "{name}");
+    }
+}
+
+#[test]
 fn the_version_is_the_header_s() {
     let version = Craft::fresh().image()[0];
     assert_eq!(number("EMS_IMAGE_VERSION"), Some(version.into()));
@@ -70,6 +81,8 @@ fn answers_are_the_header_s() {
         ("EMS_NO_ROOM", answer::NO_ROOM),
         ("EMS_NOT_A_KEYING", answer::NOT_A_KEYING),
         ("EMS_OUT_OF_RANGE", answer::OUT_OF_RANGE),
+        ("EMS_BOOKS_FULL", answer::BOOKS_FULL),
+        ("EMS_NOT_BOOKS", answer::NOT_BOOKS),
         ("EMS_NO_MESSAGE", answer::NO_MESSAGE),
     ] {
         assert_eq!(number(name), Some(value.into()), "{name}");
@@ -149,6 +162,31 @@ fn the_room_set_aside_in_c_is_the_wrapper_s() {
     ] {
         let print = print_of("units_for.c", compiler, language, standard);
         assert_eq!(print, wanted, "{standard}");
+    }
+}
+
+const BOOKS: &str = "\
+0 | 0 1 0 | 0 1 0
+0 | 0 2 0 | 0 2 0
+0 | 0 3 0 | 0 3 0
+0 | 1 3 0 | 0 4 0
+0 | 2 3 0 | 0 5 0
+17 | 1000000000000000 3 0 | 0 5 0
+0 | 999 400 0
+18 | 1000000000000000 3 0 | 0 5 0
+18 | 0 0 0
+";
+
+/// The limit is a number of 64 bits in each of the languages.
+#[test]
+fn programs_in_c_and_cpp_keep_books() {
+    for (compiler, language, standard) in [
+        ("cc", "c", "-std=c99"),
+        ("c++", "c++", "-std=c++98"),
+        ("c++", "c++", "-std=c++11"),
+    ] {
+        let print = print_of("books.c", compiler, language, standard);
+        assert_eq!(print, BOOKS, "{standard}");
     }
 }
 

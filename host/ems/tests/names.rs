@@ -1,9 +1,9 @@
-//! The names of modules, modes and beacons, and their numbers, and the tracker's limits:
-//! those of the library, the model and the header.
+//! The names of modules, modes and beacons, and their numbers, and the limits of the tracker
+//! and of the books: those of the library, the model and the header.
 
 use ems::{answer, Beacon, Craft, Mode, Module};
 use model::table::{FROM_GROUND, GREETING, KINDS, MODULES, ORDER, TIMED};
-use model::track;
+use model::{books, track};
 
 const HEADER: &str = include_str!("../../../include/ems.h");
 
@@ -131,4 +131,11 @@ fn the_tracker_s_limits_are_the_model_s() {
     assert_eq!(ems::MOST_MILLIVOLTS, track::MOST_MILLIVOLTS);
     assert_eq!(ems::MOST_MILLIAMPERES, track::MOST_MILLIAMPERES);
     assert_eq!(ems::LONGEST_STEP, track::LONGEST_STEP);
+}
+
+#[test]
+fn the_books_limits_are_the_model_s() {
+    assert_eq!(ems::BOOKS_NUMBERS, books::NUMBERS);
+    assert_eq!(ems::BOOKS_NUMBERS, 3 * Module::ALL.len());
+    assert_eq!(ems::MOST_SECONDS, books::MOST_SECONDS);
 }
