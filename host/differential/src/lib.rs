@@ -7,6 +7,8 @@
 #![forbid(unsafe_code)]
 #![deny(missing_docs)]
 
+pub mod bookkeeping;
+pub mod books;
 pub mod compare;
 pub mod crossings;
 pub mod frames;

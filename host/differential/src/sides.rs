@@ -13,6 +13,10 @@ pub struct Calls {
     pub pass: Pass,
     /// `ems_modules_on`, which counts and writes no bytes
     pub modules_on: Counted,
+    /// `ems_step_books`
+    pub step_books: StepBooks,
+    /// `ems_summary`
+    pub summary: Summary,
     /// `ems_beacon_basic`
     pub beacon_basic: Counted,
     /// `ems_beacon_complete`
@@ -33,6 +37,12 @@ pub type Counted = fn(&[u8], &mut [u8]) -> (u8, usize);
 /// A call that takes frames end to end, and says how many got a report.
 pub type Pass = fn(&mut [u8], &[u8], &mut [u8]) -> (u8, usize);
 
+/// A call that takes one frame, and writes seconds into the books.
+pub type StepBooks = fn(&mut [u8], &[u8], &mut [u8], &mut [u64]) -> u8;
+
+/// A call that makes shares of the books.
+pub type Summary = fn(&[u64], &mut [u16]) -> u8;
+
 /// A call that moves a panel's set point, by the readings before and after the last move.
 pub type Track = fn(Reading, Reading, &mut u32, &mut i32) -> u8;
 
@@ -42,6 +52,8 @@ pub const LIBRARY: Calls = Calls {
     step: ems::calls::step,
     pass: ems::calls::pass,
     modules_on: |image, _| ems::calls::modules_on(image),
+    step_books: ems::calls::step_books,
+    summary: ems::calls::summary,
     beacon_basic: ems::calls::beacon_basic,
     beacon_complete: ems::calls::beacon_complete,
     beacon_extended: ems::calls::beacon_extended,
@@ -62,6 +74,8 @@ pub const MODEL: Calls = Calls {
     step: model::calls::step,
     pass: model::calls::pass,
     modules_on: |image, _| model::calls::modules_on(image),
+    step_books: model::calls::step_books,
+    summary: model::calls::summary,
     beacon_basic: model::calls::beacon_basic,
     beacon_complete: model::calls::beacon_complete,
     beacon_extended: model::calls::beacon_extended,

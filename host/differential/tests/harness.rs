@@ -1,6 +1,6 @@
 //! The differential tests' own test: faults planted in one side are found, and
 //! come out short. `harness_masks.rs` has those of the masks, `harness_crossings.rs` those
-//! of crossings and of two craft.
+//! of crossings and of two craft, `harness_books.rs` those of the books.
 
 mod common;
 mod kept;

@@ -55,6 +55,10 @@ fn a_call_that_takes_other_masks_by_itself_is_found() {
                 ..MODEL
             },
             Calls {
+                step_books: wrong.step_books,
+                ..MODEL
+            },
+            Calls {
                 pass: wrong.pass,
                 ..MODEL
             },

@@ -17,6 +17,7 @@ use std::collections::BTreeSet;
 #[derive(Clone, Copy, PartialEq, Eq, PartialOrd, Ord, Debug)]
 enum Call {
     Step,
+    StepBooks,
     Pass,
     ModulesOn,
     Basic,
@@ -25,8 +26,9 @@ enum Call {
 }
 
 /// What each can answer to an image in range.
-const ANSWERS: [(Call, &[u8]); 6] = [
+const ANSWERS: [(Call, &[u8]); 7] = [
     (Call::Step, &[0, 2, 3, 4, 5, 6, 7, 8, 9, 10]),
+    (Call::StepBooks, &[0, 2, 3, 4, 5, 6, 7, 8, 9, 10]),
     (Call::Pass, &[0, 2, 4, 5, 6, 7]),
     (Call::ModulesOn, &[0]),
     (Call::Basic, &[0, 14]),
@@ -106,6 +108,13 @@ const NOTING: Calls = Calls {
         let own = |image: &mut [u8]| calls::step(image, frame, &mut room.to_vec());
         note(Call::Step, image, own);
         calls::step(image, frame, room)
+    },
+    step_books: |image, frame, room, books| {
+        let own = |image: &mut [u8]| {
+            calls::step_books(image, frame, &mut room.to_vec(), &mut books.to_vec())
+        };
+        note(Call::StepBooks, image, own);
+        calls::step_books(image, frame, room, books)
     },
     pass: |image, frames, room| {
         let own = |image: &mut [u8]| calls::pass(image, frames, &mut room.to_vec()).0;

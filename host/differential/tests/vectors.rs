@@ -1,13 +1,16 @@
 //! The streams and cases of `tests/vectors` through the compiled library: the log
 //! must be theirs, byte for byte, and so must all that a call leaves behind.
+//! `vectors_books.rs` has the cases of the books.
 
+mod board;
 mod crossings;
 mod masks;
 mod wrong;
 
-use cases::{modules_on, pass, track, Board, Case};
+use board::board_of;
+use cases::{modules_on, pass, track, Case};
 use differential::sides::{Calls, Track, LIBRARY, MODEL};
-use ems::{answer, Craft, IMAGE_BYTES, REPORT_BYTES};
+use ems::{answer, Craft, REPORT_BYTES};
 use model::track::Reading;
 use std::fs;
 use std::path::{Path, PathBuf};
@@ -135,15 +138,6 @@ fn the_former_rule_gives_another_log_of_three_streams() {
     assert_eq!(names.len(), wanted.len(), "{names:?}");
     for (name, wanted) in names.iter().zip(wanted) {
         assert!(name.ends_with(&format!("/{wanted}.bin")), "{name}");
-    }
-}
-
-/// What leads a side to the image that a case starts from.
-fn board_of(side: Calls) -> Board {
-    Board {
-        image_bytes: IMAGE_BYTES,
-        fresh: side.fresh,
-        step: side.step,
     }
 }
 

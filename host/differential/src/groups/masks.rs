@@ -6,6 +6,8 @@
 
 use super::passes::pass;
 use super::{call, step, Verdict, MODES, ROOM};
+use crate::bookkeeping::enter;
+use crate::books;
 use crate::compare::hex;
 use crate::frames::{Maker, Stream};
 use crate::images;
@@ -35,13 +37,13 @@ pub fn every_mask(sides: &[Calls; 2], rng: &mut Rng) -> Verdict {
 }
 
 /// What each of the eight modules can be, each with each.
-fn all_sorts() -> impl Iterator<Item = [Sort; 8]> {
+pub(super) fn all_sorts() -> impl Iterator<Item = [Sort; 8]> {
     let sort = |all: usize, place: u32| SORTS[all / 3_usize.pow(place) % 3];
     (0..3_usize.pow(8)).map(move |all| std::array::from_fn(|place| sort(all, place as u32)))
 }
 
 /// Sets all modules of an image, and their masks.
-fn set_modules(rng: &mut Rng, image: &mut [u8], sorts: [Sort; 8], requested: u8) {
+pub(super) fn set_modules(rng: &mut Rng, image: &mut [u8], sorts: [Sort; 8], requested: u8) {
     for (place, sort) in sorts.into_iter().enumerate() {
         let number = masks::number_of(rng, sort, requested >> place & 1 == 1);
         images::set_module(image, place, number);
@@ -115,12 +117,14 @@ pub fn changed_modules(sides: &[Calls; 2], rng: &mut Rng) -> Verdict {
 /// they don't, all are, whatever else there is to refuse, and none are on.
 fn every_call(sides: &[Calls; 2], rng: &mut Rng, last: Last, image: &[u8], agree: bool) -> Verdict {
     let stepped = step(sides, image, shot(rng, last))?;
+    let entered = enter(sides, image, shot(rng, last), &books::good(rng))?;
     let passed = pass(sides, image, passes::any(rng, last))?;
     let basic = call(sides, |calls| calls.beacon_basic, image, rng.below(20))?;
     let complete = call(sides, |calls| calls.beacon_complete, image, rng.below(20))?;
     let extended = call(sides, |calls| calls.beacon_extended, image, rng.below(37))?;
     let beacons = [basic.answer, complete.answer, extended.answer];
-    let answers = [&[stepped.answer, passed.answer][..], &beacons].concat();
+    let frames = [stepped.answer, entered.answer(), passed.answer];
+    let answers = [frames, beacons].concat();
     if answers.iter().any(|answer| (*answer != 1) != agree) {
         return Err(format!("input:   {}\nanswers {answers:?}", hex(image)));
     }
@@ -130,12 +134,12 @@ fn every_call(sides: &[Calls; 2], rng: &mut Rng, last: Last, image: &[u8], agree
         false => (1, 0),
     };
     count(sides, image, wanted)?;
-    Ok(6)
+    Ok(7)
 }
 
 /// A frame of any kind by the table, with room for its report; or one that is refused by
 /// itself, with 2 to 7.
-fn shot(rng: &mut Rng, last: Last) -> Shot {
+pub(super) fn shot(rng: &mut Rng, last: Last) -> Shot {
     let kind = rng.one(&KINDS);
     let frame = Stream::new(Maker::Structured)
         .after(last)

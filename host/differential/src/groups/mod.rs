@@ -1,12 +1,15 @@
 //! The groups of cases, each with how many calls it makes on the library.
 
+mod books;
 mod crossings;
 mod flights;
+mod flights_in_books;
 mod greetings;
 mod images;
 mod keying_room;
 mod masks;
 mod passes;
+mod summaries;
 mod texts;
 mod timed;
 mod tracks;
@@ -40,7 +43,7 @@ pub type Verdict = Result<u64, String>;
 pub type Group = (&'static str, fn(&[Calls; 2], &mut Rng) -> Verdict);
 
 /// All groups.
-pub const GROUPS: [Group; 43] = [
+pub const GROUPS: [Group; 51] = [
     ("fresh start, every length", images::fresh_starts),
     ("flights by the table", |sides, rng| {
         flights::of(sides, rng, Maker::Structured, 4_000_000)
@@ -98,6 +101,14 @@ pub const GROUPS: [Group; 43] = [
         crossings::core_ordered_between,
     ),
     ("two craft", two_craft::two_craft),
+    ("books of every length", books::lengths),
+    ("numbers of the books about their limit", books::limits),
+    ("every on, off and failed in the books", books::every_sort),
+    ("flights in the books", flights_in_books::from_zeros),
+    ("books that fill up", flights_in_books::filling_up),
+    ("summaries of every length", summaries::lengths),
+    ("shares about every thousandth", summaries::thousandths),
+    ("shares of any numbers", summaries::any),
     ("every text of up to 2 bytes", texts::short_texts),
     ("every byte in every place of a text", texts::every_place),
     ("every sign of up to 7 marks", texts::every_sign),

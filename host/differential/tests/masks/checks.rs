@@ -20,6 +20,12 @@ macro_rules! takes {
                     write(image, own, matches!(answer, 0 | 8..=10));
                     answer
                 },
+                step_books: |image, frame, room, books| {
+                    let mut own = mended(image, $agree);
+                    let answer = calls::step_books(&mut own, frame, room, books);
+                    write(image, own, matches!(answer, 0 | 8..=10));
+                    answer
+                },
                 pass: |image, frames, room| {
                     let mut own = mended(image, $agree);
                     let (answer, reported) = calls::pass(&mut own, frames, room);

@@ -1,6 +1,9 @@
 //! One call made on both sides, and all that it leaves behind compared: the
 //! answer, the count, and every byte of the buffers, also those past the
-//! lengths that the call was given, or beside its numbers.
+//! lengths that the call was given, or beside its numbers. [`books`] has the calls that
+//! are lent books.
+
+pub mod books;
 
 use crate::shrink::Move;
 use crate::sides::{Calls, Counted};
@@ -56,6 +59,18 @@ pub struct Stepped {
 }
 
 impl Stepped {
+    /// Before a step: an image, and a room that nobody has written to.
+    fn before(image: &[u8]) -> Stepped {
+        let mut before = Stepped {
+            answer: 0,
+            image: BEYOND_IMAGE,
+            image_len: image.len(),
+            room: ROOM,
+        };
+        before.image[..image.len()].copy_from_slice(image);
+        before
+    }
+
     /// The image after the step.
     pub fn image(&self) -> &[u8] {
         &self.image[..self.image_len]
@@ -91,14 +106,8 @@ fn told_image(image: &[u8; LONGEST], length: usize) -> String {
 
 /// Makes a step on one side.
 fn stepped(calls: &Calls, image: &[u8], frame: &[u8], room: usize) -> Stepped {
-    let mut after = Stepped {
-        answer: 0,
-        image: BEYOND_IMAGE,
-        image_len: image.len(),
-        room: ROOM,
-    };
+    let mut after = Stepped::before(image);
     let own = &mut after.image[..image.len()];
-    own.copy_from_slice(image);
     after.answer = (calls.step)(own, frame, &mut after.room[..room]);
     after
 }
