@@ -33,16 +33,7 @@ fn set_points(picture: &Picture) -> Vec<&Drawn> {
 /// Everything is within the frame, and no two texts cover each other.
 fn is_clear(name: &str, picture: &Picture) {
     picture.is_framed(name, EDGE);
-    let texts: Vec<&Drawn> = picture.texts().collect();
-    for (at, one) in texts.iter().enumerate() {
-        for other in &texts[..at] {
-            let apart = one.left >= other.right
-                || other.left >= one.right
-                || one.top >= other.bottom
-                || other.top >= one.bottom;
-            assert!(apart, "{name}: {:?} on {:?}", one.text, other.text);
-        }
-    }
+    picture.has_clear_texts(name);
 }
 
 #[test]

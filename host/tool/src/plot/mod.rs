@@ -4,6 +4,7 @@
 mod axis;
 mod beacons;
 mod dense;
+mod edges;
 mod ends;
 mod events;
 mod layout;

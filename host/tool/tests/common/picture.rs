@@ -112,6 +112,20 @@ impl Picture {
         }
     }
 
+    /// Asserts that no two texts cover each other.
+    pub fn has_clear_texts(&self, name: &str) {
+        let texts: Vec<&Drawn> = self.texts().collect();
+        for (at, one) in texts.iter().enumerate() {
+            for other in &texts[..at] {
+                let apart = one.left >= other.right
+                    || other.left >= one.right
+                    || one.top >= other.bottom
+                    || other.top >= one.bottom;
+                assert!(apart, "{name}: {:?} on {:?}", one.text, other.text);
+            }
+        }
+    }
+
     /// Where the panels begin: under the legend.
     pub fn panels(&self) -> f64 {
         let mode = self.texts().find(|one| one.text == "mode");

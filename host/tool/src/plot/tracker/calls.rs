@@ -1,11 +1,11 @@
 //! The set point from call to call.
 
-use super::{edges, Tracked};
+use super::Tracked;
 use crate::plot::dense::{band, COLUMNS};
 use crate::plot::marks::mark;
 use crate::plot::scale::Scale;
 use crate::plot::svg::{polyline, Svg};
-use crate::plot::{LEFT, RIGHT};
+use crate::plot::{edges, LEFT, RIGHT};
 use crate::track::Stay;
 use crate::words::thousands;
 

@@ -2,7 +2,6 @@
 //! the set point from call to call.
 
 mod calls;
-mod edges;
 mod panel;
 mod signs;
 

@@ -1,11 +1,11 @@
 //! The panel's power over the voltage, its current behind that, and the set points that
 //! the walk came to.
 
-use super::{edges, Tracked};
+use super::Tracked;
 use crate::plot::layout::groups;
 use crate::plot::scale::Scale;
 use crate::plot::svg::{polyline, Svg};
-use crate::plot::{LEFT, RIGHT};
+use crate::plot::{edges, LEFT, RIGHT};
 use crate::track::{millivolts, milliwatts, Point};
 use crate::words::{count, thousands};
 use ems::MOST_MILLIVOLTS;
