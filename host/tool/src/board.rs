@@ -120,8 +120,20 @@ impl Board {
 
     /// Gives the board one frame.
     pub fn step(&mut self, frame: &[u8]) -> Step {
-        let before = self.image;
         let outcome = self.craft.report_on(frame);
+        self.stepped(frame, outcome)
+    }
+
+    /// The same with books, in which the board writes the modules' seconds.
+    pub fn step_books(&mut self, frame: &[u8], books: &mut [u64]) -> Step {
+        let mut room = [0; REPORT_BYTES];
+        let answer = self.craft.step_books(frame, &mut room, books);
+        self.stepped(frame, Report::read(&room).ok_or(answer))
+    }
+
+    /// Takes down what came of a frame.
+    fn stepped(&mut self, frame: &[u8], outcome: Result<Report, u8>) -> Step {
+        let before = self.image;
         self.image = Image::of(self.craft.image());
         self.frames += 1;
         self.seconds += u64::from(outcome.is_ok_and(|report| report.kind == TICK));

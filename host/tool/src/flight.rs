@@ -7,7 +7,7 @@ use crate::few::Few;
 use crate::refusal::reason;
 use crate::script::in_words;
 use crate::stream::{Sent, Stream};
-use crate::tables::loses_the_cut;
+use crate::tables::{loses_the_cut, may_be_passed_over};
 use crate::words::{count, thousands};
 
 /// A flight that is under way.
@@ -38,14 +38,31 @@ impl Flight {
         })
     }
 
+    /// The same with another board than the fresh start's.
+    pub fn with_board(self, board: Board) -> Flight {
+        Flight { board, ..self }
+    }
+
     /// Steps over the next frame; none where the flight has ended.
     pub fn step(&mut self) -> Result<Option<Step>, Failure> {
+        self.step_by(|board, frame| board.step(frame))
+    }
+
+    /// The same with books, in which the board writes the modules' seconds.
+    pub fn step_books(&mut self, books: &mut [u64]) -> Result<Option<Step>, Failure> {
+        self.step_by(|board, frame| board.step_books(frame, books))
+    }
+
+    fn step_by(
+        &mut self,
+        call: impl FnOnce(&mut Board, &[u8]) -> Step,
+    ) -> Result<Option<Step>, Failure> {
         if self.cut_off || !self.stream.advance()? {
             return Ok(None);
         }
-        let step = self.board.step(self.stream.frame());
+        let step = call(&mut self.board, self.stream.frame());
         if let Err(refusal) = step.outcome {
-            self.cut_off = !self.keep_going || loses_the_cut(refusal);
+            self.cut_off = !(self.keep_going && may_be_passed_over(refusal));
             let stream = &self.stream;
             let told = || refused(stream.name(), &stream.sent(step.n), refusal, stream.hint());
             self.refusals.add(told);

@@ -9,7 +9,7 @@ pub use frames::{
     greeted, kind_of, origin, origins, shorts, timed, Field, Kind, Written, BATTERY, GREETING,
     KINDS, ORDER, TICK, TIMED,
 };
-pub use names::{answer, beacon, loses_the_cut, meaning, mode};
+pub use names::{answer, beacon, loses_the_cut, may_be_passed_over, meaning, mode};
 
 /// The library is asked whether it sees the same.
 #[cfg(test)]

@@ -31,6 +31,11 @@ pub fn loses_the_cut(refusal: u8) -> bool {
     matches!(refusal, answer::UNKNOWN_KIND | answer::BAD_LENGTH)
 }
 
+/// Whether it is for what a frame says that it is refused: then the board takes the next.
+pub fn may_be_passed_over(refusal: u8) -> bool {
+    matches!(refusal, answer::BAD_FIELD | answer::NOT_PERMITTED)
+}
+
 /// An answer's name and what it says; nothing where there is no such answer.
 fn row(number: u8) -> (&'static str, &'static str) {
     match number {
@@ -72,6 +77,11 @@ fn row(number: u8) -> (&'static str, &'static str) {
             "out of range",
             "a reading, set point or step is out of range",
         ),
+        answer::BOOKS_FULL => (
+            "books full",
+            "a number of the books is above 10 to the 15th, or this tick would take it above",
+        ),
+        answer::NOT_BOOKS => ("not books", "the books are not 24 numbers"),
         answer::NO_MESSAGE => ("no message", "no greeting is kept"),
         _ => ("", ""),
     }
