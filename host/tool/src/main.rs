@@ -4,6 +4,7 @@
 
 mod args;
 mod board;
+mod books;
 mod closed;
 mod commands;
 mod compare;
@@ -60,6 +61,7 @@ fn run(command: &Command) -> Result<(), Failure> {
         Command::Uplink(uplink) => commands::uplink::run(uplink),
         Command::Show(show) => commands::show::run(show),
         Command::Plot(plot) => commands::plot::run(plot),
+        Command::Books(books) => commands::books::run(books),
         Command::Beacon(beacon) => commands::beacon::run(beacon),
         Command::Key(key) => commands::key::run(key),
         Command::Read(read) => commands::read::run(read),

@@ -46,6 +46,18 @@ fn help_says_what_is_shown_of_an_image_and_counted() {
 }
 
 #[test]
+fn help_says_what_the_books_are_of() {
+    run(&["books", "--help"])
+        .status(0)
+        .prints("They begin with zeros where the flight begins:\n")
+        .prints("what comes before it, by --image or --after, is not in them.")
+        .prints("in tenths of a percent, rounded down.")
+        .prints("ems_step_books and ems_summary;")
+        .prints("4 they don't (never seen:\nit is proved)")
+        .prints("\n  ems books examples/orbit.pass\n");
+}
+
+#[test]
 fn help_says_what_the_room_is_enough_for() {
     run(&["room", "--help"])
         .status(0)

@@ -13,7 +13,7 @@ Example:
 
 Exit status: 0 done; 1 wrong usage, or a file that can't be read or written, or is no
 image or curve; 2 a frame, a text, units or a call were refused; `compare` and `track`
-have 3 and 4 too.";
+have 3 and 4 too, and `books` has 4.";
 
 pub const LOG: &str = "\
 Ends at the first frame that is refused with 4 to 7, with status 2 and the reason on
@@ -64,6 +64,25 @@ In a browser, every mark and bar says what it is under the pointer.
 Examples:
   ems plot examples/orbit.pass -o flight.svg --title 'A day of fifteen orbits'
   ems plot examples/orbit.pass -o evening.svg --from 18:00:00 --to 20h";
+
+pub const BOOKS: &str = "\
+The board keeps the books: after each tick that is done it adds a second to what it then
+finds of each module, on, off or failed. They begin with zeros where the flight begins:
+what comes before it, by --image or --after, is not in them. The share on is of the
+three together, in tenths of a percent, rounded down. All of this is from the calls
+ems_step_books and ems_summary; this tool adds up each module's three, and compares them
+with the ticks that were done.
+
+Where a frame is refused, the books are of the flight up to there. In what comes before
+none may be; the flight of --after is a script or bytes by its name.
+
+Exit status: 0 every module's three add up to the ticks done; 4 they don't (never seen:
+it is proved); 2 a frame was refused.
+
+Examples:
+  ems books examples/orbit.pass
+  ems books examples/orbit.pass -o books.svg --title 'A day of fifteen orbits'
+  ems books examples/morning.pass --after examples/dawn.pass --keep-going";
 
 pub const BEACON: &str = "\
 The text that the last tick made due; if none is due then, the board is left alone

@@ -33,6 +33,9 @@ pub enum Command {
     /// Draws the flight as an SVG picture
     #[command(after_help = help::PLOT)]
     Plot(Plot),
+    /// Each module's seconds on, off and failed, and its share on
+    #[command(after_help = help::BOOKS)]
+    Books(Books),
     /// The beacon's text that falls due at or after the flight's end
     #[command(after_help = help::BEACON)]
     Beacon(Beacon),
@@ -106,6 +109,17 @@ pub struct KeepGoing {
     pub keep_going: bool,
 }
 
+/// For the commands that may begin elsewhere than at the fresh start.
+#[derive(Args, Debug)]
+pub struct Begin {
+    /// The board begins with this image, instead of the fresh start's
+    #[arg(long, value_name = "FILE", conflicts_with = "after")]
+    pub image: Option<PathBuf>,
+    /// The board begins as it is after this flight
+    #[arg(long, value_name = "FLIGHT")]
+    pub after: Option<PathBuf>,
+}
+
 #[derive(Args, Debug)]
 pub struct Frames {
     /// The pass script
@@ -122,12 +136,8 @@ pub struct Uplink {
     /// The bytes of room that the reports have [default: enough for every frame's]
     #[arg(long, value_name = "BYTES")]
     pub room: Option<usize>,
-    /// The board begins with this image, instead of the fresh start's
-    #[arg(long, value_name = "FILE", conflicts_with = "after")]
-    pub image: Option<PathBuf>,
-    /// The board begins as it is after this flight
-    #[arg(long, value_name = "FLIGHT")]
-    pub after: Option<PathBuf>,
+    #[command(flatten)]
+    pub begin: Begin,
     /// Where the image goes that the board ends with
     #[arg(short, long, value_name = "FILE")]
     pub output: Option<PathBuf>,
@@ -155,6 +165,25 @@ pub struct Plot {
     /// Where the picture ends [default: with the flight]
     #[arg(long, value_name = "TIME", value_parser = time)]
     pub to: Option<u64>,
+    #[command(flatten)]
+    pub going: KeepGoing,
+}
+
+#[derive(Args, Debug)]
+pub struct Books {
+    #[command(flatten)]
+    pub flight: Flight,
+    #[command(flatten)]
+    pub begin: Begin,
+    /// Where the picture goes; `-` is standard output, and then nothing else goes there
+    #[arg(short, long, value_name = "FILE")]
+    pub output: Option<PathBuf>,
+    /// The picture's title [default: the flight's file name]
+    #[arg(long, value_name = "TEXT", requires = "output")]
+    pub title: Option<String>,
+    /// A row of CSV for each module, instead of words
+    #[arg(long)]
+    pub table: bool,
     #[command(flatten)]
     pub going: KeepGoing,
 }

@@ -1,6 +1,8 @@
 //! The commands, a file each.
 
 pub mod beacon;
+mod begin;
+pub mod books;
 pub mod compare;
 pub mod explain;
 pub mod frames;

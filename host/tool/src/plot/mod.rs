@@ -1,8 +1,9 @@
-//! A flight as a picture, and a walk on a panel's curve. Both are black and white: what
-//! differs, differs in shape, pattern or place.
+//! A flight as a picture, its books, and a walk on a panel's curve. All are black and
+//! white: what differs, differs in shape, pattern or place.
 
 mod axis;
 mod beacons;
+pub mod books;
 mod dense;
 mod edges;
 mod ends;

@@ -13,9 +13,9 @@ use std::{env, fs};
 use tempfile::TempDir;
 
 /// What the tool can be asked to do.
-pub const COMMANDS: [&str; 12] = [
-    "log", "frames", "uplink", "show", "plot", "beacon", "key", "read", "room", "compare", "image",
-    "track",
+pub const COMMANDS: [&str; 13] = [
+    "log", "frames", "uplink", "show", "plot", "books", "beacon", "key", "read", "room", "compare",
+    "image", "track",
 ];
 
 /// Longer than anything takes that is tested.
