@@ -13,10 +13,18 @@ static ucontext_t here, there;
 
 static uint8_t image[EMS_IMAGE_BYTES], report[EMS_REPORT_BYTES];
 static uint8_t text[EMS_TEXT_BYTES], units[EMS_UNITS_BYTES];
+static uint64_t books[EMS_BOOKS_NUMBERS];
+static uint16_t shares[EMS_MODULES];
 static size_t count;
+static int with_books;
 
 static void frame(const char *bytes, size_t length) {
-    ems_step(image, sizeof image, (const uint8_t *)bytes, length, report, sizeof report);
+    const uint8_t *frame = (const uint8_t *)bytes;
+    if (with_books)
+        ems_step_books(image, sizeof image, frame, length, report, sizeof report, books,
+                       EMS_BOOKS_NUMBERS);
+    else
+        ems_step(image, sizeof image, frame, length, report, sizeof report);
 }
 
 /* A board from its start to SAFE, with orders, an end that comes, a greeting, shorts,
@@ -40,6 +48,16 @@ static void step(void) {
         frame("\1\0", 2);
 }
 
+/* The same with books, which are full at last. */
+static void step_books(void) {
+    memset(books, 0, sizeof books);
+    with_books = 1;
+    step();
+    books[0] = EMS_MOST_SECONDS;
+    frame("\1\0", 2);
+    with_books = 0;
+}
+
 /* The same kinds of frames in one call, up to one that is refused. */
 static void pass(void) {
     static const uint8_t frames[] = "\1\0\1\xFF\2\x1E\x78\3\1\4\1\0\5\4\1\4\1\0\5\4\1"
@@ -52,6 +70,7 @@ static void pass(void) {
 static void nothing(void) {}
 static void fresh(void) { ems_fresh(image, sizeof image); }
 static void modules_on(void) { ems_modules_on(image, sizeof image, &count); }
+static void summary(void) { ems_summary(books, EMS_BOOKS_NUMBERS, shares, EMS_MODULES); }
 static void basic(void) { ems_beacon_basic(image, sizeof image, text, sizeof text, &count); }
 static void complete(void) { ems_beacon_complete(image, sizeof image, text, sizeof text, &count); }
 static void extended(void) { ems_beacon_extended(image, sizeof image, text, sizeof text, &count); }
@@ -103,6 +122,8 @@ int main(void) {
     measure("ems_step", step);
     measure("ems_pass", pass);
     measure("ems_modules_on", modules_on);
+    measure("ems_step_books", step_books);
+    measure("ems_summary", summary);
     measure("ems_beacon_basic", basic);
     measure("ems_beacon_complete", complete);
     measure("ems_beacon_extended", extended);
