@@ -207,6 +207,9 @@ fn a_refused_frame_ends_the_books_as_it_ends_a_flight() {
     }
     let ran = ran.prints(&ticks(12));
     assert_eq!(ran.text().lines().count(), 11);
+    // There is a picture of it as well.
+    let drawn = kept(script, &["-o", "-"]).status(2).says(range);
+    assert!(Picture::read(drawn.text()).says("3 ticks done"));
     let file = scratch("notes.txt", "tick 3\n");
     run(&["books", &file])
         .status(2)
