@@ -14,8 +14,8 @@ use model::books::NUMBERS;
 use model::image;
 use model::table::TICK;
 
-/// None to 30 numbers, one of them about its limit; frames of all sorts, with room for
-/// their report and without; images in range, and damaged ones.
+/// None to 30 numbers, one of them about its limit, or all; frames of all sorts, with room
+/// for their report and without; images in range, and damaged ones.
 pub fn lengths(sides: &[Calls; 2], rng: &mut Rng) -> Verdict {
     let mut made = 0;
     while made < 300_000 {
@@ -27,8 +27,9 @@ pub fn lengths(sides: &[Calls; 2], rng: &mut Rng) -> Verdict {
                     _ => image::save(&state).to_vec(),
                 };
                 let mut books = books::of_length(rng, lent);
-                if let Some(own) = books.get_mut(rng.below(lent.max(1))) {
-                    *own = number;
+                match books.get_mut(rng.below(lent.max(1))) {
+                    Some(own) if !rng.once_in(8) => *own = number,
+                    _ => books.fill(number),
                 }
                 enter(sides, &image, shot(rng, state.last), &books)?;
                 made += 1;

@@ -7,7 +7,7 @@ use crate::books::{self, ABOUT};
 use crate::compare::books::{MOST_LENT, MOST_SHARES};
 use crate::rng::Rng;
 use crate::sides::Calls;
-use model::books::{MOST_SECONDS, NUMBERS};
+use model::books::MOST_SECONDS;
 
 /// The shares that a summary has room for just so.
 const SHARES: usize = 8;
@@ -64,7 +64,8 @@ const EDGES: [u64; 12] = [
     MOST_SECONDS,
 ];
 
-/// Every three of the edges, for every module, beside any numbers; and any numbers alone.
+/// Every three of the edges, for every module, beside any numbers; for all modules at once;
+/// and any numbers alone.
 pub fn any(sides: &[Calls; 2], rng: &mut Rng) -> Verdict {
     let mut made = 0;
     while made < 400_000 {
@@ -77,8 +78,9 @@ pub fn any(sides: &[Calls; 2], rng: &mut Rng) -> Verdict {
                         sum(sides, &books, SHARES)?;
                         made += 1;
                     }
-                    sum(sides, &books::of_length(rng, NUMBERS), SHARES)?;
-                    made += 1;
+                    sum(sides, [[on, off, failed]; SHARES].as_flattened(), SHARES)?;
+                    sum(sides, &books::good(rng), SHARES)?;
+                    made += 2;
                 }
             }
         }
