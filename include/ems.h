@@ -15,7 +15,8 @@
  *
  * What every call that takes an image catches: one bit turned in a mask, or in a
  * module so that it is no longer requested, on or failed as it was. Masks and
- * modules then disagree, and the answer is EMS_BAD_STATE.
+ * modules then disagree, and the answer is EMS_BAD_STATE, before all others but
+ * EMS_NOT_BOOKS.
  *
  * What no call catches: an image whose write was interrupted halfway and that
  * happens to be a state in range; a bit flip elsewhere that stays within the ranges
