@@ -46,7 +46,7 @@ impl History {
 
 /// Flights from zeros: after every frame each number is the count of the ticks so far that
 /// the reports tell of.
-pub fn from_zeros(sides: &[Calls; 2], rng: &mut Rng) -> Verdict {
+pub fn flights(sides: &[Calls; 2], rng: &mut Rng) -> Verdict {
     let mut made = 0;
     while made < 500_000 {
         let (mut image, shots) = books::flight(rng);
@@ -79,7 +79,7 @@ pub fn from_zeros(sides: &[Calls; 2], rng: &mut Rng) -> Verdict {
 /// Flights in books that fill up, or have a number damaged now and then. At 17 they are put
 /// away, others are begun, and the same frame is sent again: nothing is lost, neither of the
 /// flight nor of the seconds.
-pub fn filling_up(sides: &[Calls; 2], rng: &mut Rng) -> Verdict {
+pub fn full(sides: &[Calls; 2], rng: &mut Rng) -> Verdict {
     let mut made = 0;
     while made < 150_000 {
         let (mut image, shots) = books::flight(rng);
