@@ -2,13 +2,17 @@
 -- Assumes nothing.
 use Prim.Native.Nat.{ℕ, _<_}
 use mathlib.Core.Path.{_≡_, refl, sym, ap, _∙_}
-use mathlib.Core.Bool.{Bool, true, false, not}
+use mathlib.Core.Bool.{Bool, true, false, not, _&&_}
 use mathlib.Core.List.{List}
 use native.Mathlib.Omega.{arith}
-use lib.Dec.{T}
+use lib.Dec.{T, eqb, ltb}
 use lib.IntN.{ℤ}
+use lib.ListN.{length}
+use borrow.Author.Tests.{eq-eqb}
 use Rattle.basics.specs.Outcome.{Outcome, outcome, Reply, reply}
 use Rattle.basics.proofs.ChoiceLaws.{is-true, holds}
+use Rattle.modules.specs.Groups.{moduleCount}
+use Rattle.morse.specs.Answers.{noRoom}
 use Rattle.hearing.specs.Reading.{Read, readReply}
 use Rattle.hearing.specs.declared.reading.Heard.{Heard}
 use Rattle.frames.specs.Answer.{answerNumber, isReported}
@@ -26,6 +30,14 @@ use Rattle.pass.specs.declared.Passed.{Passed}
 use Rattle.pass.proofs.PassLaws.{pass-outside, pass-keeps-range}
 use Rattle.pass.proofs.Flight.{pass-idle}
 use Rattle.counting.specs.Counting.{modulesOnOf}
+use Rattle.books.specs.Books.{bookNumbers}
+use Rattle.books.specs.Answer.{bookNumber, isBookReported}
+use Rattle.books.specs.Step.{WithBooks, withBooks, stepBooksOf}
+use Rattle.books.specs.Summary.{summaryOf, putInto}
+use Rattle.books.specs.History.{Board, calledWith, boardAfter}
+use Rattle.books.specs.declared.answer.BookAnswer.the-variants.{NotBooks}
+use Rattle.books.specs.declared.step.Booked.{Booked}
+use Rattle.books.proofs.WaysLaws.{booked-valid, booked-in-range, booked-left, booked-outside}
 use Rattle.beacon.specs.Writing.{beaconOf}
 use Rattle.beacon.specs.declared.text.Form.{Form}
 use Rattle.beacon.specs.declared.writing.Written.the-variants.{BadState}
@@ -35,6 +47,7 @@ use Rattle.tracker.specs.declared.Tracked.{Tracked}
 use Rattle.flight.specs.Saving.{saved}
 use Rattle.flight.specs.Loading.{hasLayout, decoded, loaded}
 use Rattle.flight.specs.Calls.{imaged, badState, steppedTo, stepImage, passedTo, passImage, modulesOnReply, modulesOnImage, beaconImage}
+use Rattle.flight.specs.Calls.{bookedTo, stepBooksImage, summaryReply}
 use Rattle.flight.specs.Calls.{replied, ReadReplied}
 use Rattle.flight.specs.Calls.{tracks, trackedTo}
 use Rattle.flight.proofs.FieldsLaws.{AllBytes}
@@ -53,6 +66,25 @@ count-worked image own s says = by-range (inRange s) refl
     by-range true e = simp (own, sym says, e)
     by-range false e = simp (own, sym says, e)
 
+-- too few numbers, or too many, are refused before the image is looked at
+pub books-none :
+    (image frame room books : List ℕ) → eqb (length books) bookNumbers ≡ false →
+    outcome (withBooks (imaged (bookNumber NotBooks) image) books) room ≡ stepBooksImage image frame room books
+unfolding stepBooksImage
+books-none image frame room books e = simp e
+
+-- a summary with no place for the shares, and any other
+pub summed-short :
+    (books room : List ℕ) → (eqb (bookNumber (summaryOf books .answer)) 0 && ltb (length room) moduleCount) ≡ true → outcome noRoom room ≡ summaryReply books room
+unfolding summaryReply
+summed-short books room e = simp e
+
+pub summed-put :
+    (books room room′ : List ℕ) (n : ℕ) → (eqb (bookNumber (summaryOf books .answer)) 0 && ltb (length room) moduleCount) ≡ false →
+    n ≡ bookNumber (summaryOf books .answer) → room′ ≡ putInto (summaryOf books .shares) room → outcome n room′ ≡ summaryReply books room
+unfolding summaryReply
+summed-put books room room′ n e number puts = simp (e, number, puts)
+
 -- bytes of another layout
 module _ (image room : List ℕ) (other : hasLayout image ≡ false) where
   pub step-foreign : (frame : List ℕ) → outcome (imaged badState image) room ≡ stepImage image frame room
@@ -62,6 +94,11 @@ module _ (image room : List ℕ) (other : hasLayout image ≡ false) where
   pub pass-foreign : (frames : List ℕ) → outcome (imaged (reply badState 0) image) room ≡ passImage image frames room
   unfolding passImage loaded
   pass-foreign frames = simp other
+
+  pub books-foreign :
+      (frame books : List ℕ) → length books ≡ bookNumbers → outcome (withBooks (imaged badState image) books) room ≡ stepBooksImage image frame room books
+  unfolding stepBooksImage loaded
+  books-foreign frame books size = simp (other, eq-eqb (length books) bookNumbers size)
 
   pub beacon-foreign : (form : Form) → outcome BadState room ≡ beaconImage form image room
   unfolding beaconImage loaded
@@ -112,6 +149,52 @@ module _ (image room : List ℕ) (own : hasLayout image ≡ true) (s : State) (s
             ap (λ l. outcome (imaged (answerNumber (after .answer)) l) room′) (sym kept) ∙ ap steppedTo steps ∙ simp (own, sym says, e)
         by-range false e =
             ap (λ o. outcome (imaged (answerNumber (o .result .answer)) image) (o .room)) (steps ∙ step-outside s frame room e) ∙ simp (own, sym says, e)
+
+  module _ (frame books : List ℕ) (size : length books ≡ bookNumbers) (after : Booked) (room′ books′ : List ℕ)
+      (steps : outcome (withBooks after books′) room′ ≡ stepBooksOf s frame room books) where
+    abbrev board : Board
+    board = record { state = s; books = books }
+
+    abbrev frame-call : Call
+    frame-call = record { input = frame; room = room }
+
+    sized : eqb (length books) bookNumbers ≡ true
+    sized = eq-eqb (length books) bookNumbers size
+
+    books-answer : isBookReported (calledWith board frame-call .result .result .answer) ≡ isBookReported (after .answer)
+    books-answer = ap (λ o. isBookReported (o .result .result .answer)) (sym steps)
+
+    -- with a report, the state is in range before and after, and the image becomes the next state's
+    module _ (reported : isBookReported (after .answer) ≡ true) where
+      books-valid : T (inRange s)
+      books-valid = booked-valid board frame-call (books-answer ∙ reported)
+
+      pub books-in-range : inRange (after .state) ≡ true
+      books-in-range =
+          ap (λ o. inRange (o .result .result .state)) steps
+          ∙ is-true (inRange (boardAfter board frame-call .state)) (booked-in-range board frame-call books-valid)
+
+      pub books-reported :
+          outcome (withBooks (imaged (bookNumber (after .answer)) (saved (after .state))) books′) room′ ≡ stepBooksImage image frame room books
+      unfolding stepBooksImage loaded
+      books-reported = ap bookedTo steps ∙ simp (sized, own, sym says, is-true (inRange s) books-valid)
+
+    -- with none, the image stays
+    pub books-refused :
+        AllBytes image → isBookReported (after .answer) ≡ false →
+        outcome (withBooks (imaged (bookNumber (after .answer)) image) books′) room′ ≡ stepBooksImage image frame room books
+    unfolding stepBooksImage loaded
+    books-refused small refusal = by-range (inRange s) refl
+      where
+        by-range : (t : Bool) → inRange s ≡ t → outcome (withBooks (imaged (bookNumber (after .answer)) image) books′) room′ ≡ stepBooksImage image frame room books
+        by-range true e =
+            let same : after .state ≡ s = ap (λ (o : Outcome (WithBooks Booked)). o .result .result .state) steps ∙ booked-left board frame-call (books-answer ∙ refusal) in
+            let kept : saved (after .state) ≡ image = ap saved (same ∙ says) ∙ saved-decoded image small (layout image own) in
+            ap (λ l. outcome (withBooks (imaged (bookNumber (after .answer)) l) books′) room′) (sym kept) ∙ ap bookedTo steps ∙ simp (sized, own, sym says, e)
+        by-range false e =
+            ap (λ (o : Outcome (WithBooks Booked)). outcome (withBooks (imaged (bookNumber (o .result .result .answer)) image) (o .result .books)) (o .room))
+            (steps ∙ booked-outside board frame-call size e)
+            ∙ simp (sized, own, sym says, e)
 
   module _ (frames : List ℕ) (after : Passed) (room′ : List ℕ) (flies : outcome after room′ ≡ passOf s frames room) where
     counts : after .reported ≡ passOf s frames room .result .reported

@@ -20,6 +20,10 @@ use Rattle.flight.proofs.calls.ems_beacon_extended as ems-beacon-extend
 use Rattle.flight.proofs.calls.ems_beacon_extended.Reads as ems-beacon-extended-reads
 use Rattle.flight.proofs.calls.ems_modules_on as ems-modules-on
 use Rattle.flight.proofs.calls.ems_modules_on.Reads as ems-modules-on-reads
+use Rattle.flight.proofs.calls.ems_step_books as ems-step-books
+use Rattle.flight.proofs.calls.ems_step_books.Reads as ems-step-books-reads
+use Rattle.flight.proofs.calls.ems_summary as ems-summary
+use Rattle.flight.proofs.calls.ems_summary.Reads as ems-summary-reads
 use Rattle.flight.proofs.calls.ems_key as ems-key
 use Rattle.flight.proofs.calls.ems_key.Reads as ems-key-reads
 use Rattle.flight.proofs.calls.ems_read as ems-read
@@ -70,6 +74,19 @@ ems-beacon-extended-one =
 pub ems-modules-on-one : OneOutcome ems-modules-on.ended ems-modules-on-reads.Asked ems-modules-on-reads.Learnt
 ems-modules-on-one =
     record { taken = λ κs a. tt; one = λ κs a x y p q i. ((p ∙ sym q) i .number, (tt, ((p ∙ sym q) i .count, tt))) }
+
+pub ems-step-books-one : OneOutcome ems-step-books.ended ems-step-books-reads.Asked ems-step-books-reads.Learnt
+ems-step-books-one =
+    record {
+      taken = λ κs a. tt;
+      one = λ κs a x y p q i.
+          let both = (p ∙ sym q) i in
+          (both .result .result .answer, (both .result .result .image, (tt, (both .room, (both .result .books, tt)))));
+    }
+
+pub ems-summary-one : OneOutcome ems-summary.ended ems-summary-reads.Asked ems-summary-reads.Learnt
+ems-summary-one =
+    record { taken = λ κs a. tt; one = λ κs a x y p q i. ((p ∙ sym q) i .result, (tt, ((p ∙ sym q) i .room, tt))) }
 
 pub ems-key-one : OneOutcome ems-key.ended ems-key-reads.Asked ems-key-reads.Learnt
 ems-key-one =

@@ -2,13 +2,16 @@
 -- Assumes nothing.
 use Prim.Native.Nat.{ℕ}
 use mathlib.Core.Path.{_≡_}
+use mathlib.Core.Bool.{_&&_}
 use mathlib.Core.List.{List}
 use mathlib.Core.Option.{Option, none, some}
-use lib.Dec.{eqb}
+use lib.Dec.{eqb, ltb}
 use lib.IntN.{ℤ}
 use lib.ListN.{length}
 use Rattle.basics.specs.Choice.{if_then_else_}
 use Rattle.basics.specs.Outcome.{Outcome, outcome, Reply, reply}
+use Rattle.modules.specs.Groups.{moduleCount}
+use Rattle.morse.specs.Answers.{noRoom}
 use Rattle.hearing.specs.Reading.{Read, readReply}
 use Rattle.hearing.specs.declared.reading.Heard.{Heard}
 use Rattle.frames.specs.Answer.{answerNumber}
@@ -21,6 +24,12 @@ use Rattle.pass.specs.Pass.{passOf}
 use Rattle.pass.specs.declared.Passed.{Passed}
 use Rattle.counting.specs.Counting.{modulesOnOf}
 use Rattle.counting.specs.declared.ModulesOn.{ModulesOn}
+use Rattle.books.specs.Books.{bookNumbers}
+use Rattle.books.specs.Answer.{bookNumber}
+use Rattle.books.specs.Step.{WithBooks, withBooks, stepBooksOf}
+use Rattle.books.specs.Summary.{summaryOf, putInto}
+use Rattle.books.specs.declared.answer.BookAnswer.the-variants.{NotBooks}
+use Rattle.books.specs.declared.step.Booked.{Booked}
 use Rattle.beacon.specs.Writing.{beaconOf}
 use Rattle.beacon.specs.declared.text.Form.{Form}
 use Rattle.beacon.specs.declared.writing.Written.{Written}
@@ -89,6 +98,32 @@ modulesOnLoaded (some s) = modulesOnReply (modulesOnOf s)
 -- how many are on in an image
 unfoldable pub modulesOnImage : (image : List ℕ) → Reply
 modulesOnImage image = modulesOnLoaded (loaded image)
+
+-- what a step with books leaves, as bytes
+abbrev pub bookedTo : Outcome (WithBooks Booked) → Outcome (WithBooks (Imaged ℕ))
+bookedTo after =
+    let booked = after .result .result in
+    outcome (withBooks (imaged (bookNumber (booked .answer)) (saved (booked .state))) (after .result .books)) (after .room)
+
+-- a step with books of what was loaded; where that is nothing, image, room and books stay
+abbrev pub stepBooksLoaded : Option State → (image frame room books : List ℕ) → Outcome (WithBooks (Imaged ℕ))
+stepBooksLoaded none image frame room books = outcome (withBooks (imaged badState image) books) room
+stepBooksLoaded (some s) image frame room books = bookedTo (stepBooksOf s frame room books)
+
+-- a step with books of an image: 18 goes before all, unless 24 numbers are lent
+unfoldable pub stepBooksImage : (image frame room books : List ℕ) → Outcome (WithBooks (Imaged ℕ))
+stepBooksImage image frame room books =
+    if eqb (length books) bookNumbers then stepBooksLoaded (loaded image) image frame room books
+    else outcome (withBooks (imaged (bookNumber NotBooks) image) books) room
+
+-- a summary of books into a room: 18, then 17, with as many zeros as there is place for; then 14 where there is none
+-- for eight shares, with nothing written
+unfoldable pub summaryReply : (books room : List ℕ) → Outcome ℕ
+summaryReply books room =
+    let summed = summaryOf books in
+    let number = bookNumber (summed .answer) in
+    if eqb number 0 && ltb (length room) moduleCount then outcome noRoom room
+    else outcome number (putInto (summed .shares) room)
 
 -- the beacon's text of what was loaded; where that is nothing, the room stays
 abbrev pub beaconLoaded : Form → Option State → (room : List ℕ) → Outcome Written

@@ -5,7 +5,8 @@ ghost use Rattle.basics.specs.Outcome.{outcome, reply};
 ghost use Rattle.morse.specs.Keying.{keyReply, keyOf};
 ghost use Rattle.beacon.specs.Writing.{writtenReply};
 ghost use Rattle.beacon.specs.declared.text.Form.the-variants as form;
-ghost use Rattle.flight.specs.Calls.{imaged, freshImage, stepImage, passImage};
+ghost use Rattle.books.specs.Step.{withBooks};
+ghost use Rattle.flight.specs.Calls.{imaged, freshImage, stepImage, passImage, stepBooksImage, summaryReply};
 ghost use Rattle.flight.specs.Calls.{modulesOnImage, beaconImage, replied, ReadReplied, tracks, tracksOf};
 use crate::loading::decode;
 use crate::loading::has_layout;
@@ -13,7 +14,14 @@ use crate::saving::IMAGE_BYTES;
 use crate::saving::save;
 use beacon::text::Form;
 use beacon::writing::Written;
+use books::answer::BookAnswer;
+use books::numbers::MODULES;
+use books::numbers::NUMBERS;
+use books::shares::put;
+use books::step::step_books;
+use books::summary::summary;
 use frames::answer::Answer;
+use morse::answers::NO_ROOM;
 use supervisor::fresh::fresh;
 use tracker::Reading;
 
@@ -87,6 +95,47 @@ pub extern "C" fn ems_modules_on(image: &[u8], count: &mut usize) -> u8
     let answer = on.answer;
     *count = on.count as usize;
     answer.number()
+}
+
+// Takes one frame as `ems_step` does, and counts a done tick in the books.
+#[no_mangle]
+pub extern "C" fn ems_step_books(
+    image: &mut [u8],
+    frame: &[u8],
+    room: &mut [u8],
+    books: &mut [u64],
+) -> u8
+    ensures { λ r. ⌜ outcome (withBooks (imaged r (now (image .exit))) (now (books .exit))) (now (room .exit))
+        ≡ stepBooksImage (now (image .entry)) (now (frame .entry)) (now (room .entry)) (now (books .entry)) ⌝ }
+{
+    if books.len() != NUMBERS {
+        return BookAnswer::NotBooks.number();
+    }
+    if !has_layout(image) {
+        return Answer::BadState.number();
+    }
+    let state = decode(image);
+    let after = step_books(state, frame, room, books);
+    let answer = after.answer;
+    if answer.is_reported() {
+        save(after.state, image);
+    }
+    answer.number()
+}
+
+// Writes each module's share on, in thousandths, by the books; where these are refused, as many zeros as there is room for.
+#[no_mangle]
+pub extern "C" fn ems_summary(books: &[u64], shares: &mut [u16]) -> u8
+    ensures { λ r. ⌜ outcome r (now (shares .exit)) ≡ summaryReply (now (books .entry)) (now (shares .entry)) ⌝ }
+{
+    let summed = summary(books);
+    let answer = summed.answer;
+    let number = answer.number();
+    if (number == 0) & (shares.len() < MODULES) {
+        return NO_ROOM;
+    }
+    put(summed.shares, shares);
+    number
 }
 
 // The beacon's text of an image's state.

@@ -16,7 +16,7 @@ use lib.Seq.{take-suc, length-take-le}
 use borrow.Author.Tests.{eqb-true, eqb-false, ltb-true, ltb-false, ne-eqb, eq-eqb}
 use Rattle.basics.specs.Choice.{if_then_else_, bit}
 use Rattle.basics.specs.Each.{each, eachFrom}
-use Rattle.basics.proofs.BitLaws.{bit-half, bit-power, bit-and}
+use Rattle.basics.proofs.BitLaws.{bit-past, bit-half, bit-power, bit-and}
 use Rattle.basics.proofs.ChoiceLaws.{and-left, and-right, and-both}
 use Rattle.basics.proofs.EachLaws.{each-at}
 use Rattle.modules.specs.Groups.{moduleCount}
@@ -69,19 +69,28 @@ below-low : (set : Bool) (mask : ℕ) → bit 0 (below set mask) ≡ set
 below-low true mask = eq-eqb (below true mask / 1 % 2) 1 (omega arith)
 below-low false mask = ne-eqb (below false mask / 1 % 2) 1 (λ e. absurd (omega (arith, e)))
 
--- bit i is module i's
-maskOf-bit : (test : Module → Bool) (i : ℕ) (ms : List Module) (d : Module) → i < length ms → bit i (maskOf test ms) ≡ test (getD ms i d)
-unfolding maskOf
-maskOf-bit test i [] d h = absurd (not-suc-le-zero h)
-maskOf-bit test zero (m ∷ ms) d h = below-low (test m) (maskOf test ms)
-maskOf-bit test (suc i) (m ∷ ms) d h =
-    bit-half i (below (test m) (maskOf test ms))
-    ∙ ap (bit i) (below-half (test m) (maskOf test ms))
-    ∙ maskOf-bit test i ms d (le-of-suc-le-suc h)
+-- bit i is module i's; past the last there is none, and no bit
+module _ (test : Module → Bool) (d : Module) (none : test d ≡ false) where
+  maskOf-bit : (i : ℕ) (ms : List Module) → bit i (maskOf test ms) ≡ test (getD ms i d)
+  unfolding maskOf
+  maskOf-bit i [] = bit-past 0 0 i (lit< tt) (omega arith) ∙ sym none
+  maskOf-bit zero (m ∷ ms) = below-low (test m) (maskOf test ms)
+  maskOf-bit (suc i) (m ∷ ms) =
+      bit-half i (below (test m) (maskOf test ms))
+      ∙ ap (bit i) (below-half (test m) (maskOf test ms))
+      ∙ maskOf-bit i ms
 
-requested-bit : (i : ℕ) (ms : List Module) (d : Module) → i < length ms → bit i (masksOf ms .requested) ≡ getD ms i d .requested
+requested-bit : (i : ℕ) (ms : List Module) → bit i (masksOf ms .requested) ≡ getD ms i noModule .requested
 unfolding masksOf
-requested-bit i ms d h = maskOf-bit isAsked i ms d h
+requested-bit i ms = maskOf-bit isAsked noModule refl i ms
+
+pub on-bit : (i : ℕ) (ms : List Module) (d : Module) → isOn (d .power) ≡ false → bit i (masksOf ms .on) ≡ isOn (getD ms i d .power)
+unfolding masksOf
+on-bit i ms d none = maskOf-bit isPowered d none i ms
+
+pub failed-bit : (i : ℕ) (ms : List Module) (d : Module) → isFailed (d .power) ≡ false → bit i (masksOf ms .failed) ≡ isFailed (getD ms i d .power)
+unfolding masksOf
+failed-bit i ms d none = maskOf-bit isGivenUp d none i ms
 
 -- one module more, above the others
 maskOf-next : (test : Module → Bool) (ms : List Module) (m : Module) → maskOf test (ms ++ (m ∷ [])) ≡ maskOf test ms + 2 ^ length ms * below (test m) 0
@@ -261,7 +270,7 @@ requested-off mask ms = each-at (moduleRequested (bitAnd (masksOf ms .requested)
     off : (i : ℕ) → i < length ms → moduleRequested (bitAnd (masksOf ms .requested) mask) false i (getD ms i noModule) ≡ moduleRequested mask false i (getD ms i noModule)
     off i h =
         let m : Module = getD ms i noModule in
-        ap (λ (t : Bool). withRequest (if t then false else m .requested) m) (bit-and i (masksOf ms .requested) mask ∙ ap (λ (t : Bool). t && bit i mask) (requested-bit i ms noModule h))
+        ap (λ (t : Bool). withRequest (if t then false else m .requested) m) (bit-and i (masksOf ms .requested) mask ∙ ap (λ (t : Bool). t && bit i mask) (requested-bit i ms))
         ∙ ap (λ (t : Bool). withRequest t m) (cut (m .requested) (bit i mask))
 
 -- one module's request is that of the mask of it alone
@@ -366,4 +375,4 @@ unfolding switchedBy stageOf
 stage-wanted allowed shorts ms = each-at (moduleSwitched (bitAnd (masksOf ms .requested) allowed) shorts) (moduleSecond allowed shorts) ms noModule wanted
   where
     wanted : (i : ℕ) → i < length ms → moduleSwitched (bitAnd (masksOf ms .requested) allowed) shorts i (getD ms i noModule) ≡ moduleSecond allowed shorts i (getD ms i noModule)
-    wanted i h = rw (bit-and i (masksOf ms .requested) allowed, requested-bit i ms noModule h)
+    wanted i h = rw (bit-and i (masksOf ms .requested) allowed, requested-bit i ms)

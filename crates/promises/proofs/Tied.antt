@@ -11,11 +11,15 @@ tied =
       read = λ κs a x. (λ learnt. learnt, λ says. says);
       write = λ κs a x. (λ learnt. learnt, λ says. says);
       modules-on = λ κs a x. (λ learnt. learnt, λ says. says);
+      step-books = λ κs a x. (λ learnt. learnt, λ says. says);
+      summary = λ κs a x. (λ learnt. learnt, λ says. says);
       track = λ κs a x. (λ learnt. learnt, λ says. says);
       ems-fresh = λ κs a x. (λ learnt. learnt, λ says. says);
       ems-step = λ κs a x. (λ learnt. learnt, λ says. says);
       ems-pass = λ κs a x. (λ learnt. learnt, λ says. says);
       ems-modules-on = λ κs a x. (λ learnt. learnt, λ says. says);
+      ems-step-books = λ κs a x. (λ learnt. learnt, λ says. says);
+      ems-summary = λ κs a x. (λ learnt. learnt, λ says. says);
       ems-key = λ κs a x. (λ learnt. learnt, λ says. says);
       ems-track = λ κs a x. (λ learnt. learnt, λ says. says);
     }

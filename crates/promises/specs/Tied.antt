@@ -11,6 +11,9 @@ use Rattle.basics.specs.OneOutcome.{Leaves}
 use Rattle.supervisor.specs.History.{called}
 use Rattle.pass.specs.Flight.{passed}
 use Rattle.counting.specs.Counting.{modulesOnOf}
+use Rattle.books.specs.Step.{withBooks}
+use Rattle.books.specs.Summary.{summaryOf}
+use Rattle.books.specs.History.{calledWith}
 use Rattle.morse.specs.Keying.{keyReply, keyOf}
 use Rattle.hearing.specs.Reading.{Read}
 use Rattle.beacon.specs.Writing.{beaconOf}
@@ -21,6 +24,10 @@ use Rattle.pass.proofs.pass as pass
 use Rattle.pass.proofs.pass.Reads as pass-reads
 use Rattle.counting.proofs.modules_on as modules-on
 use Rattle.counting.proofs.modules_on.Reads as modules-on-reads
+use Rattle.books.proofs.step.step_books as step-books
+use Rattle.books.proofs.step.step_books.Reads as step-books-reads
+use Rattle.books.proofs.summary.summary as summary
+use Rattle.books.proofs.summary.summary.Reads as summary-reads
 use Rattle.morse.proofs.keying.key as key
 use Rattle.morse.proofs.keying.key.Reads as key-reads
 use Rattle.hearing.proofs.reading.read as read
@@ -29,7 +36,8 @@ use Rattle.beacon.proofs.writing.write as write
 use Rattle.beacon.proofs.writing.write.Reads as write-reads
 use Rattle.tracker.proofs.track as track
 use Rattle.tracker.proofs.track.Reads as track-reads
-use Rattle.flight.specs.Calls.{imaged, freshImage, stepImage, passImage, modulesOnImage, replied, tracks, tracksOf}
+use Rattle.flight.specs.Calls.{imaged, freshImage, stepImage, passImage, modulesOnImage, stepBooksImage, summaryReply}
+use Rattle.flight.specs.Calls.{replied, tracks, tracksOf}
 use Rattle.flight.proofs.calls.ems_fresh as ems-fresh
 use Rattle.flight.proofs.calls.ems_fresh.Reads as ems-fresh-reads
 use Rattle.flight.proofs.calls.ems_step as ems-step
@@ -38,6 +46,10 @@ use Rattle.flight.proofs.calls.ems_pass as ems-pass
 use Rattle.flight.proofs.calls.ems_pass.Reads as ems-pass-reads
 use Rattle.flight.proofs.calls.ems_modules_on as ems-modules-on
 use Rattle.flight.proofs.calls.ems_modules_on.Reads as ems-modules-on-reads
+use Rattle.flight.proofs.calls.ems_step_books as ems-step-books
+use Rattle.flight.proofs.calls.ems_step_books.Reads as ems-step-books-reads
+use Rattle.flight.proofs.calls.ems_summary as ems-summary
+use Rattle.flight.proofs.calls.ems_summary.Reads as ems-summary-reads
 use Rattle.flight.proofs.calls.ems_key as ems-key
 use Rattle.flight.proofs.calls.ems_key.Reads as ems-key-reads
 use Rattle.flight.proofs.calls.ems_track as ems-track
@@ -76,6 +88,14 @@ pub record Tied : Type 0 where
       (λ κs a x. outcome (x .0) (x .1 .1 .1 .0) ≡ beaconOf (a .1 .0) (a .0) (a .1 .1 .0 .now))
   -- modules_on(state)
   pub modules-on : Says modules-on.ended modules-on-reads.Learnt (λ κs a x. x .0 ≡ modulesOnOf (a .0))
+  -- step_books(state, input, room, books)
+  pub step-books :
+      Says step-books.ended step-books-reads.Learnt
+      (λ κs a x.
+      outcome (withBooks (x .0) (x .1 .1 .1 .1 .0)) (x .1 .1 .1 .0)
+      ≡ calledWith (record { state = a .0; books = a .1 .1 .1 .0 .now }) (record { input = a .1 .0 .now; room = a .1 .1 .0 .now }))
+  -- summary(books)
+  pub summary : Says summary.ended summary-reads.Learnt (λ κs a x. x .0 ≡ summaryOf (a .0 .now))
   -- track(before, after, point, step)
   pub track :
       Says track.ended track-reads.Learnt
@@ -96,6 +116,15 @@ pub record Tied : Type 0 where
   pub ems-modules-on :
       Says ems-modules-on.ended ems-modules-on-reads.Learnt
       (λ κs a x. reply (x .0) (x .1 .1 .0) ≡ modulesOnImage (a .0 .now))
+  -- ems_step_books(image, frame, room, books) and ems_summary(books, shares)
+  pub ems-step-books :
+      Says ems-step-books.ended ems-step-books-reads.Learnt
+      (λ κs a x.
+      outcome (withBooks (imaged (x .0) (x .1 .0)) (x .1 .1 .1 .1 .0)) (x .1 .1 .1 .0)
+      ≡ stepBooksImage (a .0 .now) (a .1 .0 .now) (a .1 .1 .0 .now) (a .1 .1 .1 .0 .now))
+  pub ems-summary :
+      Says ems-summary.ended ems-summary-reads.Learnt
+      (λ κs a x. outcome (x .0) (x .1 .1 .0) ≡ summaryReply (a .0 .now) (a .1 .0 .now))
   -- ems_key(text, units, count)
   pub ems-key :
       Says ems-key.ended ems-key-reads.Learnt

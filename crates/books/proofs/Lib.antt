@@ -1,0 +1,11 @@
+pub mod BooksLaws
+pub mod CountLaws
+pub mod StepLaws
+pub mod CallLaws
+pub mod WaysLaws
+pub mod Seconds
+pub mod Plain
+pub mod SummaryLaws
+pub mod RoundedDown
+pub mod Edge
+pub mod Outcomes
