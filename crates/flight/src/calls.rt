@@ -134,7 +134,8 @@ pub extern "C" fn ems_summary(books: &[u64], shares: &mut [u16]) -> u8
     if (number == 0) & (shares.len() < MODULES) {
         return NO_ROOM;
     }
-    put(summed.shares, shares);
+    let all = summed.shares;
+    put(all, shares);
     number
 }
 
