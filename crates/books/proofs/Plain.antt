@@ -1,14 +1,18 @@
 -- As without books, unless it answers 17 or 18.
 -- Assumes nothing.
+use Prim.Native.Nat.{ℕ, zero, suc}
 use mathlib.Core.Path.{_≡_, refl, ap, sym, _∙_}
-use mathlib.Core.Bool.{Bool, true, false, true≢false, false≢true}
+use mathlib.Core.Bool.{Bool, true, false, not, true≢false, false≢true}
 use mathlib.Core.List.{List, [], _∷_}
+use lib.Dec.{T}
+use lib.ListN.{take}
 use Rattle.basics.specs.Choice.{if_then_else_}
 use Rattle.basics.specs.Outcome.{Outcome}
+use Rattle.basics.proofs.ChoiceLaws.{and-left, and-right, and-both}
 use Rattle.supervisor.specs.History.{Call, called, after}
 use Rattle.supervisor.specs.declared.state.State.{State}
 use Rattle.books.specs.History.{Board, calledWith, answeredWith, boardAfter, afterWith}
-use Rattle.books.specs.Plain.{AsCalled, Halted, isBooks, unhalted, PlainCall}
+use Rattle.books.specs.Plain.{AsCalled, Halted, isBooks, unhalted, haltsNone, PlainCall}
 use Rattle.books.specs.Answer.{bookNumber}
 use Rattle.books.specs.Step.{WithBooks}
 use Rattle.books.specs.declared.step.Booked.{Booked}
@@ -46,3 +50,27 @@ flies (c ∷ cs) b = flies-on b c cs (flies cs (boardAfter b c)) (isBooks (answe
 
 pub plain-call : PlainCall
 plain-call = record { plain = λ b c. as-called b c (way b c); halted = λ b c. halted-by b c (way b c); flies = λ b cs. flies cs b }
+
+-- where the books halt none, all calls are left, and the first so many too
+not-passes : (t : Bool) → T (not t) → t ≡ false
+not-passes true h = absurd h
+not-passes false h = refl
+
+unhalted-all : (cs : List Call) (b : Board) → T (haltsNone b cs) → unhalted b cs ≡ cs
+unhalted-all [] b u = refl
+unhalted-all (c ∷ cs) b u =
+    let here : Bool = isBooks (answeredWith b c) in
+    let rest : Bool = haltsNone (boardAfter b c) cs in
+    rw (not-passes here (and-left (not here) rest u)) (ap (λ more. c ∷ more) (unhalted-all cs (boardAfter b c) (and-right (not here) rest u)))
+
+take-unhalted : (n : ℕ) (cs : List Call) (b : Board) → T (haltsNone b cs) → T (haltsNone b (take n cs))
+take-unhalted zero cs b u = tt
+take-unhalted (suc n) [] b u = tt
+take-unhalted (suc n) (c ∷ cs) b u =
+    let here : Bool = not (isBooks (answeredWith b c)) in
+    let rest : Bool = haltsNone (boardAfter b c) cs in
+    and-both here (haltsNone (boardAfter b c) (take n cs)) (and-left here rest u) (take-unhalted n cs (boardAfter b c) (and-right here rest u))
+
+pub unhalted-flies : (n : ℕ) (cs : List Call) (b : Board) → T (haltsNone b cs) → afterWith b (take n cs) .state ≡ after (b .state) (take n cs)
+unhalted-flies n cs b u =
+    flies (take n cs) b ∙ ap (after (b .state)) (unhalted-all (take n cs) b (take-unhalted n cs b u))

@@ -3,7 +3,7 @@
 -- Assumes nothing.
 use Prim.Native.Nat.{ℕ}
 use mathlib.Core.Path.{_≡_}
-use mathlib.Core.Bool.{Bool, true, false, _||_}
+use mathlib.Core.Bool.{Bool, true, false, not, _&&_, _||_}
 use mathlib.Core.List.{List, [], _∷_}
 use lib.Dec.{eqb}
 use Rattle.basics.specs.Choice.{if_then_else_}
@@ -30,6 +30,11 @@ abbrev pub unhalted : Board → List Call → List Call
 unhalted b [] = []
 unhalted b (c ∷ cs) =
     if isBooks (answeredWith b c) then unhalted (boardAfter b c) cs else c ∷ unhalted (boardAfter b c) cs
+
+-- they halt none of a history
+abbrev pub haltsNone : Board → List Call → Bool
+haltsNone b [] = true
+haltsNone b (c ∷ cs) = not (isBooks (answeredWith b c)) && haltsNone (boardAfter b c) cs
 
 -- with such answers of the books' own
 pub record PlainBut (halts : (answer : ℕ) → Bool) : Type 0 where

@@ -17,6 +17,7 @@ pub mod TwoPower
 pub mod TwoCore
 pub mod TwoCraft
 pub mod Passes
+pub mod InBooks
 pub mod Serials
 pub mod WordLaws
 pub mod Requests

@@ -21,7 +21,7 @@ module _ (readings : ℕ → Bool) where
   same-calls [] = start
   same-calls (c ∷ cs) = next same (same-calls cs)
 
-  but-one : {x y : List ℕ} → AsGood readings x y → (first later : List (List ℕ)) → Paired readings (sent (first ++ (x ∷ later))) (sent (first ++ (y ∷ later)))
+  pub but-one : {x y : List ℕ} → AsGood readings x y → (first later : List (List ℕ)) → Paired readings (sent (first ++ (x ∷ later))) (sent (first ++ (y ∷ later)))
   but-one good [] later = next good (same-calls (sent later))
   but-one good (f ∷ first) later = next same (but-one good first later)
 
@@ -33,7 +33,7 @@ module _ (modules readings : ℕ → Bool) (shorts : ℕ) (says : TwoCraftOf mod
   after-all flight one two paired = says (sent (flight one)) (sent (flight two)) (sent-roomy (flight one)) (sent-roomy (flight two)) paired 1000
 
 -- 7,000 mV on the first craft, 8,000 on the second
-lower : AsGood inReach (battery 7000) (battery 8000)
+pub lower : AsGood inReach (battery 7000) (battery 8000)
 lower = higher 27 88 31 64 tt tt (lit≤ tt)
 
 -- the camera, ordered on while the second craft alone is in SAFE, is requested there alone
