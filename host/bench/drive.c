@@ -2,35 +2,44 @@
  * nanoseconds that they took and a sum by which the sides are compared. Built
  * twice: over the library, and with -DPEER over the C version in peer/.
  *
- * A stream: what is called ('s' step, 'p' pass, 'o' step for one frame of a pass
- * after the other, 'n' number of modules on, 'e' extended beacon, 'k' key, 'r' read, 't'
- * tracker), an image, the number of inputs (2 bytes, big-endian), and for each its length
- * (2) and its bytes. */
+ * A stream: what is called ('s' step, 'b' step with books, 'p' pass, 'o' step for one
+ * frame of a pass after the other, 'n' number of modules on, 'm' summary of the books, 'e'
+ * extended beacon, 'k' key, 'r' read, 't' tracker), an image, the numbers of the books (8
+ * bytes each, as they stand in memory), the number of inputs (2 bytes, big-endian), and for
+ * each its length (2) and its bytes. */
 #define _POSIX_C_SOURCE 199309L
 #include <stdio.h>
 #include <stdlib.h>
 #include <string.h>
 #include <time.h>
 #ifdef PEER
+#include "peer/books.h"
 #include "peer/ems.h"
 #include "peer/morse.h"
 #include "peer/track.h"
 #define IMAGE_BYTES 71
 #define KEY peer_key
 #define READ peer_read
+#define SUMMARY peer_summary
 #define TRACK peer_track
 #else
 #include "../../include/ems.h"
 #define IMAGE_BYTES EMS_IMAGE_BYTES
 #define KEY ems_key
 #define READ ems_read
+#define SUMMARY ems_summary
 #define TRACK ems_track
 #endif
 
-/* After so many calls the image is put back, so that a stream stays in its mode. */
+/* After so many calls the image is put back, so that a stream stays in its mode, and the
+ * books with it. */
 #define ROUND 10000
+#define NUMBERS 24
+#define SHARES 8
 
 static uint8_t file[1 << 16], room[2048];
+static uint64_t books[NUMBERS];
+static uint16_t shares[SHARES];
 static struct { const uint8_t *bytes; size_t length; } inputs[4096];
 
 static unsigned two(const uint8_t *at) { return (unsigned)(at[0] << 8 | at[1]); }
@@ -74,6 +83,11 @@ static uint8_t step(const uint8_t *frame, size_t length, uint8_t *report, size_t
     return peer_step(&state, frame, length, report, left);
 }
 
+static uint8_t step_books(const uint8_t *frame, size_t length, uint8_t *report, size_t left)
+{
+    return peer_step_books(&state, frame, length, report, left, books, NUMBERS);
+}
+
 static uint8_t modules_on(size_t *count) { return peer_modules_on(&state, count); }
 
 static uint8_t extended(size_t *written) { return peer_beacon_extended(&state, room, sizeof room, written); }
@@ -85,6 +99,11 @@ static void put_back(const uint8_t *image) { memcpy(state, image, sizeof state);
 static uint8_t step(const uint8_t *frame, size_t length, uint8_t *report, size_t left)
 {
     return ems_step(state, sizeof state, frame, length, report, left);
+}
+
+static uint8_t step_books(const uint8_t *frame, size_t length, uint8_t *report, size_t left)
+{
+    return ems_step_books(state, sizeof state, frame, length, report, left, books, NUMBERS);
 }
 
 static uint8_t modules_on(size_t *count) { return ems_modules_on(state, sizeof state, count); }
@@ -152,9 +171,9 @@ static uint32_t track(const uint8_t *move)
 int main(int argc, char **argv)
 {
     FILE *in = argc == 3 ? fopen(argv[1], "rb") : NULL;
-    if (!in || fread(file, 1, sizeof file, in) < IMAGE_BYTES + 3) return 1;
+    if (!in || fread(file, 1, sizeof file, in) < IMAGE_BYTES + sizeof books + 3) return 1;
     long n = atol(argv[2]);
-    const uint8_t call = file[0], *image = file + 1, *at = image + IMAGE_BYTES;
+    const uint8_t call = file[0], *image = file + 1, *numbers = image + IMAGE_BYTES, *at = numbers + sizeof books;
     unsigned count = two(at), next = 0;
     at += 2;
     for (unsigned i = 0; i < count; i++) {
@@ -167,14 +186,16 @@ int main(int argc, char **argv)
     struct timespec begin, end;
     clock_gettime(CLOCK_MONOTONIC, &begin);
     for (long i = 0, left = 0; i < n; i++, left--) {
-        if (left == 0) { put_back(image); left = ROUND; next = 0; }
+        if (left == 0) { put_back(image); memcpy(books, numbers, sizeof books); left = ROUND; next = 0; }
         const uint8_t *bytes = inputs[next].bytes;
         size_t length = inputs[next].length;
         if (++next == count) next = 0;
         if (call == 's') sum += step(bytes, length, room, 11);
+        else if (call == 'b') sum += step_books(bytes, length, room, 11);
         else if (call == 'k') sum += KEY(bytes, length, room, sizeof room, &written);
         else if (call == 'r') sum += READ(bytes, length, room, sizeof room, &written);
         else if (call == 'n') sum += number_on();
+        else if (call == 'm') sum += SUMMARY(books, NUMBERS, shares, SHARES);
         else if (call == 'e') sum += extended(&written);
         else if (call == 'p') sum += pass(bytes, length, &written);
         else if (call == 'o') sum += one_by_one(bytes, length, &written);
@@ -182,6 +203,8 @@ int main(int argc, char **argv)
     }
     clock_gettime(CLOCK_MONOTONIC, &end);
     for (size_t i = 0; i < written; i++) sum = sum * 31 + room[i];
+    for (size_t i = 0; i < NUMBERS; i++) sum = sum * 31 + books[i];
+    for (size_t i = 0; i < SHARES; i++) sum = sum * 31 + shares[i];
     printf("%lld %lu\n", (end.tv_sec - begin.tv_sec) * 1000000000LL + end.tv_nsec - begin.tv_nsec, sum);
     return 0;
 }

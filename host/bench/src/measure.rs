@@ -51,7 +51,10 @@ impl Bench {
             print_of(gcc.arg("-o").arg(&object))?;
             Ok(object)
         };
-        ["ems", "morse", "track"].into_iter().map(object).collect()
+        ["books", "ems", "morse", "track"]
+            .into_iter()
+            .map(object)
+            .collect()
     }
 
     /// Compiles the driver over the C version's objects.

@@ -1,9 +1,10 @@
-//! What is measured: an image to start from, and inputs that go round.
+//! What is measured: an image and books to start from, and inputs that go round.
 
+use model::books::{Books, MOST_SECONDS, NUMBERS};
 use model::message::Message;
 use model::state::{Mode, Module, Power, END_SECONDS, TRIES};
 use model::table::{
-    BATTERY, FROM_GROUND, GREETING, MISSION, ORDER, PAYLOAD, THRESHOLDS, TICK, TIMED,
+    BATTERY, FROM_GROUND, GREETING, MISSION, MODULES, ORDER, PAYLOAD, THRESHOLDS, TICK, TIMED,
 };
 use model::track::Reading;
 use model::{calls, frame, image, report, State};
@@ -12,12 +13,14 @@ use model::{calls, frame, image, report, State};
 pub struct Stream {
     /// What it says there.
     pub name: &'static str,
-    /// What is called: `s` step, `p` pass, `o` step for one frame of a pass after
-    /// the other, `n` number of modules on, `e` extended beacon, `k` key, `r` read, `t`
-    /// tracker.
+    /// What is called: `s` step, `b` step with books, `p` pass, `o` step for one frame of
+    /// a pass after the other, `n` number of modules on, `m` summary of the books, `e`
+    /// extended beacon, `k` key, `r` read, `t` tracker.
     pub call: u8,
     /// The image to start from.
     pub image: [u8; image::BYTES],
+    /// The books to start from.
+    pub books: Books,
     /// The inputs, one a call, over and over.
     pub inputs: Vec<Vec<u8>>,
     /// How many calls are counted: so many that the inputs, and the state's own
@@ -31,6 +34,7 @@ impl Stream {
         let two = |number: usize| (number as u16).to_be_bytes();
         let mut file = vec![self.call];
         file.extend(self.image);
+        file.extend(self.books.iter().flat_map(|number| number.to_le_bytes()));
         file.extend(two(self.inputs.len()));
         for input in &self.inputs {
             file.extend(two(input.len()));
@@ -117,6 +121,23 @@ fn input_of((readings, set_point, step): &Move) -> Vec<u8> {
     bytes.chain(step.to_le_bytes()).collect()
 }
 
+/// Books that are just begun.
+const BEGUN: Books = [0; NUMBERS];
+
+/// Books of modules that were on always, never, and now and then; one was never seen, and
+/// one has all that the books hold.
+#[rustfmt::skip]
+const MIXED: Books = [
+    604_800, 0, 0,
+    0, 604_800, 0,
+    0, 0, 0,
+    201_600, 201_600, 201_600,
+    86_399, 518_400, 1,
+    604_199, 0, 601,
+    1, 604_799, 0,
+    MOST_SECONDS, MOST_SECONDS, MOST_SECONDS,
+];
+
 /// How many passes go round.
 const PASSES: u16 = 10;
 
@@ -156,17 +177,16 @@ fn pass(i: u16) -> Vec<u8> {
 
 /// All rows.
 pub fn streams() -> Vec<Stream> {
-    let step = |name, board: State, inputs| {
-        let image = image::save(&board);
-        let call = b's';
-        Stream {
-            name,
-            call,
-            image,
-            inputs,
-            counted: 10_000,
-        }
+    let frames = |name, call, board: State, inputs| Stream {
+        name,
+        call,
+        image: image::save(&board),
+        books: BEGUN,
+        inputs,
+        counted: 10_000,
     };
+    let step = |name, board, inputs| frames(name, b's', board, inputs);
+    let booked = |name, board, inputs| frames(name, b'b', board, inputs);
     let quiet = || vec![vec![TICK, 0x00]];
     // Every module is shorted in one second of 62: it starts again in the next, and the
     // other 60 are those after which it has all its tries.
@@ -179,6 +199,7 @@ pub fn streams() -> Vec<Stream> {
         name,
         call,
         image: image::save(&board(Mode::Safe)),
+        books: BEGUN,
         inputs: vec![input],
         counted: 1_000,
     };
@@ -186,6 +207,7 @@ pub fn streams() -> Vec<Stream> {
         name,
         call,
         image: image::save(&board(Mode::Safe)),
+        books: BEGUN,
         inputs: (0..PASSES).map(pass).collect(),
         counted: 100,
     };
@@ -216,6 +238,11 @@ pub fn streams() -> Vec<Stream> {
             board(Mode::Waiting(0)),
             shorts(),
         ),
+        booked(
+            "tick in DEPLOY_WAIT, with books",
+            board(Mode::Waiting(0)),
+            quiet(),
+        ),
         step("tick in RECOVERY", board(Mode::Recovery), quiet()),
         step("tick in RECOVERY, shorts", board(Mode::Recovery), shorts()),
         step("tick in SAFE", board(Mode::Safe), quiet()),
@@ -226,7 +253,9 @@ pub fn streams() -> Vec<Stream> {
             quiet(),
         ),
         step("tick in SAFE, a message kept", greeted(Mode::Safe), quiet()),
+        booked("tick in SAFE, with books", board(Mode::Safe), quiet()),
         step("order, done", board(Mode::Safe), all(order)),
+        booked("order, done, with books", board(Mode::Safe), all(order)),
         step("timed order, done", board(Mode::Safe), all(timed)),
         step("greeting, done", board(Mode::Safe), all(greeting)),
         step(
@@ -245,6 +274,16 @@ pub fn streams() -> Vec<Stream> {
             name: "modules on",
             call: b'n',
             image: image::save(&board(Mode::Safe)),
+            books: BEGUN,
+            inputs: vec![vec![]],
+            counted: 1_000,
+        },
+        Stream {
+            name: "summary of the books",
+            call: b'm',
+            // It is not looked at.
+            image: image::save(&board(Mode::Safe)),
+            books: MIXED,
             inputs: vec![vec![]],
             counted: 1_000,
         },
@@ -252,6 +291,7 @@ pub fn streams() -> Vec<Stream> {
             name: "extended beacon of 33 characters",
             call: b'e',
             image: image::save(&greeted(Mode::Safe)),
+            books: BEGUN,
             inputs: vec![vec![]],
             counted: 1_000,
         },
@@ -260,6 +300,7 @@ pub fn streams() -> Vec<Stream> {
             call: b't',
             // It is not looked at.
             image: image::save(&board(Mode::Safe)),
+            books: BEGUN,
             inputs: MOVES.iter().map(input_of).collect(),
             counted: 10_000,
         },
@@ -275,6 +316,8 @@ pub fn streams() -> Vec<Stream> {
 /// The model's drive: as `drive.c`, in Rust.
 pub fn drive(stream: &Stream, calls: u64) -> (u128, u64) {
     let mut image = stream.image;
+    let mut books = stream.books;
+    let mut shares = [0; MODULES.len()];
     let mut room = [0; 2_048];
     let mut written = report::BYTES;
     let mut sum: u64 = 0;
@@ -283,15 +326,21 @@ pub fn drive(stream: &Stream, calls: u64) -> (u128, u64) {
     for call in 0..calls {
         if call % 10_000 == 0 {
             image = stream.image;
+            books = stream.books;
             inputs = stream.inputs.iter().cycle();
         }
         let input = inputs.next().map_or(&[][..], Vec::as_slice);
         let answer: u32 = match stream.call {
             b't' => track(input),
             b's' => calls::step(&mut image, input, &mut room[..report::BYTES]).into(),
+            b'b' => {
+                let room = &mut room[..report::BYTES];
+                calls::step_books(&mut image, input, room, &mut books).into()
+            }
             b'p' => reported(calls::pass(&mut image, input, &mut room), &mut written),
             b'o' => reported(one_by_one(&mut image, input, &mut room), &mut written),
             b'n' => number_on(calls::modules_on(&image)),
+            b'm' => calls::summary(&books, &mut shares).into(),
             b'e' => counted(calls::beacon_extended(&image, &mut room), &mut written),
             b'k' => counted(calls::key(input, &mut room), &mut written),
             _ => counted(calls::read(input, &mut room), &mut written),
@@ -299,8 +348,10 @@ pub fn drive(stream: &Stream, calls: u64) -> (u128, u64) {
         sum = sum.wrapping_add(answer.into());
     }
     let nanoseconds = begin.elapsed().as_nanos();
-    for byte in &room[..written] {
-        sum = sum.wrapping_mul(31).wrapping_add((*byte).into());
+    let bytes = room[..written].iter().map(|byte| u64::from(*byte));
+    let shares = shares.iter().map(|share| u64::from(*share));
+    for number in bytes.chain(books).chain(shares) {
+        sum = sum.wrapping_mul(31).wrapping_add(number);
     }
     (nanoseconds, sum)
 }
@@ -394,6 +445,13 @@ mod tests {
             (0, 250),
         ];
         assert_eq!(MOVES.each_ref().map(next), wanted.map(Ok));
+    }
+
+    /// What each module was on of its time, in thousandths: what the books say they are.
+    #[test]
+    fn the_books_are_mixed() {
+        let wanted = [1_000, 0, 0, 333, 142, 999, 0, 333];
+        assert_eq!(model::books::shares(&MIXED), Ok(wanted));
     }
 
     /// A refusal, too, is the same by single calls as by one, and so are the room

@@ -59,7 +59,7 @@ fn calls(bench: &Bench, library: &Path, c: &Path, lines: &mut Lines) -> Result<(
 /// The stream's row, once all sides agree on what they have done.
 fn row(stream: &Stream, programs: &[Program; 3]) -> Result<String> {
     let timed = match stream.call {
-        b's' | b't' | b'n' => 1_000_000,
+        b's' | b'b' | b't' | b'n' | b'm' => 1_000_000,
         _ => 20_000,
     };
     let mut counts = Vec::new();
@@ -91,7 +91,7 @@ fn row(stream: &Stream, programs: &[Program; 3]) -> Result<String> {
 /// What the library's step takes by value, of a stream of frames.
 fn by_value(stream: &Stream, library: &Program) -> Result<String> {
     Ok(match stream.call {
-        b's' | b'p' | b'o' => {
+        b's' | b'b' | b'p' | b'o' => {
             let instructions = library.instructions_within(BY_VALUE, stream)?;
             format!("{instructions:.0}")
         }
@@ -104,7 +104,7 @@ fn growth(bench: &Bench, library: &Path, lines: &mut Lines) -> Result<()> {
     lines.push("| call | instructions of 100,000 over those of 10,000 |");
     lines.push("|---|---:|");
     for (place, stream) in streams().iter().enumerate() {
-        if stream.call != b's' {
+        if !matches!(stream.call, b's' | b'b') {
             continue;
         }
         let program = Program::new(library, bench.stream_file(place, stream)?);
