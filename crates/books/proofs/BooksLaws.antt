@@ -1,8 +1,8 @@
 -- Laws of the books: the number at a place after a tick, when no number is above the most, and what masks show.
 -- Assumes nothing.
-use Prim.Native.Nat.{ℕ, _+_, _*_, _/_, _%_, _<_, _≤_}
-use mathlib.Core.Path.{_≡_, refl, ap, sym, _∙_}
-use mathlib.Core.Bool.{Bool, true, false, true≢false}
+use Prim.Native.Nat.{ℕ, _+_, _/_, _%_, _<_, _≤_}
+use mathlib.Core.Path.{_≡_, refl, ap, _∙_}
+use mathlib.Core.Bool.{Bool, true, false}
 use mathlib.Core.List.{List}
 use native.Mathlib.Omega.{arith}
 use lib.Dec.{T, eqb, leb, ltb, leb→le, le→leb, ltb→lt, lt→ltb}
@@ -10,7 +10,7 @@ use lib.ListN.{getD, length}
 use borrow.Author.Tests.{eqb-true, eq-eqb}
 use Rattle.basics.specs.Choice.{if_then_else_, bit}
 use Rattle.basics.specs.Tables.{allBelow}
-use Rattle.basics.proofs.ChoiceLaws.{is-true, is-false, holds}
+use Rattle.basics.proofs.ChoiceLaws.{holds}
 use Rattle.basics.proofs.EachLaws.{length-each, at-each, each-at}
 use Rattle.basics.proofs.TablesLaws.{upto, all-below}
 use Rattle.modules.specs.Groups.{moduleCount}

@@ -3,14 +3,15 @@
 -- Assumes nothing.
 use Prim.Native.Nat.{ℕ, _<_, _≤_}
 use mathlib.Core.Path.{_≡_, refl, ap, sym, _∙_}
-use mathlib.Core.Bool.{Bool, true, false, _&&_, true≢false, false≢true}
+use mathlib.Core.Bool.{Bool, true, false, _&&_, true≢false}
 use mathlib.Core.List.{List, _++_}
+use native.Mathlib.Omega.{arith}
 use native.Mathlib.Nat.{le-refl}
 use lib.Dec.{T, eqb}
 use lib.ListN.{getD, length, take, drop, replicate, take-append-drop}
 use Rattle.basics.specs.Choice.{within}
 use Rattle.basics.specs.Outcome.{Outcome, outcome}
-use Rattle.basics.proofs.ChoiceLaws.{is-true, holds}
+use Rattle.basics.proofs.ChoiceLaws.{holds, within-low, within-high, within-of}
 use Rattle.modules.specs.Masks.{masksOf}
 use Rattle.modules.specs.declared.masks.Masks.{Masks}
 use Rattle.frames.specs.Answer.{answerNumber, isReported}
@@ -18,64 +19,35 @@ use Rattle.frames.specs.Kind.{reportBytes, tickKind}
 use Rattle.frames.specs.Frame.{headOf}
 use Rattle.frames.specs.About.{about, isTick}
 use Rattle.frames.specs.declared.answer.Answer.{Answer}
-use Rattle.frames.specs.declared.answer.Answer.the-variants.{Done, BadState, ShortRoom, NoInput}
-use Rattle.frames.specs.declared.answer.Answer.the-variants.{UnknownKind, BadLength, BadField, NotPermitted}
-use Rattle.frames.specs.declared.answer.Answer.the-variants.{Repeat, Stale, NotNow}
 use Rattle.frames.specs.declared.frame.Frame.{Frame}
 use Rattle.frames.specs.declared.frame.Frame.the-variants as frame
 use Rattle.frames.specs.declared.command.Command.the-variants as command
 use Rattle.frames.specs.declared.reading.Reading.the-variants.{Accepted}
+use Rattle.frames.proofs.AnswerLaws.{refusal, unreported}
 use Rattle.supervisor.specs.Range.{inRange}
 use Rattle.supervisor.specs.Report.{reportOf, shownIn}
-use Rattle.supervisor.specs.Step.{stepOf, refused, reported}
-use Rattle.supervisor.specs.Tick.{ticked}
+use Rattle.supervisor.specs.Step.{stepOf, refused}
 use Rattle.supervisor.specs.History.{Call, aboutOf, called, doneTick, isDone}
-use Rattle.supervisor.specs.declared.acted.Acted.{Acted}
 use Rattle.supervisor.specs.declared.state.State.{State}
 use Rattle.supervisor.specs.declared.step.Stepped.{Stepped}
-use Rattle.supervisor.proofs.HistoryLaws.{Comes, stopped, ticking, other, comes, called-in-range}
+use Rattle.supervisor.proofs.HistoryLaws.{Comes, stopped, ticking, other, not-zero, comes, called-in-range}
 use Rattle.supervisor.proofs.RangeLaws.{parts}
-use Rattle.supervisor.proofs.StepLaws.{step-outside, step-short, step-written, refused-left, reported-valid, Alike, step-alike}
-use Rattle.books.specs.Books.{secondOf, foundIn, shownAs}
+use Rattle.supervisor.proofs.StepLaws.{step-outside, step-short, step-written, refused-left, Alike, step-alike}
+use Rattle.books.specs.Books.{shownAs}
 use Rattle.books.specs.Step.{isEarly, foundAfter}
 use Rattle.books.proofs.BooksLaws.{shown-found}
 
 -- 1 to 6 have no report
 early-silent : (a : Answer) → isEarly a ≡ true → isReported a ≡ false
-early-silent Done e = absurd (false≢true e)
-early-silent BadState e = refl
-early-silent ShortRoom e = refl
-early-silent NoInput e = refl
-early-silent UnknownKind e = refl
-early-silent BadLength e = refl
-early-silent BadField e = refl
-early-silent NotPermitted e = refl
-early-silent Repeat e = absurd (false≢true e)
-early-silent Stale e = absurd (false≢true e)
-early-silent NotNow e = absurd (false≢true e)
-
--- and are not done
-silent-undone : (a : Answer) → isReported a ≡ false → isDone (answerNumber a) ≡ false
-silent-undone Done e = absurd (true≢false e)
-silent-undone BadState e = refl
-silent-undone ShortRoom e = refl
-silent-undone NoInput e = refl
-silent-undone UnknownKind e = refl
-silent-undone BadLength e = refl
-silent-undone BadField e = refl
-silent-undone NotPermitted e = refl
-silent-undone Repeat e = absurd (true≢false e)
-silent-undone Stale e = absurd (true≢false e)
-silent-undone NotNow e = absurd (true≢false e)
-
-and-false : (a : Bool) {b : Bool} → b ≡ false → (a && b) ≡ false
-and-false true e = e
-and-false false e = refl
+early-silent a e =
+    let n : ℕ = answerNumber a in
+    let t : T (within 1 6 n) = holds (within 1 6 n) e in
+    refusal a (within-of 1 7 n (within-low 1 6 n t) (omega (arith, within-high 1 6 n t)))
 
 module _ (s : State) (c : Call) where
   -- what has no report is no done tick
   pub silent-no-tick : isReported (called s c .result .answer) ≡ false → doneTick s c ≡ false
-  silent-no-tick e = and-false (isTick (aboutOf c)) (silent-undone (called s c .result .answer) e)
+  silent-no-tick e = not-zero (isTick (aboutOf c)) (answerNumber (called s c .result .answer)) (unreported (called s c .result .answer) e)
 
   pub early-left : isEarly (called s c .result .answer) ≡ true → called s c ≡ refused (called s c .result .answer) s (c .room)
   early-left e = refused-left s c (early-silent (called s c .result .answer) e)

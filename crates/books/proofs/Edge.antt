@@ -13,15 +13,16 @@ use Rattle.frames.specs.declared.serial.Serials.{Serials}
 use Rattle.supervisor.specs.Fresh.{freshState}
 use Rattle.supervisor.specs.Report.{modeByte}
 use Rattle.supervisor.specs.History.{Call, called, answered}
-use Rattle.supervisor.specs.declared.state.State.{State}
 use Rattle.supervisor.proofs.Rules.{rules}
 use Rattle.books.specs.Books.{bookNumbers, mostSeconds, counted, noneAbove}
+use Rattle.books.specs.Answer.{bookNumber}
 use Rattle.books.specs.Step.{stepBooksOf}
-use Rattle.books.specs.History.{Board, answeredWith, boardAfter, afterWith, tickReports}
+use Rattle.books.specs.History.{Board, answerWith, boardAfter, afterWith, tickReports}
 use Rattle.books.specs.Seconds.{those, anew, numberIn, SecondsOf}
 use Rattle.books.specs.Plain.{PlainBut}
 use Rattle.books.specs.Summary.{sharesOf, summaryOf}
 use Rattle.books.specs.RoundedDown.{SharesBy}
+use Rattle.books.specs.declared.answer.BookAnswer.the-variants.{Full, NotBooks}
 
 -- a call with room
 abbrev with-room : (input : List ℕ) → Call
@@ -64,23 +65,23 @@ plain-done : answered freshState tick ≡ 0
 unfolding rules tick
 plain-done = refl
 
-full-halts : answeredWith brimful tick ≡ 17
+full-halts : answerWith brimful tick ≡ Full
 unfolding rules stepBooksOf counted noneAbove each eachFrom tick brimful
 full-halts = refl
 
-torn-halts : answeredWith torn tick ≡ 18
+torn-halts : answerWith torn tick ≡ NotBooks
 unfolding stepBooksOf torn
 torn-halts = refl
 
 -- with 18 alone
-pub not-but-for-18 : PlainBut (λ answer. eqb answer 18) → ⊥
+pub not-but-for-18 : PlainBut (λ answer. eqb (bookNumber answer) 18) → ⊥
 unfolding brimful
-not-but-for-18 says = omega (arith, full-halts, plain-done, says .plain brimful tick (rw full-halts) .answer)
+not-but-for-18 says = omega (arith, ap bookNumber (sym full-halts ∙ says .plain brimful tick (rw full-halts) .answer), plain-done)
 
 -- with 17 alone
-pub not-but-for-17 : PlainBut (λ answer. eqb answer 17) → ⊥
+pub not-but-for-17 : PlainBut (λ answer. eqb (bookNumber answer) 17) → ⊥
 unfolding torn
-not-but-for-17 says = omega (arith, torn-halts, plain-done, says .plain torn tick (rw torn-halts) .answer)
+not-but-for-17 says = omega (arith, ap bookNumber (sym torn-halts ∙ says .plain torn tick (rw torn-halts) .answer), plain-done)
 
 -- a number above the most, so that orders are halted too
 overfull : Board

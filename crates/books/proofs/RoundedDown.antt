@@ -1,13 +1,13 @@
 -- Rounded down.
 -- Assumes nothing.
-use Prim.Native.Nat.{ℕ, _+_, _*_, _/_, _%_, _<_, _≤_}
-use mathlib.Core.Path.{_≡_, refl, ap, sym, _∙_}
+use Prim.Native.Nat.{ℕ, _+_, _*_, _/_, _<_}
+use mathlib.Core.Path.{_≡_, refl, ap}
 use mathlib.Core.Bool.{Bool, true, false}
 use mathlib.Core.List.{List}
 use native.Mathlib.Omega.{arith}
 use native.Mathlib.Nat.{div-add-mod', mod-lt}
 use lib.Dec.{T, eqb}
-use lib.ListN.{getD, length, replicate, length-replicate}
+use lib.ListN.{getD, length, length-replicate}
 use borrow.Author.Tests.{eq-eqb, eqb-true, eqb-false}
 use Rattle.basics.specs.Choice.{if_then_else_}
 use Rattle.basics.proofs.ChoiceLaws.{is-true}
@@ -16,7 +16,7 @@ use Rattle.modules.specs.Groups.{moduleCount}
 use Rattle.frames.specs.declared.answer.Answer.the-variants.{Done}
 use Rattle.books.specs.Books.{bookNumbers, noneAbove}
 use Rattle.books.specs.Summary.{shareOf, shareIn, noShares, sharesOf, summaryOf}
-use Rattle.books.specs.RoundedDown.{allIn, Down, RoundedDown}
+use Rattle.books.specs.RoundedDown.{Down, RoundedDown}
 use Rattle.books.specs.declared.answer.BookAnswer.the-variants.{Plain}
 use Rattle.books.specs.declared.shares.Summary.{Summary}
 

@@ -1,29 +1,25 @@
 -- Every second is in the books.
 -- Assumes nothing.
-use Prim.Native.Nat.{ℕ, zero, suc, _+_, _<_, _≤_}
+use Prim.Native.Nat.{ℕ, zero, suc, _+_, _<_}
 use mathlib.Core.Path.{_≡_, refl, ap, subst, sym, _∙_}
 use mathlib.Core.Bool.{Bool, true, false, _&&_}
 use mathlib.Core.List.{List, [], _∷_, _++_}
 use native.Mathlib.Omega.{arith}
 use native.Mathlib.Nat.{zero-add}
 use lib.Dec.{T, eqb}
-use lib.ListN.{getD, length, take, replicate, getD-replicate}
+use lib.ListN.{length, take, replicate, getD-replicate}
 use Rattle.basics.specs.Choice.{if_then_else_}
 use Rattle.basics.specs.Outcome.{Outcome}
 use Rattle.modules.specs.Groups.{moduleCount}
-use Rattle.modules.specs.declared.masks.Masks.{Masks}
 use Rattle.frames.specs.Kind.{reportBytes}
 use Rattle.frames.specs.About.{isTick}
 use Rattle.supervisor.specs.History.{Call, aboutOf, called, doneTick, isDone}
 use Rattle.supervisor.specs.Report.{shownIn}
-use Rattle.supervisor.specs.declared.state.State.{State}
 use Rattle.books.specs.Answer.{bookNumber}
-use Rattle.books.specs.Books.{bookNumbers, mostSeconds, placeOf, shownAs, later, counted, noneAbove}
+use Rattle.books.specs.Books.{bookNumbers, placeOf, shownAs, later, noneAbove}
 use Rattle.books.specs.Step.{WithBooks, foundAfter}
-use Rattle.books.specs.History.{Board, calledWith, boardAfter, afterWith, doneTickWith, reportWith, tickReports}
-use Rattle.books.specs.Seconds.{those, secondsIn, anew, numberIn, TellOf, Seconds}
-use Rattle.books.specs.declared.answer.BookAnswer.{BookAnswer}
-use Rattle.books.specs.declared.answer.BookAnswer.the-variants.{Plain, Full, NotBooks}
+use Rattle.books.specs.History.{Board, boardAfter, afterWith, doneTickWith, reportWith, tickReports}
+use Rattle.books.specs.Seconds.{those, secondsIn, anew, numberIn, Seconds}
 use Rattle.books.specs.declared.step.Booked.{Booked}
 use Rattle.books.proofs.BooksLaws.{counted-length, counted-at, added-at, shown-small, none-above-at}
 use Rattle.books.proofs.CallLaws.{tick-shown}

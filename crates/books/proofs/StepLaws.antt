@@ -2,7 +2,7 @@
 -- Assumes nothing.
 use Prim.Native.Nat.{ℕ, _<_, _≤_}
 use mathlib.Core.Path.{_≡_, refl, ap, sym, _∙_}
-use mathlib.Core.Bool.{Bool, true, false, not, true≢false, false≢true}
+use mathlib.Core.Bool.{Bool, true, false, true≢false, false≢true}
 use mathlib.Core.List.{List, _++_}
 use lib.Dec.{eqb}
 use lib.ListN.{getD, length, take, drop}
@@ -15,10 +15,9 @@ use Rattle.supervisor.specs.History.{Call, called, doneTick}
 use Rattle.supervisor.specs.declared.state.State.{State}
 use Rattle.supervisor.specs.declared.step.Stepped.{Stepped}
 use Rattle.supervisor.proofs.StepLaws.{refused-left}
-use Rattle.books.specs.Books.{bookNumbers, shownAs, later, holdsLater, Kept, kept, keptOf, counted}
-use Rattle.books.specs.Step.{WithBooks, withBooks, halted, asPlain, isEarly, foundAfter, stepBooksOf}
+use Rattle.books.specs.Books.{bookNumbers, shownAs, later, holdsLater, Kept, kept, keptOf}
+use Rattle.books.specs.Step.{withBooks, halted, asPlain, isEarly, foundAfter, stepBooksOf}
 use Rattle.books.specs.declared.answer.BookAnswer.the-variants.{Plain, Full, NotBooks}
-use Rattle.books.specs.declared.step.Booked.{Booked}
 use Rattle.books.proofs.BooksLaws.{counted-same}
 use Rattle.books.proofs.CallLaws.{early-left, early-no-tick, short-early, tick-masks, blank, own-result, own-tick, own-report}
 

@@ -6,24 +6,18 @@ use mathlib.Core.Bool.{Bool, true, false, not, _&&_, true≢false, false≢true}
 use mathlib.Core.List.{List}
 use lib.Dec.{T, eqb}
 use lib.ListN.{length}
-use borrow.Author.Tests.{eqb-true}
 use Rattle.basics.specs.Outcome.{Outcome}
-use Rattle.basics.proofs.ChoiceLaws.{is-true, holds, and-right}
-use Rattle.frames.specs.Answer.{answerNumber}
-use Rattle.frames.specs.declared.answer.Answer.{Answer}
-use Rattle.frames.specs.declared.answer.Answer.the-variants.{Done, BadState, ShortRoom, NoInput}
-use Rattle.frames.specs.declared.answer.Answer.the-variants.{UnknownKind, BadLength, BadField, NotPermitted}
-use Rattle.frames.specs.declared.answer.Answer.the-variants.{Repeat, Stale, NotNow}
+use Rattle.basics.proofs.ChoiceLaws.{holds, and-right}
+use Rattle.frames.specs.declared.answer.Answer.the-variants.{BadState}
 use Rattle.supervisor.specs.Range.{inRange}
 use Rattle.supervisor.specs.History.{Call, called, doneTick, isDone}
 use Rattle.supervisor.specs.declared.step.Stepped.{Stepped}
 use Rattle.supervisor.proofs.HistoryLaws.{called-in-range}
 use Rattle.supervisor.proofs.StepLaws.{reported-valid, refused-left, step-outside}
-use Rattle.books.specs.Answer.{bookNumber, isBookReported}
+use Rattle.books.specs.Answer.{bookNumber, isBooks, isBookReported}
 use Rattle.books.specs.Books.{bookNumbers, later, holdsLater, noneAbove}
 use Rattle.books.specs.Step.{WithBooks, halted, asPlain, isEarly, foundAfter, isFull, stepBooksOf}
 use Rattle.books.specs.History.{Board, calledWith, boardOf, boardAfter}
-use Rattle.books.specs.Plain.{isBooks}
 use Rattle.books.specs.declared.answer.BookAnswer.{BookAnswer}
 use Rattle.books.specs.declared.answer.BookAnswer.the-variants.{Plain, Full, NotBooks}
 use Rattle.books.specs.declared.step.Booked.{Booked}
@@ -35,7 +29,7 @@ abbrev pub booksAfter : Board → Call → List ℕ
 booksAfter b c = later (doneTick (b .state) c) (foundAfter (b .state) c) (b .books)
 
 pub data Way (b : Board) (c : Call) : Type 0 where
-  halts : (a : BookAnswer) → isBooks (bookNumber a) ≡ true → calledWith b c ≡ halted a (b .state) (c .room) (b .books) → Way b c
+  halts : (a : BookAnswer) → isBooks a ≡ true → calledWith b c ≡ halted a (b .state) (c .room) (b .books) → Way b c
   plain : (T (noneAbove (b .books)) → T (noneAbove (booksAfter b c))) → calledWith b c ≡ asPlain (called (b .state) c) (booksAfter b c) → Way b c
 
 module _ (b : Board) (c : Call) where
@@ -70,33 +64,18 @@ module _ (b : Board) (c : Call) where
   way = by-size (eqb (length (b .books)) bookNumbers) refl
 
 -- 17 and 18 are not 0
-pub halted-undone : (tick : Bool) (a : BookAnswer) → isBooks (bookNumber a) ≡ true → (tick && isDone (bookNumber a)) ≡ false
-halted-undone tick a e = by tick (isDone (bookNumber a)) refl
-  where
-    by : (tick done : Bool) → isDone (bookNumber a) ≡ done → (tick && done) ≡ false
-    by false done f = refl
-    by true false f = refl
-    by true true f = absurd (false≢true (ap isBooks (sym (eqb-true (bookNumber a) 0 f)) ∙ e))
-
--- no plain answer is one of them
-pub plain-unhalted : (a : Answer) → isBooks (answerNumber a) ≡ false
-plain-unhalted Done = refl
-plain-unhalted BadState = refl
-plain-unhalted ShortRoom = refl
-plain-unhalted NoInput = refl
-plain-unhalted UnknownKind = refl
-plain-unhalted BadLength = refl
-plain-unhalted BadField = refl
-plain-unhalted NotPermitted = refl
-plain-unhalted Repeat = refl
-plain-unhalted Stale = refl
-plain-unhalted NotNow = refl
+pub halted-undone : (tick : Bool) (a : BookAnswer) → isBooks a ≡ true → (tick && isDone (bookNumber a)) ≡ false
+halted-undone tick (Plain answer) e = absurd (false≢true e)
+halted-undone true Full e = refl
+halted-undone false Full e = refl
+halted-undone true NotBooks e = refl
+halted-undone false NotBooks e = refl
 
 -- ---- the state
 
 -- the books' own answers have no report
-halted-silent : (a : BookAnswer) → isBooks (bookNumber a) ≡ true → isBookReported a ≡ false
-halted-silent (Plain answer) e = absurd (false≢true (sym (plain-unhalted answer) ∙ e))
+halted-silent : (a : BookAnswer) → isBooks a ≡ true → isBookReported a ≡ false
+halted-silent (Plain answer) e = absurd (false≢true e)
 halted-silent Full e = refl
 halted-silent NotBooks e = refl
 

@@ -12,6 +12,7 @@ use Rattle.supervisor.specs.History.{Call, aboutOf, isDone}
 use Rattle.supervisor.specs.declared.state.State.{State}
 use Rattle.books.specs.Answer.{bookNumber}
 use Rattle.books.specs.Step.{WithBooks, stepBooksOf}
+use Rattle.books.specs.declared.answer.BookAnswer.{BookAnswer}
 use Rattle.books.specs.declared.step.Booked.{Booked}
 
 -- the board between two calls: its state, and the books beside it
@@ -23,9 +24,9 @@ pub record Board : Type 0 where
 abbrev pub calledWith : Board → Call → Outcome (WithBooks Booked)
 calledWith b c = stepBooksOf (b .state) (c .input) (c .room) (b .books)
 
--- the number that it answers
-abbrev pub answeredWith : Board → Call → ℕ
-answeredWith b c = bookNumber (calledWith b c .result .result .answer)
+-- what it answers
+abbrev pub answerWith : Board → Call → BookAnswer
+answerWith b c = calledWith b c .result .result .answer
 
 -- the board that it leaves
 abbrev pub boardOf : Outcome (WithBooks Booked) → Board
@@ -42,7 +43,7 @@ afterWith b (c ∷ cs) = afterWith (boardAfter b c) cs
 
 -- a done tick: the input is a tick, and the answer 0
 abbrev pub doneTickWith : Board → Call → Bool
-doneTickWith b c = isTick (aboutOf c) && isDone (answeredWith b c)
+doneTickWith b c = isTick (aboutOf c) && isDone (bookNumber (answerWith b c))
 
 -- the report of a call
 abbrev pub reportWith : Board → Call → List ℕ

@@ -1,7 +1,7 @@
 -- The summary of the books: each module's share on, in thousandths.
 -- Assumes nothing.
 use Prim.Native.Nat.{ℕ, _+_, _*_, _/_}
-use mathlib.Core.Bool.{Bool, not}
+use mathlib.Core.Bool.{not}
 use mathlib.Core.List.{List, _++_}
 use lib.Dec.{eqb}
 use lib.ListN.{getD, length, take, drop, replicate}
@@ -10,7 +10,6 @@ use Rattle.basics.specs.Each.{each}
 use Rattle.modules.specs.Groups.{moduleCount}
 use Rattle.frames.specs.declared.answer.Answer.the-variants.{Done}
 use Rattle.books.specs.Books.{bookNumbers, placeOf, noneAbove}
-use Rattle.books.specs.declared.answer.BookAnswer.{BookAnswer}
 use Rattle.books.specs.declared.answer.BookAnswer.the-variants.{Plain, Full, NotBooks}
 use Rattle.books.specs.declared.shares.Summary.{Summary}
 

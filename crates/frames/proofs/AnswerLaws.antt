@@ -1,7 +1,7 @@
 -- Laws of answers.
 -- Assumes nothing.
-use mathlib.Core.Path.{_≡_, refl, ap, _∙_}
-use mathlib.Core.Bool.{not, false}
+use mathlib.Core.Path.{_≡_, refl, ap, sym, _∙_}
+use mathlib.Core.Bool.{Bool, true, false, not, true≢false}
 use lib.Dec.{T}
 use Rattle.basics.specs.Choice.{within}
 use Rattle.basics.proofs.ChoiceLaws.{is-true}
@@ -27,3 +27,10 @@ reported-number NotNow = refl
 
 pub refusal : (a : Answer) → T (within 1 7 (answerNumber a)) → isReported a ≡ false
 refusal a h = reported-number a ∙ ap not (is-true (within 1 7 (answerNumber a)) h)
+
+pub unreported : (a : Answer) → isReported a ≡ false → T (within 1 7 (answerNumber a))
+unreported a e = by (within 1 7 (answerNumber a)) (sym (reported-number a) ∙ e)
+  where
+    by : (t : Bool) → not t ≡ false → T t
+    by true f = tt
+    by false f = absurd (true≢false f)

@@ -6,7 +6,7 @@ use mathlib.Core.Path.{_≡_, refl, ap, sym, _∙_}
 use mathlib.Core.List.{List, [], _∷_, _++_}
 use Prim.Native.Nat.{ℕ, zero, suc, _+_, _-_, _*_, _/_, _%_, _^_, _<_, _≤_, min, max}
 use native.Mathlib.Omega.{arith}
-use native.Mathlib.Nat.{lt-of-lt-of-le, le-of-suc-le-suc, not-suc-le-zero, pow-suc, div-one}
+use native.Mathlib.Nat.{lt-of-lt-of-le, pow-suc, div-one}
 use lib.Bits.{bitAnd, bitOr, and-step, or-step, and-le-l}
 use lib.Count.{ones, onesIn, ones-step}
 use lib.Dec.{T, eqb, ltb, lit<, eqb-refl, eqb→eq}

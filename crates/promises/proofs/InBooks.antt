@@ -1,6 +1,5 @@
 -- The better battery, with books.
 -- Assumes nothing.
-use lib.ListN.{take}
 use Rattle.books.proofs.Plain.{unhalted-flies}
 use Rattle.promises.specs.InBooks.{keeping, InBooks}
 use Rattle.promises.proofs.TwoCraft.{two-craft}

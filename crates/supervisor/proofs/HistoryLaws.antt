@@ -58,7 +58,8 @@ pub data Comes (s : State) (c : Call) : Type 0 where
 pub wider : (n : ℕ) → T (within 3 7 n) → T (within 1 7 n)
 wider n t = within-of 1 7 n (omega (arith, within-low 3 7 n t)) (within-high 3 7 n t)
 
-not-zero : (tick : Bool) (n : ℕ) → T (within 1 7 n) → tick && eqb n 0 ≡ false
+-- what is refused is no done tick
+pub not-zero : (tick : Bool) (n : ℕ) → T (within 1 7 n) → tick && eqb n 0 ≡ false
 not-zero false n h = refl
 not-zero true n h = ne-eqb n 0 (omega (arith, within-low 1 7 n h))
 

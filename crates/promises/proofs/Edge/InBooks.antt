@@ -1,11 +1,10 @@
 -- The better battery, with books that may halt the better craft: it is false.
 -- Assumes nothing.
 use Prim.Native.Nat.{ℕ}
-use mathlib.Core.List.{List, [], _∷_, _++_}
+use mathlib.Core.List.{List, _∷_, _++_}
 use lib.Dec.{T, lit<, lit≤}
 use lib.ListN.{replicate}
 use Rattle.modules.specs.Groups.{adcsModule}
-use Rattle.supervisor.specs.History.{Call}
 use Rattle.supervisor.proofs.Rules.{rules}
 use Rattle.books.specs.Books.{mostSeconds, counted, noneAbove}
 use Rattle.books.specs.Step.{stepBooksOf}

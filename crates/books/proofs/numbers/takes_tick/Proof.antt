@@ -1,9 +1,8 @@
 -- `books::numbers::takes_tick` meets its contract: down to module m the numbers that it adds to are below the most.
-use Prim.Native.Nat.{ℕ, _-_, _<_, _≤_}
-use mathlib.Core.Path.{_≡_, refl, sym, _∙_}
-use mathlib.Core.Bool.{Bool, true, false}
+use Prim.Native.Nat.{_-_, _<_, _≤_}
+use mathlib.Core.Path.{_≡_, sym, _∙_}
+use mathlib.Core.Bool.{true, false}
 use native.Mathlib.Omega.{arith}
-use lib.ListN.{getD, length}
 use borrow.Author.Tests.{lt-ltb, le-ltb}
 use Rattle.basics.specs.Tables.{allBelow}
 use Rattle.basics.proofs.TablesLaws.{below-fails, below-on}

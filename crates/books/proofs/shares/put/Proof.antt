@@ -1,5 +1,5 @@
 -- `books::shares::put` meets its contract: the first i shares are copied.
-use Prim.Native.Nat.{ℕ, _+_, _-_, _*_, _<_, _≤_}
+use Prim.Native.Nat.{ℕ, _-_, _<_, _≤_}
 use mathlib.Core.Path.{_≡_, ap, sym, _∙_}
 use mathlib.Core.Bool.{_&&_, true≢false}
 use native.Mathlib.Omega.{arith}
