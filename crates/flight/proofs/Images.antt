@@ -1,22 +1,28 @@
 -- What the calls promise of every image: one that is the save of a state in range is worked as that state,
--- and any other bytes are refused with 1, with nothing moved. Assumes nothing.
+-- and any other bytes are refused with 1, with nothing moved; of a call with books, where 24 numbers are lent.
+-- Assumes nothing.
 use Prim.Native.Nat.{ℕ}
 use mathlib.Core.Path.{_≡_, refl}
-use mathlib.Core.Bool.{true}
+use mathlib.Core.Bool.{Bool, true, false}
 use mathlib.Core.List.{List}
 use mathlib.Core.Option.{Option, none, some}
+use lib.Dec.{eqb}
+use lib.ListN.{length}
+use borrow.Author.Tests.{eq-eqb}
 use Rattle.basics.specs.Outcome.{outcome, reply}
 use Rattle.supervisor.specs.Range.{inRange}
 use Rattle.supervisor.specs.Step.{stepOf}
 use Rattle.supervisor.specs.declared.state.State.{State}
 use Rattle.supervisor.proofs.ModuleLaws.{Eight}
 use Rattle.pass.specs.Pass.{passOf}
+use Rattle.books.specs.Books.{bookNumbers}
+use Rattle.books.specs.Step.{withBooks, stepBooksOf}
 use Rattle.beacon.specs.Writing.{beaconOf}
 use Rattle.beacon.specs.declared.text.Form.{Form}
 use Rattle.beacon.specs.declared.writing.Written.the-variants.{BadState}
 use Rattle.flight.specs.Saving.{saved}
 use Rattle.flight.specs.Loading.{loaded}
-use Rattle.flight.specs.Calls.{imaged, badState, steppedTo, stepImage, passedTo, passImage, beaconImage}
+use Rattle.flight.specs.Calls.{imaged, badState, steppedTo, stepImage, passedTo, passImage, bookedTo, stepBooksImage, beaconImage}
 use Rattle.flight.proofs.FieldsLaws.{AllBytes}
 use Rattle.flight.proofs.LoadSave.{load-save, save-load, loaded-in-range}
 
@@ -29,6 +35,15 @@ module _ (s : State) (e : inRange s ≡ true) (eight : Eight s) (room : List ℕ
   pub pass-image : (frames : List ℕ) → passImage (saved s) frames room ≡ passedTo (passOf s frames room)
   unfolding passImage
   pass-image frames = simp (load-save s e eight)
+
+  -- also with numbers that are no books
+  pub books-image : (frame books : List ℕ) → stepBooksImage (saved s) frame room books ≡ bookedTo (stepBooksOf s frame room books)
+  unfolding stepBooksImage stepBooksOf
+  books-image frame books = by (eqb (length books) bookNumbers) refl
+    where
+      by : (sized : Bool) → eqb (length books) bookNumbers ≡ sized → stepBooksImage (saved s) frame room books ≡ bookedTo (stepBooksOf s frame room books)
+      by true f = simp (f, load-save s e eight)
+      by false f = simp f
 
   pub beacon-image : (form : Form) → beaconImage form (saved s) room ≡ beaconOf form s room
   unfolding beaconImage
@@ -50,6 +65,11 @@ module _ (image room : List ℕ) (small : AllBytes image) (never : (s : State) �
   pub pass-bad : (frames : List ℕ) → passImage image frames room ≡ outcome (imaged (reply badState 0) image) room
   unfolding passImage
   pass-bad frames = simp no-state
+
+  pub books-bad :
+      (frame books : List ℕ) → length books ≡ bookNumbers → stepBooksImage image frame room books ≡ outcome (withBooks (imaged badState image) books) room
+  unfolding stepBooksImage
+  books-bad frame books size = simp (eq-eqb (length books) bookNumbers size, no-state)
 
   pub beacon-bad : (form : Form) → beaconImage form image room ≡ outcome BadState room
   unfolding beaconImage
