@@ -43,51 +43,50 @@ module _ (s : State) (h : T (inRange s)) (n : Eight s) where
   one-booked : (books : List ℕ) (c : Call) → stepBooksImage (saved s) (c .input) (c .room) books ≡ bookedTo (calledWith (beside books s) c)
   one-booked books c = books-image s (is-true (inRange s) h) n (c .room) (c .input) books
 
--- after frames and passes the image is that of the state after their flight, which has one
-record Stands (s : State) (hs : List Handed) : Type 0 where
-  image : imageAfter (saved s) hs ≡ saved (after s (flightOf s hs))
-  range : T (inRange (after s (flightOf s hs)))
-  eight : Eight (after s (flightOf s hs))
+-- an image is that of the state after a flight, which has one
+record Stands (image : List ℕ) (s : State) (flight : List Call) : Type 0 where
+  image-of : image ≡ saved (after s flight)
+  range : T (inRange (after s flight))
+  eight : Eight (after s flight)
 
-stands : (hs : List Handed) (s : State) → T (inRange s) → Eight s → Stands s hs
-stands [] s h n = record { image = refl; range = h; eight = n }
-stands (frame c ∷ hs) s h n =
-    let rest = stands hs (called s c .result .state) (called-in-range s c h) (called-eight s c n) in
+-- what is handed over next comes to some calls, and what follows goes on from there
+goes-on :
+    (hs : List Handed) (s next : State) (calls : List Call) (image : List ℕ) → next ≡ after s calls → image ≡ saved next →
+    Stands (imageAfter (saved next) hs) next (flightOf next hs) → Stands (imageAfter image hs) s (calls ++ flightOf next hs)
+goes-on hs s next calls image comes to rest =
+    let flight : after s (calls ++ flightOf next hs) ≡ after next (flightOf next hs) =
+    after-append calls (flightOf next hs) s ∙ ap (λ (t : State). after t (flightOf next hs)) (sym comes) in
     record {
-      image = ap (λ (o : Outcome (Imaged ℕ)). imageAfter (o .result .image) hs) (one-frame s h n c) ∙ rest .image;
-      range = rest .range;
-      eight = rest .eight;
-    }
-stands (pass p ∷ hs) s h n =
-    let one = pass-flies s p in
-    let rest = stands hs (passed s p .result .state) (pass-keeps-range s (p .input) (p .room) h) (rw one (after-eight (callsOf s p) s n)) in
-    let same = after-append (callsOf s p) (flightOf (passed s p .result .state) hs) s in
-    let flight : after s (callsOf s p ++ flightOf (passed s p .result .state) hs) ≡ after (passed s p .result .state) (flightOf (passed s p .result .state) hs) =
-    same ∙ ap (λ (t : State). after t (flightOf (passed s p .result .state) hs)) (sym one) in
-    record {
-      image = ap (λ (o : Outcome (Imaged Reply)). imageAfter (o .result .image) hs) (one-pass s h n p) ∙ rest .image ∙ ap saved (sym flight);
+      image-of = ap (λ (l : List ℕ). imageAfter l hs) to ∙ rest .image-of ∙ ap saved (sym flight);
       range = rw flight (rest .range);
       eight = rw flight (rest .eight);
     }
+
+stands : (hs : List Handed) (s : State) → T (inRange s) → Eight s → Stands (imageAfter (saved s) hs) s (flightOf s hs)
+stands [] s h n = record { image-of = refl; range = h; eight = n }
+stands (frame c ∷ hs) s h n =
+    let next : State = called s c .result .state in
+    goes-on hs s next (c ∷ []) (stepImage (saved s) (c .input) (c .room) .result .image) refl
+    (ap (λ (o : Outcome (Imaged ℕ)). o .result .image) (one-frame s h n c))
+    (stands hs next (called-in-range s c h) (called-eight s c n))
+stands (pass p ∷ hs) s h n =
+    let one = pass-flies s p in
+    goes-on hs s (passed s p .result .state) (callsOf s p) (passImage (saved s) (p .input) (p .room) .result .image) one
+    (ap (λ (o : Outcome (Imaged Reply)). o .result .image) (one-pass s h n p))
+    (stands hs (passed s p .result .state) (pass-keeps-range s (p .input) (p .room) h) (rw one (after-eight (callsOf s p) s n)))
 stands (booked books c ∷ hs) s h n =
     let b : Board = beside books s in
     let one : boardAfter b c .state ≡ after s (unhalted b (c ∷ [])) = plain-call .flies b (c ∷ []) in
-    let rest = stands hs (boardAfter b c .state) (booked-in-range b c h) (rw one (after-eight (unhalted b (c ∷ [])) s n)) in
-    let same = after-append (unhalted b (c ∷ [])) (flightOf (boardAfter b c .state) hs) s in
-    let flight : after s (unhalted b (c ∷ []) ++ flightOf (boardAfter b c .state) hs) ≡ after (boardAfter b c .state) (flightOf (boardAfter b c .state) hs) =
-    same ∙ ap (λ (t : State). after t (flightOf (boardAfter b c .state) hs)) (sym one) in
-    record {
-      image = ap (λ (o : Outcome (WithBooks (Imaged ℕ))). imageAfter (o .result .result .image) hs) (one-booked s h n books c) ∙ rest .image ∙ ap saved (sym flight);
-      range = rw flight (rest .range);
-      eight = rw flight (rest .eight);
-    }
+    goes-on hs s (boardAfter b c .state) (unhalted b (c ∷ [])) (stepBooksImage (saved s) (c .input) (c .room) books .result .result .image) one
+    (ap (λ (o : Outcome (WithBooks (Imaged ℕ))). o .result .result .image) (one-booked s h n books c))
+    (stands hs (boardAfter b c .state) (booked-in-range b c h) (rw one (after-eight (unhalted b (c ∷ [])) s n)))
 
 flies-from : (s : State) → T (inRange s) → Eight s → FliesFrom s
 flies-from s h n =
     record {
-      frames = λ hs c. let w = stands hs s h n in rw (w .image) (one-frame (after s (flightOf s hs)) (w .range) (w .eight) c);
-      passes = λ hs p. let w = stands hs s h n in rw (w .image) (one-pass (after s (flightOf s hs)) (w .range) (w .eight) p);
-      frames-booked = λ hs books c. let w = stands hs s h n in rw (w .image) (one-booked (after s (flightOf s hs)) (w .range) (w .eight) books c);
+      frames = λ hs c. let w = stands hs s h n in rw (w .image-of) (one-frame (after s (flightOf s hs)) (w .range) (w .eight) c);
+      passes = λ hs p. let w = stands hs s h n in rw (w .image-of) (one-pass (after s (flightOf s hs)) (w .range) (w .eight) p);
+      frames-booked = λ hs books c. let w = stands hs s h n in rw (w .image-of) (one-booked (after s (flightOf s hs)) (w .range) (w .eight) books c);
     }
 
 pub image-flies : ImageFlies
