@@ -14,11 +14,11 @@ use Rattle.supervisor.specs.Fresh.{freshState}
 use Rattle.supervisor.specs.Report.{modeByte}
 use Rattle.supervisor.specs.History.{Call, called, answered}
 use Rattle.supervisor.proofs.Rules.{rules}
-use Rattle.books.specs.Books.{bookNumbers, mostSeconds, counted, noneAbove}
+use Rattle.books.specs.Books.{bookNumbers, numberIn, mostSeconds, counted, noneAbove}
 use Rattle.books.specs.Answer.{bookNumber}
 use Rattle.books.specs.Step.{stepBooksOf}
 use Rattle.books.specs.History.{Board, answerWith, boardAfter, afterWith, tickReports}
-use Rattle.books.specs.Seconds.{those, anew, numberIn, SecondsOf}
+use Rattle.books.specs.Seconds.{those, anew, SecondsOf}
 use Rattle.books.specs.Plain.{PlainBut}
 use Rattle.books.specs.Summary.{sharesOf, summaryOf}
 use Rattle.books.specs.RoundedDown.{SharesBy}

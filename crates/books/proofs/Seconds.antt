@@ -16,10 +16,10 @@ use Rattle.frames.specs.About.{isTick}
 use Rattle.supervisor.specs.History.{Call, aboutOf, called, doneTick, isDone}
 use Rattle.supervisor.specs.Report.{shownIn}
 use Rattle.books.specs.Answer.{bookNumber}
-use Rattle.books.specs.Books.{bookNumbers, placeOf, shownAs, later, noneAbove}
+use Rattle.books.specs.Books.{bookNumbers, numberIn, placeOf, shownAs, later, noneAbove}
 use Rattle.books.specs.Step.{WithBooks, foundAfter}
 use Rattle.books.specs.History.{Board, boardAfter, afterWith, doneTickWith, reportWith, tickReports}
-use Rattle.books.specs.Seconds.{those, secondsIn, anew, numberIn, Seconds}
+use Rattle.books.specs.Seconds.{those, secondsIn, anew, Seconds}
 use Rattle.books.specs.declared.step.Booked.{Booked}
 use Rattle.books.proofs.BooksLaws.{counted-length, counted-at, added-at, shown-small, none-above-at}
 use Rattle.books.proofs.CallLaws.{tick-shown}

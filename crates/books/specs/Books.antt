@@ -32,6 +32,10 @@ secondOf (Failed left) = 2
 abbrev pub placeOf : (m second : ℕ) → ℕ
 placeOf m second = 3 * m + second
 
+-- one of them
+abbrev pub numberIn : (books : List ℕ) (m second : ℕ) → ℕ
+numberIn books m second = getD books (placeOf m second) 0
+
 -- what module m of a state is found as
 abbrev pub foundIn : State → (m : ℕ) → ℕ
 foundIn s m = secondOf (moduleAt m s .power)

@@ -7,8 +7,7 @@ use lib.Dec.{T}
 use lib.ListN.{getD, length}
 use Rattle.modules.specs.Groups.{moduleCount}
 use Rattle.frames.specs.declared.answer.Answer.the-variants.{Done}
-use Rattle.books.specs.Books.{bookNumbers, noneAbove}
-use Rattle.books.specs.Seconds.{numberIn}
+use Rattle.books.specs.Books.{bookNumbers, numberIn, noneAbove}
 use Rattle.books.specs.Summary.{summaryOf}
 use Rattle.books.specs.declared.answer.BookAnswer.the-variants.{Plain}
 

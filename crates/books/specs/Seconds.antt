@@ -6,13 +6,13 @@ use mathlib.Core.Path.{_≡_}
 use mathlib.Core.Bool.{Bool, true}
 use mathlib.Core.List.{List, [], _∷_}
 use lib.Dec.{eqb}
-use lib.ListN.{getD, length, replicate}
+use lib.ListN.{length, replicate}
 use Rattle.basics.specs.Choice.{if_then_else_}
 use Rattle.modules.specs.Groups.{moduleCount}
 use Rattle.supervisor.specs.Report.{shownIn}
 use Rattle.supervisor.specs.History.{Call}
 use Rattle.supervisor.specs.declared.state.State.{State}
-use Rattle.books.specs.Books.{bookNumbers, mostSeconds, placeOf, shownAs}
+use Rattle.books.specs.Books.{bookNumbers, mostSeconds, numberIn, shownAs}
 use Rattle.books.specs.History.{Board, afterWith, tickReports}
 
 -- the reports that count
@@ -30,10 +30,6 @@ secondsIn m second (report ∷ reports) =
 -- all zeros
 abbrev pub anew : State → Board
 anew s = record { state = s; books = replicate bookNumbers 0 }
-
--- number 3m + second of books
-abbrev pub numberIn : (books : List ℕ) (m second : ℕ) → ℕ
-numberIn books m second = getD books (placeOf m second) 0
 
 -- what the books tell of module m, given the reports
 pub record TellOf (books : List ℕ) (reports : List (List ℕ)) (m : ℕ) : Type 0 where

@@ -4,12 +4,12 @@ use Prim.Native.Nat.{ℕ, _+_, _*_, _/_}
 use mathlib.Core.Bool.{not}
 use mathlib.Core.List.{List, _++_}
 use lib.Dec.{eqb}
-use lib.ListN.{getD, length, take, drop, replicate}
+use lib.ListN.{length, take, drop, replicate}
 use Rattle.basics.specs.Choice.{if_then_else_}
 use Rattle.basics.specs.Each.{each}
 use Rattle.modules.specs.Groups.{moduleCount}
 use Rattle.frames.specs.declared.answer.Answer.the-variants.{Done}
-use Rattle.books.specs.Books.{bookNumbers, placeOf, noneAbove}
+use Rattle.books.specs.Books.{bookNumbers, numberIn, noneAbove}
 use Rattle.books.specs.declared.answer.BookAnswer.the-variants.{Plain, Full, NotBooks}
 use Rattle.books.specs.declared.shares.Summary.{Summary}
 
@@ -20,8 +20,7 @@ shareOf on off failed =
 
 -- the share on of module m
 abbrev pub shareIn : (books : List ℕ) → (m : ℕ) → ℕ
-shareIn books m =
-    shareOf (getD books (placeOf m 0) 0) (getD books (placeOf m 1) 0) (getD books (placeOf m 2) 0)
+shareIn books m = shareOf (numberIn books m 0) (numberIn books m 1) (numberIn books m 2)
 
 -- every share 0
 abbrev pub noShares : List ℕ
