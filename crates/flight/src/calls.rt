@@ -115,12 +115,12 @@ pub extern "C" fn ems_step_books(
         return Answer::BadState.number();
     }
     let state = decode(image);
-    let after = step_books(state, frame, room, books);
-    let answer = after.answer;
-    if answer.is_reported() {
-        save(after.state, image);
+    let booked = step_books(state, frame, room, books);
+    let given = booked.answer;
+    if given.is_reported() {
+        save(booked.state, image);
     }
-    answer.number()
+    given.number()
 }
 
 // Writes each module's share on, in thousandths, by the books; where these are refused, as many zeros as there is room for.
