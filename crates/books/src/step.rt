@@ -57,6 +57,7 @@ pub fn step_books(state: State, input: &[u8], room: &mut [u8], books: &mut [u64]
             state,
         };
     }
+    // The bytes are zeros where no report was written, so the second is a tick's kind at a done tick alone.
     if !keep(books, report[1] == TICK, next.masks) {
         return Booked {
             answer: BookAnswer::Full,
