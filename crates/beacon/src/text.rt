@@ -9,7 +9,7 @@ use frames::greeting::LONGEST;
 use supervisor::state::{Mode, State};
 
 // How much a beacon tells.
-#[derive(Drop)]
+#[derive(Clone, Copy)]
 pub enum Form {
     // mode and tension
     Basic,

@@ -14,7 +14,7 @@ use supervisor::state::State;
 const NO_MESSAGE: u8 = 21;
 
 // What writing a beacon's text answers: a case for each of the page's numbers.
-#[derive(Drop)]
+#[derive(Clone, Copy)]
 pub enum Written {
     // A text of so many bytes is in the room.
     Done(usize),

@@ -5,7 +5,7 @@ ghost use Rattle.books.specs.Answer.{book_number, is_book_reported};
 use frames::answer::Answer;
 
 // What the call without books answers, or why the books forbid it.
-#[derive(Drop)]
+#[derive(Clone, Copy)]
 pub enum BookAnswer {
     // 0 to 10: the plain call's own
     Plain(Answer),

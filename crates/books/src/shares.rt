@@ -7,7 +7,7 @@ use crate::answer::BookAnswer;
 use crate::numbers::MODULES;
 
 // The answer, and each module's share on in thousandths; every share is 0 at a refusal.
-#[derive(Drop)]
+#[derive(Clone, Copy)]
 pub struct Summary {
     pub answer: BookAnswer,
     pub shares: [u16; MODULES],

@@ -11,7 +11,7 @@ use supervisor::state::State;
 use supervisor::step::step;
 
 // The answer, and the next state.
-#[derive(Drop)]
+#[derive(Clone, Copy)]
 pub struct Booked {
     pub answer: BookAnswer,
     pub state: State,

@@ -1,4 +1,6 @@
 // How many modules are on.
+#![tactic(auto)]
+
 ghost use Rattle.std.specs.Prelude.{◌≡◌};
 ghost use Rattle.counting.specs.Counting.{modules_on_of};
 
@@ -6,7 +8,7 @@ use frames::answer::Answer;
 use supervisor::state::State;
 
 // The answer, 0 or 1, and how many modules are on; 0 at a refusal.
-#[derive(Drop)]
+#[derive(Clone, Copy)]
 pub struct ModulesOn {
     pub answer: Answer,
     pub count: u32,

@@ -5,7 +5,7 @@ ghost use Rattle.frames.specs.Command.{command_kind};
 use crate::kind::{GREETING, ORDER, THRESHOLDS, TIMED};
 
 // A command that passed checks 3 to 7.
-#[derive(Drop)]
+#[derive(Clone, Copy)]
 pub enum Command {
     // a module, by its number, is to be requested on or off
     Order { which: u8, on: bool },

@@ -5,7 +5,7 @@ ghost use Rattle.frames.specs.Cut.{cut_of, front_bytes};
 use crate::kind::total;
 
 // What stands at the front of bytes.
-#[derive(Drop)]
+#[derive(Clone, Copy)]
 pub enum Front {
     // a whole frame of so many bytes
     Frame(usize),

@@ -7,7 +7,7 @@ use crate::kind::{ANTENNAS, BATTERY, TICK};
 use crate::sender::Sender;
 
 // A frame that passed checks 3 to 7.
-#[derive(Drop)]
+#[derive(Clone, Copy)]
 pub enum Frame {
     // the mask of shorts seen in this second
     Tick(u8),
@@ -20,7 +20,7 @@ pub enum Frame {
 }
 
 // How a report names a frame: the kind answered, its origin and its serial.
-#[derive(Drop)]
+#[derive(Clone, Copy)]
 pub struct Head {
     pub kind: u8,
     pub origin: u8,

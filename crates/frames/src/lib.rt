@@ -1,5 +1,7 @@
 // Frames as they come in: where each ends, what the bytes say, who sent them, why they are refused, and how a report
 // names them.
+#![tactic(auto)]
+
 pub mod answer;
 pub mod command;
 pub mod cut;

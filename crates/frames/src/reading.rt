@@ -15,7 +15,7 @@ use crate::sender::{PAYLOAD, Sender, is_origin, origin_from};
 use modules::groups::is_mission;
 
 // What reading gives: the number of a refusal, or a frame.
-#[derive(Drop)]
+#[derive(Clone, Copy)]
 pub enum Reading {
     Refused(Answer),
     Accepted(Frame),

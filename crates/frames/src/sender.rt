@@ -3,7 +3,7 @@ ghost use Rattle.std.specs.Prelude.{◌≡◌};
 ghost use Rattle.frames.specs.Sender.{is_origin, origin_number, origin_from};
 
 // Who sent a command.
-#[derive(Drop)]
+#[derive(Clone, Copy)]
 pub enum Origin {
     // 1: ground, through MCS
     Ground,
@@ -12,7 +12,7 @@ pub enum Origin {
 }
 
 // A command's sender: its origin, and the serial that it has from there.
-#[derive(Drop)]
+#[derive(Clone, Copy)]
 pub struct Sender {
     pub origin: Origin,
     pub serial: u16,

@@ -5,14 +5,14 @@ ghost use Rattle.frames.specs.Serial.{class_of, last_of, moved_to};
 use crate::sender::Origin;
 
 // Each origin's last serial.
-#[derive(Drop)]
+#[derive(Clone, Copy)]
 pub struct Serials {
     pub ground: u16,
     pub payload: u16,
 }
 
 // A serial beside its origin's last.
-#[derive(Drop)]
+#[derive(Clone, Copy)]
 pub enum Class {
     // the last one again
     Repeat,

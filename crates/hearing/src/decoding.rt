@@ -12,7 +12,7 @@ const NO_TEXT: usize = LONGEST + 1;
 
 // What is heard of the sign at hand: its number without the last mark, and for how many units the key was down at that
 // mark, and then up.
-#[derive(Drop)]
+#[derive(Clone, Copy)]
 struct Ear {
     number: u8,
     down: usize,
@@ -27,7 +27,7 @@ const BEGUN: Ear = Ear {
 };
 
 // What a unit tells.
-#[derive(Drop)]
+#[derive(Clone, Copy)]
 enum Told {
     // The sign at hand goes on.
     On(Ear),

@@ -1,4 +1,6 @@
 // Beacon text out of telegraph units: `read` reads back what the crate `morse` keys, and nothing else.
+#![tactic(auto)]
+
 mod decoding;
 mod numbers;
 pub mod reading;

@@ -31,7 +31,7 @@ const DOT: usize = 1;
 const DASH: usize = 3;
 
 // A sign's number, and the byte that it stands for.
-#[derive(Drop)]
+#[derive(Clone, Copy)]
 struct Entry(u8, u8);
 
 // The letter of each sign's number in turn, and `_` for a number that no letter has.

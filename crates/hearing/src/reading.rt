@@ -10,7 +10,7 @@ use morse::answers::{DONE, NO_ROOM, NOT_A_KEYING};
 use morse::texts::LONGEST;
 
 // What reading answers: a case for each of the page's numbers.
-#[derive(Drop)]
+#[derive(Clone, Copy)]
 pub enum Heard {
     // A text of so many bytes is in the room.
     Done(usize),

@@ -10,14 +10,14 @@ use supervisor::state::State;
 use supervisor::step::step;
 
 // Where a log stands: the state, and the next frame's n.
-#[derive(Drop)]
+#[derive(Clone, Copy)]
 pub struct Log {
     pub state: State,
     pub n: u64,
 }
 
 // What the front of a stream gives.
-#[derive(Drop)]
+#[derive(Clone, Copy)]
 pub enum Entry {
     // a line of so many bytes for a frame of so many; the log goes on
     Line { frame: usize, line: usize },
@@ -30,7 +30,7 @@ pub enum Entry {
 }
 
 // An entry, and where the log stands after it.
-#[derive(Drop)]
+#[derive(Clone, Copy)]
 pub struct Entered {
     pub entry: Entry,
     pub log: Log,

@@ -6,7 +6,7 @@ ghost use Rattle.modules.specs.Ends.{no_ends, ends_fallen, ends_over, with_end, 
 use crate::groups::{ADCS, PAYLOAD, SBAND1, SBAND2};
 
 // Seconds until the module's request goes off; 0 where no end is running.
-#[derive(Drop)]
+#[derive(Clone, Copy)]
 pub struct Ends {
     pub adcs: u32,
     pub payload: u32,

@@ -8,7 +8,7 @@ ghost use Rattle.modules.specs.Masks.{below, packed_masks, are_masks_of, one_bit
 use crate::power::{Module, Power};
 
 // Bit i of each is module i.
-#[derive(Drop)]
+#[derive(Clone, Copy)]
 pub struct Masks {
     pub requested: u8,
     pub on: u8,

@@ -4,7 +4,7 @@ ghost use Rattle.modules.specs.Power.{one_try_fewer, started, stayed_on, switche
 ghost use Rattle.modules.specs.Power.{power_in_range, with_power, with_request};
 
 // What powers a module.
-#[derive(Drop)]
+#[derive(Clone, Copy)]
 pub enum Power {
     // powered, with tries left, and the seconds since its start that count towards having them all again
     On { tries: u8, seconds: u8 },
@@ -15,7 +15,7 @@ pub enum Power {
 }
 
 // A module: its power, and whether it is requested on.
-#[derive(Drop)]
+#[derive(Clone, Copy)]
 pub struct Module {
     pub power: Power,
     pub requested: bool,

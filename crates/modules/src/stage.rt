@@ -8,7 +8,7 @@ use crate::masks::{FAILED, ON, power_bits};
 use crate::power::Module;
 
 // The modules after the stage, with the masks of those on and those failed. It leaves the requests as they are.
-#[derive(Drop)]
+#[derive(Clone, Copy)]
 pub struct Staged {
     pub modules: [Module; 8],
     pub on: u8,

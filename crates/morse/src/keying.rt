@@ -11,7 +11,7 @@ use crate::texts::{Fault, fault_of};
 use crate::units::put_text;
 
 // What keying answers: a case for each of the page's numbers.
-#[derive(Drop)]
+#[derive(Clone, Copy)]
 pub enum Keyed {
     // So many units are in the room.
     Done(usize),

@@ -1,5 +1,7 @@
 // Beacon text in telegraph units: the signs and the timing of ITU-R M.1677-1.
 // `fault_of` says whether a text may be keyed, and `key` keys it. Reading a keying back is the crate `hearing`.
+#![tactic(auto)]
+
 pub mod answers;
 pub mod keying;
 mod signs;

@@ -7,7 +7,7 @@ ghost use Rattle.morse.specs.SignTable.{marks_of, HasSigns, first_sign, last_sig
 ghost use Rattle.morse.specs.SignTable.{figure_count, figure_marks};
 
 // A sign: its dashes as bits, the first mark lowest, and how many marks it has.
-#[derive(Drop)]
+#[derive(Clone, Copy)]
 pub(crate) struct Sign {
     pub(crate) marks: u8,
     pub(crate) len: u8,

@@ -13,7 +13,7 @@ pub const LONGEST: usize = 64;
 pub const SPACE: u8 = b' ';
 
 // Why a text may not be keyed: the first of the three refusals that applies, if any.
-#[derive(Drop)]
+#[derive(Clone, Copy)]
 pub enum Fault {
     Nothing,
     TextTooLong,
@@ -36,7 +36,7 @@ impl Fault {
 }
 
 // What one walk through a text finds.
-#[derive(Drop)]
+#[derive(Clone, Copy)]
 struct Seen {
     known: bool,
     doubled: bool,

@@ -1,5 +1,7 @@
 // Will the night hold? What the coming minutes make of a state, by their battery readings: the first tick after which a
 // downward crossing has happened.
+#![tactic(auto)]
+
 ghost use Rattle.std.specs.Prelude.{◌≡◌};
 ghost use Rattle.supervisor.specs.History.{called};
 ghost use Rattle.night.specs.Flight.{storing, quiet_tick, is_downward};
@@ -15,14 +17,14 @@ use supervisor::step::step;
 pub const MINUTE_TICKS: usize = 60;
 
 // The first tick after which a downward crossing has happened, counted from 1; or none.
-#[derive(Drop)]
+#[derive(Clone, Copy)]
 pub enum Found {
     None,
     Tick(u64),
 }
 
 // What is predicted: the answer, 0, 1 or 6, the tick found, and how many ticks were run; at a refusal none, and 0.
-#[derive(Drop)]
+#[derive(Clone, Copy)]
 pub struct Prediction {
     pub answer: Answer,
     pub found: Found,

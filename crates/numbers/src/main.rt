@@ -1,5 +1,7 @@
 // The numbers of document 01's "Numbers on either side" that are run and not proved; the longest keying, which fills
 // MOST_UNITS; and two craft on which COMM2, once ordered off, stays off over a crossing upward that one of them makes.
+#![tactic(auto)]
+
 use frames::answer::Answer;
 use frames::kind::{ANTENNAS, BATTERY, ORDER, REPORT_BYTES, TICK};
 use frames::sender::Origin;

@@ -1,4 +1,6 @@
 // A whole pass in one call: frames end to end, each worked as a single call would, and their reports end to end.
+#![tactic(auto)]
+
 ghost use Rattle.std.specs.Prelude.{◌≡◌};
 ghost use Rattle.basics.specs.Outcome.{outcome};
 ghost use Rattle.pass.specs.Pass.{work_of, pass_of};
@@ -10,7 +12,7 @@ use supervisor::state::State;
 use supervisor::step::step;
 
 // Where a pass leaves the board: the state, how many frames got a report, and why it stopped, 0 if no bytes are left.
-#[derive(Drop)]
+#[derive(Clone, Copy)]
 pub struct Passed {
     pub state: State,
     pub reported: usize,
@@ -18,7 +20,7 @@ pub struct Passed {
 }
 
 // One frame of a pass: its answer, how many bytes it has, and the state after it.
-#[derive(Drop)]
+#[derive(Clone, Copy)]
 struct Worked {
     answer: Answer,
     bytes: usize,

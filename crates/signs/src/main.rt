@@ -1,5 +1,7 @@
 // Each byte of the alphabet with its sign, as the library keys it, and the byte that reading that keying gives. What is no
 // mark, no sign or not read is a `!`, which is not of the alphabet.
+#![tactic(auto)]
+
 use hearing::Heard;
 use libc::STDOUT_FILENO;
 use morse::Keyed;

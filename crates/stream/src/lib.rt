@@ -1,5 +1,7 @@
 // A stream read piece by piece and logged: its lines are gathered in a room, and written whenever that is full or the
 // piece is done. No contract can say what is read or written; what a piece gives is piece's, and a line the log's.
+#![tactic(auto)]
+
 ghost use Rattle.std.specs.Prelude.{◌≡◌, ◌≤◌, length};
 
 use crate::piece::{fill, keep};
@@ -9,7 +11,7 @@ mod piece;
 
 // Where a stream stands: the log, how many bytes are read and not yet used, and whether the stream has ended and the
 // log is over.
-#[derive(Drop)]
+#[derive(Clone, Copy)]
 struct Stream {
     log: Log,
     unused: usize,

@@ -6,7 +6,7 @@ ghost use Rattle.stream.specs.Piece.{fill_of, keep_of};
 use log::entry::{Entry, Log, enter};
 
 // Where a piece leaves the log: the entry that ended it, the bytes used, and the bytes of the lines in the room.
-#[derive(Drop)]
+#[derive(Clone, Copy)]
 pub(crate) struct Filled {
     pub(crate) entry: Entry,
     pub(crate) log: Log,

@@ -6,7 +6,7 @@ use crate::state::State;
 use frames::answer::Answer;
 
 // The beacon that a tick makes due.
-#[derive(Drop)]
+#[derive(Clone, Copy)]
 pub enum Due {
     Nothing,
     Basic,
@@ -29,7 +29,7 @@ impl Due {
 }
 
 // The next state, the answer (0, 8, 9 or 10), and the beacon due.
-#[derive(Drop)]
+#[derive(Clone, Copy)]
 pub struct Acted {
     pub state: State,
     pub answer: Answer,

@@ -10,7 +10,7 @@ use crate::state::{Battery, Mode, State};
 use modules::groups::MISSION;
 
 // How a judged mode crosses.
-#[derive(Drop)]
+#[derive(Clone, Copy)]
 pub enum Crossing {
     // it stays
     Level,

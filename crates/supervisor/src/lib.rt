@@ -2,6 +2,8 @@
 // The walk of a frame: step, then frames (what the bytes say), then act (what it does), then report (what is written).
 // What act calls: tick (deploy, or ending, control, the module stage and due), news, command (message: a greeting's).
 // Acted, Due and Crossing are of no public call: they are exported because the promises name them.
+#![tactic(auto)]
+
 mod act;
 pub mod acted;
 mod command;

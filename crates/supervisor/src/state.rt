@@ -10,7 +10,7 @@ use modules::masks::Masks;
 use modules::power::Module;
 
 // The deploy phase, had in DEPLOY_WAIT and in no other mode.
-#[derive(Drop)]
+#[derive(Clone, Copy)]
 pub enum Phase {
     // seconds waited for the antennas
     Waiting(u32),
@@ -19,7 +19,7 @@ pub enum Phase {
 }
 
 // The mode; the later in this list is the better.
-#[derive(Drop)]
+#[derive(Clone, Copy)]
 pub enum Mode {
     DeployWait(Phase),
     Recovery,
@@ -27,7 +27,7 @@ pub enum Mode {
 }
 
 // The mode, and the counts of the control and the beacon stage.
-#[derive(Drop)]
+#[derive(Clone, Copy)]
 pub struct Watch {
     pub mode: Mode,
     pub control: u8,
@@ -35,7 +35,7 @@ pub struct Watch {
 }
 
 // The latest reading, 0 before the first, and the two thresholds: millivolts.
-#[derive(Drop)]
+#[derive(Clone, Copy)]
 pub struct Battery {
     pub tension: u16,
     pub ascend: u16,
@@ -43,7 +43,7 @@ pub struct Battery {
 }
 
 // What a school has the beacon say: the beacons that it is still to be sent with, and its text, none where the length is 0.
-#[derive(Drop)]
+#[derive(Clone, Copy)]
 pub struct Message {
     pub repeats: u8,
     pub length: u8,
@@ -51,7 +51,7 @@ pub struct Message {
 }
 
 // All that the board remembers from one frame to the next.
-#[derive(Drop)]
+#[derive(Clone, Copy)]
 pub struct State {
     pub watch: Watch,
     // whether the latest report has the antennas deployed

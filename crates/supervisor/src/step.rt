@@ -12,7 +12,7 @@ use frames::kind::REPORT_BYTES;
 use frames::reading::{Reading, read};
 
 // The answer, and the next state.
-#[derive(Drop)]
+#[derive(Clone, Copy)]
 pub struct Stepped {
     pub answer: Answer,
     pub state: State,

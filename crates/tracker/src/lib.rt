@@ -1,11 +1,13 @@
 // The panel tracker: it climbs a panel's power by moving a set point, a step a call.
 // One call keeps or turns the step by the power before and after the last move, and moves the set point by it.
+#![tactic(auto)]
+
 ghost use Rattle.std.specs.Prelude.{◌≤◌, ◌≡◌, T, neg_ℤ};
 ghost use Rattle.tracker.specs.Tracker.{most_millivolts, track_number, is_reading, is_step, power};
 ghost use Rattle.tracker.specs.Tracker.{headed, done, moved, track_of};
 
 // What a call answers.
-#[derive(Drop)]
+#[derive(Clone, Copy)]
 pub enum Answer {
     // 0: the set point has moved
     Done,
@@ -14,14 +16,14 @@ pub enum Answer {
 }
 
 // A panel's voltage and current.
-#[derive(Drop)]
+#[derive(Clone, Copy)]
 pub struct Reading {
     pub millivolts: u32,
     pub milliamperes: u32,
 }
 
 // What a call hands back: the answer, the set point in millivolts, and the step.
-#[derive(Drop)]
+#[derive(Clone, Copy)]
 pub struct Tracked {
     pub answer: Answer,
     pub point: u32,

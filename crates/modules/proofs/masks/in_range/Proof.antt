@@ -46,7 +46,7 @@ loop-holds c =
       done = sym (gathered_none packed packed_with packed_step 8 c.args.t1 eight ∙ packed_none);
     }
 
-sub-i : tie.Need-overflow-sub-i invariant-loop decreases-loop
+sub-i : tie.Need-overflow_sub-i invariant-loop decreases-loop
 sub-i c = search rules
 
 mul-m : tie.Need-overflow-mul-m invariant-loop decreases-loop
@@ -55,7 +55,7 @@ mul-m c = search rules
 array-copy-out-m : tie.Need-array-copy-out-m invariant-loop decreases-loop
 array-copy-out-m c = search rules
 
-in-range-requires : tie.Need-in-range-requires invariant-loop decreases-loop
+in-range-requires : tie.Need-in_range-requires invariant-loop decreases-loop
 in-range-requires c κs = search rules
 
 -- a module is out of range
@@ -67,20 +67,20 @@ returns c =
     (ap (λ (b : Bool). b && are_masks_of here.before.args.t1 here.before.args.masks)
     (one_out _ here.before.args.t1 _ (omega arith) (sym c.before.in_range_law.ensures ∙ not-true c.before.in_range_law.result c.if1.true)))
 
-mul-all : tie.Need-overflow-mul-all invariant-loop decreases-loop
+mul-all : tie.Need-overflow_mul-all invariant-loop decreases-loop
 mul-all c =
     let here : tie.At-loop invariant-loop decreases-loop = c.before.before.before.before in
     omega (arith, room here (search rules))
 
-power-bits-requires : tie.Need-power-bits-requires invariant-loop decreases-loop
+power-bits-requires : tie.Need-power_bits-requires invariant-loop decreases-loop
 power-bits-requires c κs = search rules
 
-add-all : tie.Need-overflow-add-all invariant-loop decreases-loop
+add-all : tie.Need-overflow_add-all invariant-loop decreases-loop
 add-all c =
     let here : tie.At-loop invariant-loop decreases-loop = c.before.before.before.before.before in
     omega (arith, room here (search rules), rw (← c.power-bits.ensures) at (power_bits_small (taken here).power))
 
-request-bit-requires : tie.Need-request-bit-requires invariant-loop decreases-loop
+request-bit-requires : tie.Need-request_bit-requires invariant-loop decreases-loop
 request-bit-requires c κs = search rules
 
 add-all-2 : tie.Need-overflow-add-all-2 invariant-loop decreases-loop

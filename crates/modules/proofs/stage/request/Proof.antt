@@ -18,7 +18,7 @@ invariant-loop mask on next₀ rest₀ i₀ next rest i = record { low : i ≤ 8
 abbrev decreases-loop : tie.decreases-loop
 decreases-loop mask on next₀ rest₀ i₀ next rest i = 8 - i
 
-add-rest : tie.Need-overflow-add-rest invariant-loop decreases-loop
+add-rest : tie.Need-overflow_add-rest invariant-loop decreases-loop
 add-rest c = search rules
 
 loop-holds : tie.Need-loop-init invariant-loop decreases-loop
@@ -33,7 +33,7 @@ mul-m c = search rules
 array-copy-out-m : tie.Need-array-copy-out-m invariant-loop decreases-loop
 array-copy-out-m c = search (rules, marked_more)
 
-with-request-requires : tie.Need-with-request-requires invariant-loop decreases-loop
+with-request-requires : tie.Need-with_request-requires invariant-loop decreases-loop
 with-request-requires c κs = search rules
 
 mul_next : tie.Need-overflow-mul-next invariant-loop decreases-loop
@@ -42,7 +42,7 @@ mul_next c = search rules
 array-set-from-next : tie.Need-array-set-from-next invariant-loop decreases-loop
 array-set-from-next c = search (rules, marked_more)
 
-add-i : tie.Need-overflow-add-i invariant-loop decreases-loop
+add-i : tie.Need-overflow_add-i invariant-loop decreases-loop
 add-i c = search rules
 
 loop-less : tie.Need-loop-smaller invariant-loop decreases-loop

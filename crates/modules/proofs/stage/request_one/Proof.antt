@@ -15,7 +15,7 @@ mul-m c = search rules
 array-copy-out-m : tie.Need-array-copy-out-m
 array-copy-out-m c = search rules
 
-with-request-requires : tie.Need-with-request-requires
+with-request-requires : tie.Need-with_request-requires
 with-request-requires c κs = search rules
 
 mul-asked : tie.Need-overflow-mul-asked

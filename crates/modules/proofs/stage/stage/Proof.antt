@@ -34,7 +34,7 @@ invariant-loop wanted shorts next₀ rest₀ want₀ all₀ i₀ next rest want 
 abbrev decreases-loop : tie.decreases-loop
 decreases-loop wanted shorts next₀ rest₀ want₀ all₀ i₀ next rest want all i = 8 - i
 
-add-rest : tie.Need-overflow-add-rest invariant-loop decreases-loop
+add-rest : tie.Need-overflow_add-rest invariant-loop decreases-loop
 add-rest c = search rules
 
 loop-holds : tie.Need-loop-init invariant-loop decreases-loop
@@ -57,7 +57,7 @@ array-copy-out-m c = search (rules, marked_more)
 second-requires : tie.Need-second-requires invariant-loop decreases-loop
 second-requires c κs = search rules
 
-with-power-requires : tie.Need-with-power-requires invariant-loop decreases-loop
+with-power-requires : tie.Need-with_power-requires invariant-loop decreases-loop
 with-power-requires c κs = search rules
 
 mul_next : tie.Need-overflow-mul-next invariant-loop decreases-loop
@@ -66,18 +66,18 @@ mul_next c = search rules
 array-set-from-next : tie.Need-array-set-from-next invariant-loop decreases-loop
 array-set-from-next c = search (rules, marked_more)
 
-power-bits-requires : tie.Need-power-bits-requires invariant-loop decreases-loop
+power-bits-requires : tie.Need-power_bits-requires invariant-loop decreases-loop
 power-bits-requires c κs = search rules
 
-mul-all : tie.Need-overflow-mul-all invariant-loop decreases-loop
+mul-all : tie.Need-overflow_mul-all invariant-loop decreases-loop
 mul-all c = omega (arith, rw (← c.power-bits.ensures) at (power_bits_small c.before.before.second.result))
 
-add-all : tie.Need-overflow-add-all invariant-loop decreases-loop
+add-all : tie.Need-overflow_add-all invariant-loop decreases-loop
 add-all c =
     let here : tie.At-loop invariant-loop decreases-loop = c.before.before.before.before.before in
     omega (arith, here.loop.invariant.small, rw (← c.power-bits.ensures) at (power_bits_small c.before.before.second.result))
 
-add-i : tie.Need-overflow-add-i invariant-loop decreases-loop
+add-i : tie.Need-overflow_add-i invariant-loop decreases-loop
 add-i c = search rules
 
 loop-less : tie.Need-loop-smaller invariant-loop decreases-loop

@@ -19,7 +19,7 @@ fallen-requires-4 c κs = search rules
 
 returns : tie.Need-returns
 unfolding ends_fallen
-returns c = simp (c.fallen4.ensures, c.before.fallen3.ensures, c.before.before.fallen2.ensures, c.before.before.before.fallen.ensures)
+returns c = simp (c.fallen-4.ensures, c.before.fallen-3.ensures, c.before.before.fallen-2.ensures, c.before.before.before.fallen.ensures)
 
 pub fall-spec : {M : Type 1} → statement M
 fall-spec =

@@ -4,7 +4,7 @@ use lib.Bits.{and_le_l}
 use Rattle.modules.proofs.masks.Masks.request.Statement.{statement}
 use Rattle.modules.proofs.masks.Masks.request.Tie as tie
 
-sub_self : tie.Need-overflow-sub-self
+sub_self : tie.Need-overflow_sub-self
 sub_self c = and_le_l _ _
 
 returns : tie.Need-returns
