@@ -7,10 +7,10 @@
  * What the proof takes from you, and cannot check:
  *   - every pointer is non-null, also where its length is 0;
  *   - every length is true: that many bytes may be read there (and written,
- *     where the pointer isn't const), or that many numbers, of `books`, `shares`
- *     and `readings`, which are aligned as their type asks;
- *   - no two buffers of one call overlap, and `count`, `reported`, `found` or `ran`
- *     lies outside of all; nor do `set_point` and `step`, or `found` and `ran`;
+ *     where the pointer isn't const), or that many numbers, of `books` and
+ *     `shares`, which are aligned as their type asks;
+ *   - no two buffers of one call overlap, and `count` or `reported` lies outside
+ *     of all; nor do `set_point` and `step`;
  *   - one caller at a time for any one buffer, and for any one such number.
  *
  * What every call that takes an image catches: one bit turned in a mask, or in a
@@ -145,10 +145,9 @@ enum ems_answer {
     EMS_UNKNOWN_KIND = 4,   /* kind not 01 to 07 */
     EMS_BAD_LENGTH = 5,     /* input length not the kind's total */
     EMS_BAD_FIELD = 6,      /* a field outside its range, descend above ascend, a
-                               timed order for one of the core four, a greeting
-                               whose text ems_key refuses or whose bytes past its
-                               length are not all 0, or a planned battery reading
-                               outside its range */
+                               timed order for one of the core four, or a
+                               greeting whose text ems_key refuses or whose bytes
+                               past its length are not all 0 */
     EMS_NOT_PERMITTED = 7,  /* the payload asks for what only the ground may */
     EMS_REPEAT = 8,         /* serial a repeat; there is a report */
     EMS_STALE = 9,          /* serial stale; there is a report */
@@ -264,27 +263,6 @@ uint8_t ems_step_books(uint8_t *image, size_t image_len,
  * fewer are lent. Shares past them stay. */
 uint8_t ems_summary(const uint64_t *books, size_t books_len,
                     uint16_t *shares, size_t shares_len);
-
-/* Tells whether the night will hold: when a board in this state would first fall from
- * SAFE to RECOVERY, if the coming minutes' battery readings were these. Each reading,
- * in millivolts, 5,000 to 9,000, is stored as a battery frame stores it; then 60 ticks
- * without shorts go by. No other frame comes, and no more than `limit` ticks are run.
- * The image stays.
- *
- * Answers, in this order:
- *   EMS_BAD_STATE   the image
- *   EMS_BAD_FIELD   any reading is out of range, one that the limit would never get
- *                   to as well; no tick is run
- *   EMS_DONE        `*found` is the first tick, counted from 1, after which the mode is
- *                   RECOVERY where it was SAFE before it, and `*ran` is the same; or
- *                   `*found` is 0, there is none, and `*ran` is the smaller of `limit`
- *                   and 60 times `readings_len`
- * `*found` and `*ran` are always written, with 0 at a refusal. A larger limit leaves a
- * tick that was found as it is. One call runs up to 60 ticks for each reading: `limit`
- * bounds its time. */
-uint8_t ems_night(const uint8_t *image, size_t image_len,
-                  const uint16_t *readings, size_t readings_len,
-                  uint64_t limit, uint64_t *found, uint64_t *ran);
 
 /* Write the beacon's text of a state, and its length to `*count`. Answers:
  * EMS_BAD_STATE, then EMS_NO_ROOM, both with `*count` 0 and the text untouched;

@@ -3,11 +3,10 @@
  * twice: over the library, and with -DPEER over the C version in peer/.
  *
  * A stream: what is called ('s' step, 'b' step with books, 'p' pass, 'o' step for one
- * frame of a pass after the other, 'h' a night that holds, of which a tick counts as a call,
- * 'f' a night that falls, 'n' number of modules on, 'm' summary of the books, 'e' extended
- * beacon, 'k' key, 'r' read, 't' tracker), an image, the numbers of the books (8 bytes each,
- * as they stand in memory), the number of inputs (2 bytes, big-endian), and for each its
- * length (2) and its bytes. */
+ * frame of a pass after the other, 'n' number of modules on, 'm' summary of the books, 'e'
+ * extended beacon, 'k' key, 'r' read, 't' tracker), an image, the numbers of the books (8
+ * bytes each, as they stand in memory), the number of inputs (2 bytes, big-endian), and for
+ * each its length (2) and its bytes. */
 #define _POSIX_C_SOURCE 199309L
 #include <stdio.h>
 #include <stdlib.h>
@@ -17,7 +16,6 @@
 #include "peer/books.h"
 #include "peer/ems.h"
 #include "peer/morse.h"
-#include "peer/night.h"
 #include "peer/track.h"
 #define IMAGE_BYTES 71
 #define KEY peer_key
@@ -38,13 +36,10 @@
 #define ROUND 10000
 #define NUMBERS 24
 #define SHARES 8
-/* A night of 12 hours: a reading for each minute, 60 ticks for each reading. */
-#define MINUTES 720
-#define NIGHT (60 * MINUTES)
 
 static uint8_t file[1 << 16], room[2048];
 static uint64_t books[NUMBERS];
-static uint16_t shares[SHARES], readings[MINUTES];
+static uint16_t shares[SHARES];
 static struct { const uint8_t *bytes; size_t length; } inputs[4096];
 
 static unsigned two(const uint8_t *at) { return (unsigned)(at[0] << 8 | at[1]); }
@@ -93,11 +88,6 @@ static uint8_t step_books(const uint8_t *frame, size_t length, uint8_t *report, 
     return peer_step_books(&state, frame, length, report, left, books, NUMBERS);
 }
 
-static uint8_t predict(size_t minutes, uint64_t limit, uint64_t *found, uint64_t *ran)
-{
-    return peer_night(&state, readings, minutes, limit, found, ran);
-}
-
 static uint8_t modules_on(size_t *count) { return peer_modules_on(&state, count); }
 
 static uint8_t extended(size_t *written) { return peer_beacon_extended(&state, room, sizeof room, written); }
@@ -114,11 +104,6 @@ static uint8_t step(const uint8_t *frame, size_t length, uint8_t *report, size_t
 static uint8_t step_books(const uint8_t *frame, size_t length, uint8_t *report, size_t left)
 {
     return ems_step_books(state, sizeof state, frame, length, report, left, books, NUMBERS);
-}
-
-static uint8_t predict(size_t minutes, uint64_t limit, uint64_t *found, uint64_t *ran)
-{
-    return ems_night(state, sizeof state, readings, minutes, limit, found, ran);
 }
 
 static uint8_t modules_on(size_t *count) { return ems_modules_on(state, sizeof state, count); }
@@ -163,16 +148,6 @@ static uint8_t pass(const uint8_t *frames, size_t length, size_t *written)
 }
 #endif
 
-/* The readings of a night, as they stand in memory: what comes of it up to a limit of
- * ticks, as one number. */
-static uint32_t night(const uint8_t *bytes, size_t length, uint64_t limit)
-{
-    uint64_t found, ran;
-    memcpy(readings, bytes, length);
-    uint32_t answer = predict(length / sizeof readings[0], limit, &found, &ran);
-    return answer + 31 * (uint32_t)found + (uint32_t)ran;
-}
-
 /* How many modules are on, and the answer, as one number. */
 static uint32_t number_on(void)
 {
@@ -197,7 +172,7 @@ int main(int argc, char **argv)
 {
     FILE *in = argc == 3 ? fopen(argv[1], "rb") : NULL;
     if (!in || fread(file, 1, sizeof file, in) < IMAGE_BYTES + sizeof books + 3) return 1;
-    long n = atol(argv[2]), ticks = file[0] == 'h' ? NIGHT : 1;
+    long n = atol(argv[2]);
     const uint8_t call = file[0], *image = file + 1, *numbers = image + IMAGE_BYTES, *at = numbers + sizeof books;
     unsigned count = two(at), next = 0;
     at += 2;
@@ -210,7 +185,7 @@ int main(int argc, char **argv)
     size_t written = 11;
     struct timespec begin, end;
     clock_gettime(CLOCK_MONOTONIC, &begin);
-    for (long i = 0, left = 0; i < n; i += ticks, left--) {
+    for (long i = 0, left = 0; i < n; i++, left--) {
         if (left == 0) { put_back(image); memcpy(books, numbers, sizeof books); left = ROUND; next = 0; }
         const uint8_t *bytes = inputs[next].bytes;
         size_t length = inputs[next].length;
@@ -224,8 +199,6 @@ int main(int argc, char **argv)
         else if (call == 'e') sum += extended(&written);
         else if (call == 'p') sum += pass(bytes, length, &written);
         else if (call == 'o') sum += one_by_one(bytes, length, &written);
-        else if (call == 'h') sum += night(bytes, length, (uint64_t)(n - i));
-        else if (call == 'f') sum += night(bytes, length, UINT64_MAX);
         else sum += track(bytes);
     }
     clock_gettime(CLOCK_MONOTONIC, &end);

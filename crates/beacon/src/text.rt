@@ -119,8 +119,8 @@ fn greeted(complete: [u8; COMPLETE_BYTES], message: [u8; LONGEST]) -> [u8; MOST_
     ensures { result ≡ complete ++ (space ∷ message) }
 {
     let mut all = [b' '; MOST_BYTES];
-    bytes::copy(&complete, &mut all);
-    bytes::copy(&message, &mut all[GREETED_BYTES..]);
+    basics::copy(&complete, &mut all);
+    basics::copy(&message, &mut all[GREETED_BYTES..]);
     all
 }
 

@@ -65,7 +65,7 @@ pub fn write(state: State, form: Form, text: &mut [u8]) -> Written
         return Written::NoRoom;
     }
     let all = full_text(state);
-    Written::Done(bytes::copy(&all[0..n], text))
+    Written::Done(basics::copy(&all[0..n], text))
 }
 
 // The basic text: mode and tension.

@@ -65,7 +65,7 @@ pub fn step_books(state: State, input: &[u8], room: &mut [u8], books: &mut [u64]
         };
     }
     if answer.is_reported() {
-        bytes::copy(&report, room);
+        basics::copy(&report, room);
     }
     Booked {
         answer: BookAnswer::Plain(answer),

@@ -18,8 +18,6 @@ use Rattle.pass.specs.Pass.{pass_of}
 use Rattle.pass.specs.declared.Passed.{Passed}
 use Rattle.counting.specs.Counting.{modules_on_of}
 use Rattle.counting.specs.declared.ModulesOn.{ModulesOn}
-use Rattle.night.specs.Night.{found_number, predict_of}
-use Rattle.night.specs.declared.Prediction.{Prediction}
 use Rattle.books.specs.Books.{book_numbers}
 use Rattle.books.specs.Answer.{book_number}
 use Rattle.books.specs.Step.{WithBooks, with_books, step_books_of}
@@ -94,29 +92,6 @@ modules_on_loaded (some s) = modules_on_reply (modules_on_of s)
 -- how many are on in an image
 unfoldable pub modules_on_image : (image : List ℕ) → Reply
 modules_on_image image = modules_on_loaded (loaded image)
-
--- a prediction: the number of its answer, the tick found, 0 for none, and the ticks run
-pub record Nights : Type 0 where
-  pub number : ℕ
-  pub found : ℕ
-  pub ran : ℕ
-
--- from its three parts
-abbrev pub nights : (number found ran : ℕ) → Nights
-nights number found ran = record { number = number; found = found; ran = ran }
-
--- what is predicted, in the page's terms
-abbrev pub predicted_to : Prediction → Nights
-predicted_to p = nights (answer_number p.answer) (found_number p.found) p.ran
-
--- of what was loaded; where that is nothing, 1 and no tick
-abbrev pub night_loaded : Option State → (readings : List ℕ) (limit : ℕ) → Nights
-night_loaded none readings limit = nights bad_state 0 0
-night_loaded (some s) readings limit = predicted_to (predict_of s readings limit)
-
--- of an image
-unfoldable pub night_image : (image readings : List ℕ) (limit : ℕ) → Nights
-night_image image readings limit = night_loaded (loaded image) readings limit
 
 -- what a step with books leaves, as bytes
 abbrev pub booked_to : Outcome (WithBooks Booked) → Outcome (WithBooks (Imaged ℕ))

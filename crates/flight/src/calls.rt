@@ -7,7 +7,7 @@ ghost use Rattle.beacon.specs.Writing.{written_reply};
 ghost use Rattle.beacon.specs.declared.text.Form.TheVariants as form;
 ghost use Rattle.books.specs.Step.{with_books};
 ghost use Rattle.flight.specs.Calls.{imaged, fresh_image, step_image, pass_image, step_books_image, summary_reply};
-ghost use Rattle.flight.specs.Calls.{modules_on_image, nights, night_image, beacon_image, replied, ReadReplied};
+ghost use Rattle.flight.specs.Calls.{modules_on_image, beacon_image, replied, ReadReplied};
 ghost use Rattle.flight.specs.Calls.{tracks, tracks_of};
 
 use crate::loading::{decode, has_layout};
@@ -93,33 +93,6 @@ pub extern "C" fn ems_modules_on(image: &[u8], count: &mut usize) -> u8
     let on = counting::modules_on(state);
     let answer = on.answer;
     *count = on.count as usize;
-    answer.number()
-}
-
-// Tells the first tick of the coming minutes that crosses downward, one reading a minute, 0 if none does up to the limit,
-// and how many ticks were run.
-#[unsafe(no_mangle)]
-pub extern "C" fn ems_night(
-    image: &[u8],
-    readings: &[u16],
-    limit: u64,
-    found: &mut u64,
-    ran: &mut u64,
-) -> u8
-    ensures { nights result found.new ran.new
-        ≡ night_image image.now readings.now limit }
-{
-    if !has_layout(image) {
-        *found = 0;
-        *ran = 0;
-        return Answer::BadState.number();
-    }
-    let state = decode(image);
-    let predicted = night::predict(state, readings, limit);
-    let answer = predicted.answer;
-    let first = predicted.found;
-    *found = first.number();
-    *ran = predicted.ran;
     answer.number()
 }
 

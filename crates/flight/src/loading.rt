@@ -33,7 +33,7 @@ fn message_in(image: &[u8]) -> Message
     ensures { result ≡ message_in image.now }
 {
     let mut text = [0u8; LONGEST];
-    bytes::copy(&image[TEXT_PLACE..ENDS_PLACE], &mut text);
+    basics::copy(&image[TEXT_PLACE..ENDS_PLACE], &mut text);
     Message {
         repeats: image[MESSAGE_PLACE],
         length: image[MESSAGE_PLACE + 1],

@@ -98,7 +98,7 @@ fn put_message(message: Message, image: &mut [u8])
     image[MESSAGE_PLACE] = message.repeats;
     image[MESSAGE_PLACE + 1] = message.length;
     let text = message.text;
-    bytes::copy(&text, &mut image[TEXT_PLACE..]);
+    basics::copy(&text, &mut image[TEXT_PLACE..]);
 }
 
 // Stores the four ends.
@@ -145,7 +145,7 @@ pub(crate) fn save(state: State, image: &mut [u8])
 {
     let modules = state.modules;
     let front = head(state);
-    bytes::copy(&front, image);
+    basics::copy(&front, image);
     put_message(state.message, image);
     put_ends(state.ends, image);
     put_masks(state.masks, image);

@@ -61,7 +61,7 @@ pub fn text_of(bytes: &[u8]) -> [u8; LONGEST]
 {
     let mut text = [0u8; LONGEST];
     if bytes.len() == GREETING_BYTES {
-        bytes::copy(&bytes[TEXT_PLACE..], &mut text);
+        basics::copy(&bytes[TEXT_PLACE..], &mut text);
     }
     text
 }

@@ -54,5 +54,5 @@ pub fn read(units: &[u8], text: &mut [u8]) -> Heard
     if text.len() < n {
         return Heard::NoRoom;
     }
-    Heard::Done(bytes::copy(&kept[0..n], text))
+    Heard::Done(basics::copy(&kept[0..n], text))
 }

@@ -18,7 +18,6 @@ pub mod TwoCore
 pub mod TwoCraft
 pub mod Passes
 pub mod InBooks
-pub mod BetterNight
 pub mod Serials
 pub mod WordLaws
 pub mod Requests

@@ -1,7 +1,6 @@
 pub mod TwoCraft
 pub mod Passes
 pub mod InBooks
-pub mod BetterNight
 pub mod Serials
 pub mod InRange
 pub mod Deployment

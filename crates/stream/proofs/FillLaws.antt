@@ -13,13 +13,13 @@ use lib.ListN.{length, take, drop, length-append, length-drop}
 use lib.Seq.{length-take-le, take-append-add, drop-append-add, drop-drop}
 use Rattle.basics.specs.Outcome.{Outcome, outcome}
 use Rattle.basics.proofs.PartLaws.{part_from, lent_back, part_from_law, lent_back_law}
-use Rattle.log.specs.Entry.{enter_of}
-use Rattle.log.specs.declared.entry.Entered.{Entered}
-use Rattle.log.specs.declared.entry.Entry.{Entry}
-use Rattle.log.specs.declared.entry.Entry.TheVariants.{Line, Last, More, Full}
-use Rattle.log.specs.declared.entry.Log.{Log}
-use Rattle.log.specs.contracts.entry.Entry.{the_type}
-use Rattle.log.proofs.EntryLaws.{Within, enter_within, enter_length, line_within}
+use Rattle.frame_log.specs.Entry.{enter_of}
+use Rattle.frame_log.specs.declared.entry.Entered.{Entered}
+use Rattle.frame_log.specs.declared.entry.Entry.{Entry}
+use Rattle.frame_log.specs.declared.entry.Entry.TheVariants.{Line, Last, More, Full}
+use Rattle.frame_log.specs.declared.entry.Log.{Log}
+use Rattle.frame_log.specs.contracts.entry.Entry.{the_type}
+use Rattle.frame_log.proofs.EntryLaws.{Within, enter_within, enter_length, line_within}
 use Rattle.stream.specs.Piece.{ending, following, continued, fill_up_to, fill_of}
 use Rattle.stream.specs.declared.piece.Filled.{Filled}
 

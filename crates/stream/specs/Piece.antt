@@ -2,10 +2,10 @@
 -- Assumes nothing.
 use Rattle.std.specs.Prelude.{ℕ, zero, suc, ◌+◌, ◌-◌, Bool, List, ◌++◌, length, take, drop}
 use Rattle.basics.specs.Outcome.{Outcome, outcome, written}
-use Rattle.log.specs.Entry.{enter_of}
-use Rattle.log.specs.declared.entry.Entry.{Entry}
-use Rattle.log.specs.declared.entry.Entry.TheVariants.{Line, Last, More, Full}
-use Rattle.log.specs.declared.entry.Log.{Log}
+use Rattle.frame_log.specs.Entry.{enter_of}
+use Rattle.frame_log.specs.declared.entry.Entry.{Entry}
+use Rattle.frame_log.specs.declared.entry.Entry.TheVariants.{Line, Last, More, Full}
+use Rattle.frame_log.specs.declared.entry.Log.{Log}
 use Rattle.stream.specs.declared.piece.Filled.{Filled}
 
 -- an entry that ends a piece, with the bytes of its line

@@ -5,7 +5,7 @@
 ghost use Rattle.std.specs.Prelude.{◌≡◌, ◌≤◌, length};
 
 use crate::piece::{fill, keep};
-use log::entry::{Entry, Log, fresh};
+use frame_log::entry::{Entry, Log, fresh};
 
 mod piece;
 

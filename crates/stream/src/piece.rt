@@ -3,7 +3,7 @@ ghost use Rattle.std.specs.Prelude.{◌≡◌, ◌≤◌, length};
 ghost use Rattle.basics.specs.Outcome.{outcome};
 ghost use Rattle.stream.specs.Piece.{fill_of, keep_of};
 
-use log::entry::{Entry, Log, enter};
+use frame_log::entry::{Entry, Log, enter};
 
 // Where a piece leaves the log: the entry that ended it, the bytes used, and the bytes of the lines in the room.
 #[derive(Clone, Copy)]

@@ -1,10 +1,9 @@
 //! The library by itself: all of it that has a budget.
 
 use crate::budget::{Row, CONSTANTS};
-use crate::drive::drive;
 use crate::measure::{self, Bench, Program, Result};
 use crate::stack;
-use crate::streams::{streams, Stream};
+use crate::streams::{self, streams, Stream};
 
 /// How the names of its calls begin, and no other function's.
 pub const EXPORTED: &str = "ems_";
@@ -39,7 +38,7 @@ pub fn costs(bench: &Bench) -> Result<Vec<Row>> {
 /// would be cheap.
 fn agrees(program: &Program, stream: &Stream) -> Result<()> {
     let (_, given) = program.timed(stream.counted)?;
-    let (_, wanted) = drive(stream, stream.counted);
+    let (_, wanted) = streams::drive(stream, stream.counted);
     match given == wanted {
         true => Ok(()),
         false => Err(format!("{}: library and model differ", stream.name).into()),

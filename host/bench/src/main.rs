@@ -5,7 +5,6 @@
 #![forbid(unsafe_code)]
 
 mod budget;
-mod drive;
 mod library;
 mod measure;
 mod page;
@@ -71,7 +70,7 @@ fn drive(place: &str, calls: &str) -> Result<()> {
     let place: usize = place.parse()?;
     let streams = streams();
     let stream = streams.get(place).ok_or("no such stream")?;
-    let (nanoseconds, sum) = drive::drive(stream, calls.parse()?);
+    let (nanoseconds, sum) = streams::drive(stream, calls.parse()?);
     println!("{nanoseconds} {sum}");
     Ok(())
 }

@@ -51,7 +51,7 @@ impl Bench {
             print_of(gcc.arg("-o").arg(&object))?;
             Ok(object)
         };
-        ["books", "ems", "morse", "night", "track"]
+        ["books", "ems", "morse", "track"]
             .into_iter()
             .map(object)
             .collect()

@@ -4,17 +4,17 @@ use model::books::{Books, MOST_SECONDS, NUMBERS};
 use model::message::Message;
 use model::state::{Mode, Module, Power, END_SECONDS, TRIES};
 use model::table::{
-    BATTERY, FROM_GROUND, GREETING, MISSION, ORDER, PAYLOAD, THRESHOLDS, TICK, TIMED,
+    BATTERY, FROM_GROUND, GREETING, MISSION, MODULES, ORDER, PAYLOAD, THRESHOLDS, TICK, TIMED,
 };
-use model::{image, State};
+use model::track::Reading;
+use model::{calls, frame, image, report, State};
 
 /// A row of the table.
 pub struct Stream {
     /// What it says there.
     pub name: &'static str,
     /// What is called: `s` step, `b` step with books, `p` pass, `o` step for one frame of
-    /// a pass after the other, `h` a night that holds, of which a tick counts as a call,
-    /// `f` a night that falls, `n` number of modules on, `m` summary of the books, `e`
+    /// a pass after the other, `n` number of modules on, `m` summary of the books, `e`
     /// extended beacon, `k` key, `r` read, `t` tracker.
     pub call: u8,
     /// The image to start from.
@@ -55,7 +55,7 @@ const PUNCTUATION: &[u8] = b".,?/.,?/.,?/.,?/.,?/.,?/.,?/.,?/.,?/.,?/.,?/.,?/.,?
 
 /// A board in a mode, charged so that it stays there, every module that may be
 /// on is, and has all its tries.
-pub fn board(mode: Mode) -> State {
+fn board(mode: Mode) -> State {
     let mut state = State::fresh();
     state.mode = mode;
     state.tension = if mode == Mode::Safe { 8_000 } else { 7_200 };
@@ -144,7 +144,7 @@ const PASSES: u16 = 10;
 /// A pass as the main computer collects it in 90 seconds of SAFE: their ticks, two
 /// readings, and of the ground six orders, a timed one and thresholds. Serials are
 /// 800 apart: each is fresh, also where the passes go round.
-pub fn pass(i: u16) -> Vec<u8> {
+fn pass(i: u16) -> Vec<u8> {
     let [adcs, payload, sband1, sband2] = MISSION;
     let mut orders = [
         vec![ORDER, adcs, 1],
@@ -175,25 +175,6 @@ pub fn pass(i: u16) -> Vec<u8> {
     frames
 }
 
-/// The minutes of a night of 12 hours, each with its reading.
-const MINUTES: usize = 720;
-
-/// The ticks of such a night.
-pub const NIGHT: u64 = 60 * MINUTES as u64;
-
-/// A night's readings as the drivers read them.
-fn night(reading: impl Fn(usize) -> u16) -> Vec<u8> {
-    (0..MINUTES)
-        .flat_map(|minute| reading(minute).to_le_bytes())
-        .collect()
-}
-
-/// The readings of such an input.
-pub fn readings(input: &[u8]) -> Vec<u16> {
-    let reading = |bytes: &[u8]| u16::from_le_bytes([bytes[0], bytes[1]]);
-    input.chunks_exact(2).map(reading).collect()
-}
-
 /// All rows.
 pub fn streams() -> Vec<Stream> {
     let frames = |name, call, board: State, inputs| Stream {
@@ -206,11 +187,6 @@ pub fn streams() -> Vec<Stream> {
     };
     let step = |name, board, inputs| frames(name, b's', board, inputs);
     let booked = |name, board, inputs| frames(name, b'b', board, inputs);
-    // Every minute's reading is the one that keeps the board in its mode.
-    let predicted = |name, board: State| {
-        let inputs = vec![night(|_| board.tension)];
-        frames(name, b'h', board, inputs)
-    };
     let quiet = || vec![vec![TICK, 0x00]];
     // Every module is shorted in one second of 62: it starts again in the next, and the
     // other 60 are those after which it has all its tries.
@@ -267,10 +243,8 @@ pub fn streams() -> Vec<Stream> {
             board(Mode::Waiting(0)),
             quiet(),
         ),
-        predicted("tick in DEPLOY_WAIT, predicted", board(Mode::Waiting(0))),
         step("tick in RECOVERY", board(Mode::Recovery), quiet()),
         step("tick in RECOVERY, shorts", board(Mode::Recovery), shorts()),
-        predicted("tick in RECOVERY, predicted", board(Mode::Recovery)),
         step("tick in SAFE", board(Mode::Safe), quiet()),
         step("tick in SAFE, shorts", board(Mode::Safe), shorts()),
         step(
@@ -280,11 +254,6 @@ pub fn streams() -> Vec<Stream> {
         ),
         step("tick in SAFE, a message kept", greeted(Mode::Safe), quiet()),
         booked("tick in SAFE, with books", board(Mode::Safe), quiet()),
-        predicted("tick in SAFE, predicted", board(Mode::Safe)),
-        predicted(
-            "tick in SAFE, a message kept, predicted",
-            greeted(Mode::Safe),
-        ),
         step("order, done", board(Mode::Safe), all(order)),
         booked("order, done, with books", board(Mode::Safe), all(order)),
         step("timed order, done", board(Mode::Safe), all(timed)),
@@ -301,14 +270,6 @@ pub fn streams() -> Vec<Stream> {
         ),
         passes("pass of 100 frames", b'p'),
         passes("the same 100 frames, one call each", b'o'),
-        Stream {
-            name: "night that falls at tick 30",
-            call: b'f',
-            image: image::save(&board(Mode::Safe)),
-            books: BEGUN,
-            inputs: vec![night(|minute| if minute == 0 { 6_999 } else { 8_000 })],
-            counted: 1_000,
-        },
         Stream {
             name: "modules on",
             call: b'n',
@@ -352,11 +313,97 @@ pub fn streams() -> Vec<Stream> {
     ]
 }
 
+/// The model's drive: as `drive.c`, in Rust.
+pub fn drive(stream: &Stream, calls: u64) -> (u128, u64) {
+    let mut image = stream.image;
+    let mut books = stream.books;
+    let mut shares = [0; MODULES.len()];
+    let mut room = [0; 2_048];
+    let mut written = report::BYTES;
+    let mut sum: u64 = 0;
+    let mut inputs = stream.inputs.iter().cycle();
+    let begin = std::time::Instant::now();
+    for call in 0..calls {
+        if call % 10_000 == 0 {
+            image = stream.image;
+            books = stream.books;
+            inputs = stream.inputs.iter().cycle();
+        }
+        let input = inputs.next().map_or(&[][..], Vec::as_slice);
+        let answer: u32 = match stream.call {
+            b't' => track(input),
+            b's' => calls::step(&mut image, input, &mut room[..report::BYTES]).into(),
+            b'b' => {
+                let room = &mut room[..report::BYTES];
+                calls::step_books(&mut image, input, room, &mut books).into()
+            }
+            b'p' => reported(calls::pass(&mut image, input, &mut room), &mut written),
+            b'o' => reported(one_by_one(&mut image, input, &mut room), &mut written),
+            b'n' => number_on(calls::modules_on(&image)),
+            b'm' => calls::summary(&books, &mut shares).into(),
+            b'e' => counted(calls::beacon_extended(&image, &mut room), &mut written),
+            b'k' => counted(calls::key(input, &mut room), &mut written),
+            _ => counted(calls::read(input, &mut room), &mut written),
+        };
+        sum = sum.wrapping_add(answer.into());
+    }
+    let nanoseconds = begin.elapsed().as_nanos();
+    let bytes = room[..written].iter().map(|byte| u64::from(*byte));
+    let shares = shares.iter().map(|share| u64::from(*share));
+    for number in bytes.chain(books).chain(shares) {
+        sum = sum.wrapping_mul(31).wrapping_add(number);
+    }
+    (nanoseconds, sum)
+}
+
+fn counted((answer, count): (u8, usize), written: &mut usize) -> u32 {
+    *written = count;
+    answer.into()
+}
+
+fn reported((answer, reports): (u8, usize), written: &mut usize) -> u32 {
+    counted((answer, report::BYTES * reports), written)
+}
+
+/// How many modules are on, and the answer, as one number: as `drive.c`.
+fn number_on((answer, count): (u8, usize)) -> u32 {
+    u32::from(answer) + 31 * count as u32
+}
+
+/// What the tracker makes of a move, as one number: as `drive.c`.
+fn track(input: &[u8]) -> u32 {
+    let number = |place: usize| {
+        let bytes = input[4 * place..4 * place + 4].try_into();
+        u32::from_le_bytes(bytes.expect("four bytes"))
+    };
+    let reading = |place| Reading {
+        millivolts: number(place),
+        milliamperes: number(place + 1),
+    };
+    let (mut set_point, mut step) = (number(4), number(5) as i32);
+    let answer = calls::track(reading(0), reading(2), &mut set_point, &mut step);
+    let sum = u32::from(answer).wrapping_add(set_point.wrapping_mul(31));
+    sum.wrapping_add(step as u32)
+}
+
+/// A pass by single calls: as `drive.c`.
+fn one_by_one(image: &mut [u8], mut frames: &[u8], mut room: &mut [u8]) -> (u8, usize) {
+    let mut reported = 0;
+    while !frames.is_empty() {
+        let (frame, rest) = frame::cut(frames);
+        match calls::step(image, frame, room) {
+            refusal @ 1..=7 => return (refusal, reported),
+            _ => reported += 1,
+        }
+        frames = rest;
+        room = &mut room[report::BYTES..];
+    }
+    (0, reported)
+}
+
 #[cfg(test)]
 mod tests {
     use super::*;
-    use model::report;
-    use model::track::Reading;
 
     /// Twice round, one pass after the other: what they say they are.
     #[test]
@@ -400,26 +447,25 @@ mod tests {
         assert_eq!(MOVES.each_ref().map(next), wanted.map(Ok));
     }
 
-    /// What nights say they are: those that hold run all their ticks, the one that falls
-    /// does at its first control.
-    #[test]
-    fn nights_hold_and_fall() {
-        for stream in streams() {
-            let wanted = match stream.call {
-                b'h' => (0, 0, NIGHT),
-                b'f' => (0, 30, 30),
-                _ => continue,
-            };
-            let readings = readings(&stream.inputs[0]);
-            let given = model::calls::night(&stream.image, &readings, u64::MAX);
-            assert_eq!(given, wanted, "{}", stream.name);
-        }
-    }
-
     /// What each module was on of its time, in thousandths: what the books say they are.
     #[test]
     fn the_books_are_mixed() {
         let wanted = [1_000, 0, 0, 333, 142, 999, 0, 333];
         assert_eq!(model::books::shares(&MIXED), Ok(wanted));
+    }
+
+    /// A refusal, too, is the same by single calls as by one, and so are the room
+    /// and the image.
+    #[test]
+    fn single_calls_come_to_the_same() {
+        let refused = [0x04, 2, 0, 1, 3, 1];
+        for tail in [&[][..], &[TICK], &[GREETING], &[0x08], &refused] {
+            let frames = [&pass(0), tail].concat();
+            let start = image::save(&board(Mode::Safe));
+            let (mut one, mut each) = ((start, [0; 2_048]), (start, [0; 2_048]));
+            let by_one = calls::pass(&mut one.0, &frames, &mut one.1);
+            let by_each = one_by_one(&mut each.0, &frames, &mut each.1);
+            assert_eq!((by_one, one), (by_each, each), "{tail:02X?}");
+        }
     }
 }

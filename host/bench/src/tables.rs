@@ -4,7 +4,7 @@
 use crate::library::{BY_VALUE, EXPORTED};
 use crate::measure::{self, Bench, Program, Result};
 use crate::stack;
-use crate::streams::{streams, Stream, NIGHT};
+use crate::streams::{streams, Stream};
 use std::env;
 use std::path::{Path, PathBuf};
 
@@ -30,8 +30,6 @@ pub fn measured(bench: &Bench) -> Result<String> {
     lines.push("");
     calls(bench, &library, &c, &mut lines)?;
     lines.push("");
-    nights(bench, &library, &c, &mut lines)?;
-    lines.push("");
     growth(bench, &library, &mut lines)?;
     lines.push("");
     sizes(bench, &library, &c, &c_objects, &mut lines)?;
@@ -45,102 +43,55 @@ fn calls(bench: &Bench, library: &Path, c: &Path, lines: &mut Lines) -> Result<(
          ns: library | C | model |",
     );
     lines.push("|---|---:|---:|---:|---:|---:|---:|---:|---:|");
+    let own = env::current_exe()?;
     for (place, stream) in streams().iter().enumerate() {
-        let programs = programs(bench, library, c, place, stream)?;
+        let file = bench.stream_file(place, stream)?;
+        let programs = [
+            Program::new(library, file.clone()),
+            Program::new(c, file),
+            Program::new(&own, place.to_string()),
+        ];
         lines.push(row(stream, &programs)?);
     }
     Ok(())
 }
 
-/// The three sides of a stream.
-fn programs(
-    bench: &Bench,
-    library: &Path,
-    c: &Path,
-    place: usize,
-    stream: &Stream,
-) -> Result<[Program; 3]> {
-    let file = bench.stream_file(place, stream)?;
-    Ok([
-        Program::new(library, file.clone()),
-        Program::new(c, file),
-        Program::new(&env::current_exe()?, place.to_string()),
-    ])
-}
-
-/// The nanoseconds that each side takes for so many calls, once all agree on what they
-/// have done.
-fn times(stream: &Stream, programs: &[Program; 3], calls: u64) -> Result<Vec<f64>> {
+/// The stream's row, once all sides agree on what they have done.
+fn row(stream: &Stream, programs: &[Program; 3]) -> Result<String> {
+    let timed = match stream.call {
+        b's' | b'b' | b't' | b'n' | b'm' => 1_000_000,
+        _ => 20_000,
+    };
+    let mut counts = Vec::new();
     let mut times = Vec::new();
     let mut sums = Vec::new();
     for program in programs {
-        let (nanoseconds, sum) = program.best_of_five(calls)?;
-        times.push(nanoseconds);
+        counts.push(program.instructions_a_call(stream)?);
+        let (nanoseconds, sum) = program.best_of_five(timed)?;
+        times.push(nanoseconds / timed as f64);
         sums.push(sum);
     }
-    match sums.iter().all(|sum| *sum == sums[0]) {
-        true => Ok(times),
-        false => Err(format!("{}: the sides differ, {sums:?}", stream.name).into()),
+    if sums.iter().any(|sum| *sum != sums[0]) {
+        return Err(format!("{}: the sides differ, {sums:?}", stream.name).into());
     }
-}
-
-/// The stream's row.
-fn row(stream: &Stream, programs: &[Program; 3]) -> Result<String> {
-    let timed = match stream.call {
-        b's' | b'b' | b'h' | b't' | b'n' | b'm' => 1_000_000,
-        _ => 20_000,
+    let [library, c, model] = counts[..] else {
+        return Err("not three programs".into());
     };
-    let [library, c, model] = programs;
-    let by_value = by_value(stream, library)?;
-    let library = library.instructions_a_call(stream)?;
-    let c = c.instructions_a_call(stream)?;
-    let model = model.instructions_a_call(stream)?;
-    let times = times(stream, programs, timed)?;
-    let a_call = |place: usize| times[place] / timed as f64;
     Ok(format!(
-        "| {} | {library:.0} | {by_value} | {c:.0} | {model:.0} | {:.2} | {:.1} | {:.1} | {:.1} |",
+        "| {} | {library:.0} | {} | {c:.0} | {model:.0} | {:.2} | {:.1} | {:.1} | {:.1} |",
         stream.name,
+        by_value(stream, &programs[0])?,
         library / c,
-        a_call(0),
-        a_call(1),
-        a_call(2)
+        times[0],
+        times[1],
+        times[2]
     ))
-}
-
-/// What a night of 12 hours costs, a call by itself.
-fn nights(bench: &Bench, library: &Path, c: &Path, lines: &mut Lines) -> Result<()> {
-    lines.push(
-        "| a night of 12 hours, in one call | instructions: library | C | model | library / C | \
-         ms: library | C | model |",
-    );
-    lines.push("|---|---:|---:|---:|---:|---:|---:|---:|");
-    for (place, stream) in streams().iter().enumerate() {
-        if stream.call != b'h' {
-            continue;
-        }
-        let programs = programs(bench, library, c, place, stream)?;
-        let night = |program: &Program| -> Result<f64> {
-            Ok(program.instructions(NIGHT)? - program.instructions(0)?)
-        };
-        let [library, c, model] = &programs;
-        let (library, c, model) = (night(library)?, night(c)?, night(model)?);
-        let times = times(stream, &programs, NIGHT)?;
-        lines.push(format!(
-            "| each a {} | {library:.0} | {c:.0} | {model:.0} | {:.2} | {:.1} | {:.1} | {:.1} |",
-            stream.name,
-            library / c,
-            times[0] / 1e6,
-            times[1] / 1e6,
-            times[2] / 1e6
-        ));
-    }
-    Ok(())
 }
 
 /// What the library's step takes by value, of a stream of frames.
 fn by_value(stream: &Stream, library: &Program) -> Result<String> {
     Ok(match stream.call {
-        b's' | b'b' | b'p' | b'o' | b'h' | b'f' => {
+        b's' | b'b' | b'p' | b'o' => {
             let instructions = library.instructions_within(BY_VALUE, stream)?;
             format!("{instructions:.0}")
         }
@@ -153,7 +104,7 @@ fn growth(bench: &Bench, library: &Path, lines: &mut Lines) -> Result<()> {
     lines.push("| call | instructions of 100,000 over those of 10,000 |");
     lines.push("|---|---:|");
     for (place, stream) in streams().iter().enumerate() {
-        if !matches!(stream.call, b's' | b'b' | b'h') {
+        if !matches!(stream.call, b's' | b'b') {
             continue;
         }
         let program = Program::new(library, bench.stream_file(place, stream)?);

@@ -1,9 +1,8 @@
 //! The cases of `tests/vectors/calls`: calls that are no log, and what must come of
 //! them. They were made by an implementation that shares nothing with ours.
 //!
-//! [`read`] reads any of the files; [`pass`], [`track`], [`modules_on`], [`books`],
-//! [`summary`] and [`night`] make the calls of one each, on the model or on the compiled
-//! library.
+//! [`read`] reads any of the files; [`pass`], [`track`], [`modules_on`], [`books`] and
+//! [`summary`] make the calls of one each, on the model or on the compiled library.
 
 #![forbid(unsafe_code)]
 #![deny(missing_docs)]
@@ -12,7 +11,6 @@ mod board;
 pub mod books;
 mod line;
 pub mod modules_on;
-pub mod night;
 pub mod pass;
 mod read;
 pub mod summary;

@@ -2,12 +2,13 @@
 //! numbers: the model has no part in it. And their failures, made short.
 
 use crate::compare::books::{self, Entered, Summed};
-use crate::compare::{hex, of_both};
+use crate::compare::hex;
 use crate::shrink::{shrink, Shot, NOT_TWICE};
 use crate::sides::Calls;
 use model::books::{MOST_SECONDS, NUMBERS};
 use model::report::Report;
 use model::table::{MODULES, TICK};
+use std::fmt::Display;
 
 /// A frame with its reply room, and the numbers lent.
 pub type Entry = (Shot, Vec<u64>);
@@ -58,6 +59,11 @@ fn look(sides: &[Calls; 2], image: &[u8], entry: &Entry) -> Result<Entered, Stri
         true => Ok(given),
         false => Err(format!("given:   {given}\nwanted:  {wanted}")),
     }
+}
+
+/// The outcomes of both sides, a line each.
+fn of_both<T: Display>([library, model]: &[T; 2]) -> String {
+    format!("library: {library}\nmodel:   {model}")
 }
 
 /// Takes a frame with books; or tells of the call, made short.

@@ -41,19 +41,6 @@ pub fn tensions(state: &State) -> [u16; 6] {
     about.map(|tension| tension.clamp(LOWEST, HIGHEST))
 }
 
-/// A reading about the thresholds, at an end of the range, or anywhere in it.
-pub fn reading(rng: &mut Rng, state: &State) -> u16 {
-    let any = rng.between(LOWEST, HIGHEST);
-    let about = rng.pick(&tensions(state));
-    rng.pick(&[LOWEST, HIGHEST, about, about, any])
-}
-
-/// The frame that brings a reading.
-pub fn battery(reading: u16) -> Vec<u8> {
-    let [high, low] = reading.to_be_bytes();
-    vec![BATTERY, high, low]
-}
-
 /// Frames of a flight: seven judgements or so.
 const FRAMES: usize = 250;
 
@@ -64,7 +51,10 @@ pub fn flight(rng: &mut Rng) -> (State, Vec<Shot>) {
     let state = images::state_in(rng, mode);
     let mut serial = state.last.ground;
     let mut next = || match rng.below(24) {
-        0 => battery(rng.pick(&tensions(&state))),
+        0 => {
+            let [high, low] = rng.pick(&tensions(&state)).to_be_bytes();
+            vec![BATTERY, high, low]
+        }
         1 | 2 => {
             serial = serial.wrapping_add(1);
             order(rng, serial)

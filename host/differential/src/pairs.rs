@@ -1,7 +1,7 @@
 //! Frames for two craft from a seed: the same on both, but that the second's battery
 //! reads as high or higher.
 
-use crate::crossings::{battery, reading};
+use crate::crossings::tensions;
 use crate::frames::{Maker, Stream};
 use crate::rng::Rng;
 use crate::shrink::Shot;
@@ -26,6 +26,11 @@ pub fn second((frame, more, _): &Leg) -> Vec<u8> {
         return frame.clone();
     }
     battery(HIGHEST.min(reading.saturating_add(*more)))
+}
+
+fn battery(reading: u16) -> Vec<u8> {
+    let [high, low] = reading.to_be_bytes();
+    vec![BATTERY, high, low]
 }
 
 /// Frames that lead both craft from the fresh start to the last seconds of settling.
@@ -88,7 +93,12 @@ impl Board {
     /// Two readings about the thresholds, or anywhere: often so that the craft are judged
     /// differently.
     fn reading(&self, rng: &mut Rng) -> Leg {
-        let [one, other] = [(); 2].map(|_| reading(rng, &self.first));
+        let mut one = || {
+            let any = rng.between(LOWEST, HIGHEST);
+            let about = rng.pick(&tensions(&self.first));
+            rng.pick(&[LOWEST, HIGHEST, about, about, any])
+        };
+        let (one, other) = (one(), one());
         (battery(one.min(other)), one.abs_diff(other), 1)
     }
 

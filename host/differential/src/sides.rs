@@ -17,8 +17,6 @@ pub struct Calls {
     pub step_books: StepBooks,
     /// `ems_summary`
     pub summary: Summary,
-    /// `ems_night`
-    pub night: Night,
     /// `ems_beacon_basic`
     pub beacon_basic: Counted,
     /// `ems_beacon_complete`
@@ -45,11 +43,6 @@ pub type StepBooks = fn(&mut [u8], &[u8], &mut [u8], &mut [u64]) -> u8;
 /// A call that makes shares of the books.
 pub type Summary = fn(&[u64], &mut [u16]) -> u8;
 
-/// A call that tells whether the night will hold: its answer, the tick that is found with 0
-/// for none, and how many were run. The image may be written to, so that it shows where it
-/// is.
-pub type Night = fn(&mut [u8], &[u16], u64) -> (u8, u64, u64);
-
 /// A call that moves a panel's set point, by the readings before and after the last move.
 pub type Track = fn(Reading, Reading, &mut u32, &mut i32) -> u8;
 
@@ -61,7 +54,6 @@ pub const LIBRARY: Calls = Calls {
     modules_on: |image, _| ems::calls::modules_on(image),
     step_books: ems::calls::step_books,
     summary: ems::calls::summary,
-    night: |image, readings, limit| ems::calls::night(image, readings, limit),
     beacon_basic: ems::calls::beacon_basic,
     beacon_complete: ems::calls::beacon_complete,
     beacon_extended: ems::calls::beacon_extended,
@@ -84,7 +76,6 @@ pub const MODEL: Calls = Calls {
     modules_on: |image, _| model::calls::modules_on(image),
     step_books: model::calls::step_books,
     summary: model::calls::summary,
-    night: |image, readings, limit| model::calls::night(image, readings, limit),
     beacon_basic: model::calls::beacon_basic,
     beacon_complete: model::calls::beacon_complete,
     beacon_extended: model::calls::beacon_extended,

@@ -13,8 +13,7 @@ pub const UNKNOWN_KIND: u8 = 4;
 /// The input's length is not the kind's total.
 pub const BAD_LENGTH: u8 = 5;
 /// A field outside its range, descend above ascend, a timed order for one of the core
-/// four, a greeting whose text can't be keyed, or a planned battery reading outside its
-/// range.
+/// four, or a greeting whose text can't be keyed.
 pub const BAD_FIELD: u8 = 6;
 /// The payload asks for what only the ground may.
 pub const NOT_PERMITTED: u8 = 7;

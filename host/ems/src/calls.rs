@@ -5,8 +5,7 @@
 //! and nowhere else (proved), keeps no pointer and no state between calls, and
 //! asks five things of its caller. A slice's pointer is non-null, also when the
 //! slice is empty, and aligned. A slice's length is true. A `&mut` slice overlaps nothing
-//! else that is borrowed, and `count`, `reported`, `found` or `ran` is a local of the
-//! wrapper.
+//! else that is borrowed, and `count` or `reported` is a local of the wrapper.
 //! And nobody else writes to what is borrowed while the call runs, which is what
 //! a borrow means. Of a `&mut` number all of this holds too. Any bytes and numbers are
 //! legal arguments, so nothing has to be checked first.
@@ -49,15 +48,6 @@ mod c {
             books_len: usize,
             shares: *mut u16,
             shares_len: usize,
-        ) -> u8;
-        pub fn ems_night(
-            image: *const u8,
-            image_len: usize,
-            readings: *const u16,
-            readings_len: usize,
-            limit: u64,
-            found: *mut u64,
-            ran: *mut u64,
         ) -> u8;
         pub fn ems_beacon_basic(
             image: *const u8,
@@ -224,28 +214,6 @@ pub fn summary(books: &[u64], shares: &mut [u16]) -> u8 {
             shares.len(),
         )
     }
-}
-
-/// The first tick, counted from 1, after which the mode has fallen from SAFE to RECOVERY,
-/// if the coming minutes' battery readings are these; answer, tick with 0 for none, and how
-/// many ticks were run to know it, at most the limit. 1, or 6 for any reading outside 5,000
-/// to 9,000, with both 0.
-pub fn night(image: &[u8], readings: &[u16], limit: u64) -> (u8, u64, u64) {
-    // Both are always written; these values would show if they weren't.
-    let (mut found, mut ran) = (u64::MAX, u64::MAX);
-    // SAFETY: pointers and lengths are those of two borrowed slices and two locals.
-    let answer = unsafe {
-        c::ems_night(
-            image.as_ptr(),
-            image.len(),
-            readings.as_ptr(),
-            readings.len(),
-            limit,
-            &mut found,
-            &mut ran,
-        )
-    };
-    (answer, found, ran)
 }
 
 /// Writes the basic beacon's text of the state; answer and length.

@@ -1,6 +1,6 @@
 //! One board: the image of a state in range, and what can be asked of it.
 
-use crate::{answer, calls, Night, Passed, Report, IMAGE_BYTES, REPORT_BYTES};
+use crate::{answer, calls, Passed, Report, IMAGE_BYTES, REPORT_BYTES};
 
 /// A board's state. It is always in range, so no call on it answers 1.
 #[derive(Clone, Debug, PartialEq, Eq)]
@@ -78,36 +78,6 @@ impl Craft {
     pub fn modules_on(&self) -> usize {
         let (_, count) = calls::modules_on(&self.image);
         count
-    }
-
-    /// Whether the craft would stay in SAFE, if the coming minutes' battery readings were
-    /// these; or [`answer::BAD_FIELD`], where one of them is outside 5,000 to 9,000. At most
-    /// `limit` ticks are run, and the craft stays as it is.
-    ///
-    /// ```
-    /// use ems::{answer, Craft, Mode, Night};
-    ///
-    /// let mut craft = Craft::fresh();
-    /// // The antennas are out; 15 minutes later a charged battery takes it to SAFE.
-    /// craft.report_on(&[0x03, 1])?;
-    /// craft.report_on(&[0x02, 0x1F, 0x40])?;
-    /// while craft.report_on(&[0x01, 0])?.mode != Mode::Safe.number() {}
-    ///
-    /// // Three minutes in which the battery sags to 7,000 millivolts, and not below.
-    /// let holds = craft.night(&[7_600, 7_200, 7_000], u64::MAX)?;
-    /// assert_eq!(holds, Night { found: None, ran: 180 });
-    /// // A millivolt less in the last: the mode is judged half a minute later.
-    /// let falls = craft.night(&[7_600, 7_200, 6_999], u64::MAX)?;
-    /// assert_eq!(falls, Night { found: Some(150), ran: 150 });
-    /// // No battery reads so.
-    /// assert_eq!(craft.night(&[7_600, 4_999], u64::MAX), Err(answer::BAD_FIELD));
-    /// # Ok::<(), u8>(())
-    /// ```
-    pub fn night(&self, readings: &[u16], limit: u64) -> Result<Night, u8> {
-        match calls::night(&self.image, readings, limit) {
-            (answer::DONE, found, ran) => Ok(Night::told(found, ran)),
-            (refusal, ..) => Err(refusal),
-        }
     }
 
     /// Writes the basic beacon's text; answer and length.

@@ -8,9 +8,6 @@
 //! [`Module`] and [`Beacon`] name a report's numbers. Answers are the numbers of
 //! documents 01 and 02, named in [`answer`].
 //!
-//! [`Craft::night`] tells when the craft would fall from SAFE to RECOVERY, if the coming
-//! minutes' battery readings were those of a list.
-//!
 //! [`Craft::step_books`] keeps each module's seconds in numbers of the caller, and
 //! [`summary`] tells from them which share of its time each was on.
 //!
@@ -40,7 +37,6 @@ pub mod calls;
 mod craft;
 mod mode;
 mod module;
-mod night;
 mod passed;
 mod reading;
 mod report;
@@ -49,7 +45,6 @@ pub use calls::{key, read, summary, track};
 pub use craft::Craft;
 pub use mode::Mode;
 pub use module::Module;
-pub use night::Night;
 pub use passed::Passed;
 pub use reading::{Reading, LONGEST_STEP, MOST_MILLIAMPERES, MOST_MILLIVOLTS};
 pub use report::{Beacon, Report, REPORT_KIND};

@@ -108,13 +108,6 @@ fn print_of(source: &str, compiler: &str, language: &str, standard: &str) -> Str
     String::from_utf8_lossy(&run.stdout).into_owned()
 }
 
-/// A compiler, its language, and the standard of it: a program builds in each.
-const LANGUAGES: [(&str, &str, &str); 3] = [
-    ("cc", "c", "-std=c99"),
-    ("c++", "c++", "-std=c++98"),
-    ("c++", "c++", "-std=c++11"),
-];
-
 const PRINT: &str = "\
 0 81 03 00 00 00 00 00 27 00 00 00
 5 02 0 04 10 07 0
@@ -162,7 +155,11 @@ fn the_room_set_aside_in_c_is_the_wrapper_s() {
     let rows: String = (0..=ems::TEXT_BYTES).map(row).collect();
     let (two, twice_one) = (units_for(2), 2 * units_for(1));
     let wanted = rows + &format!("{two} {twice_one} {}\n", ems::UNITS_BYTES);
-    for (compiler, language, standard) in LANGUAGES {
+    for (compiler, language, standard) in [
+        ("cc", "c", "-std=c99"),
+        ("c++", "c++", "-std=c++98"),
+        ("c++", "c++", "-std=c++11"),
+    ] {
         let print = print_of("units_for.c", compiler, language, standard);
         assert_eq!(print, wanted, "{standard}");
     }
@@ -183,30 +180,13 @@ const BOOKS: &str = "\
 /// The limit is a number of 64 bits in each of the languages.
 #[test]
 fn programs_in_c_and_cpp_keep_books() {
-    for (compiler, language, standard) in LANGUAGES {
+    for (compiler, language, standard) in [
+        ("cc", "c", "-std=c99"),
+        ("c++", "c++", "-std=c++98"),
+        ("c++", "c++", "-std=c++11"),
+    ] {
         let print = print_of("books.c", compiler, language, standard);
         assert_eq!(print, BOOKS, "{standard}");
-    }
-}
-
-const NIGHT: &str = "\
-0 0 120
-0 90 90
-0 90 90
-0 0 89
-0 0 59
-0 0 0
-6 0 0
-6 0 0
-1 0 0
-";
-
-/// Both numbers are written, and nothing beside them.
-#[test]
-fn programs_in_c_and_cpp_ask_about_a_night() {
-    for (compiler, language, standard) in LANGUAGES {
-        let print = print_of("night.c", compiler, language, standard);
-        assert_eq!(print, NIGHT, "{standard}");
     }
 }
 

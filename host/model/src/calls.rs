@@ -1,7 +1,7 @@
 //! The calls of `include/ems.h`, with the same arguments and the same answers.
 
 use crate::track::{self, Reading};
-use crate::{beacon, books, image, morse, night, pass, report::Report, state::State, step};
+use crate::{beacon, books, image, morse, pass, report::Report, state::State, step};
 
 /// Writes the fresh start's image.
 pub fn fresh(bytes: &mut [u8]) -> u8 {
@@ -77,16 +77,6 @@ pub fn summary(books: &[u64], shares: &mut [u16]) -> u8 {
             write(&own, shares);
             0
         }
-    }
-}
-
-/// The first tick after which a downward crossing has happened, 0 for none, and how many
-/// ticks were run.
-pub fn night(bytes: &[u8], readings: &[u16], limit: u64) -> (u8, u64, u64) {
-    let state = image::load(bytes).ok_or(1);
-    match state.and_then(|state| night::night(state, readings, limit)) {
-        Ok(night) => (0, night.found.unwrap_or(0), night.ran),
-        Err(refusal) => (refusal, 0, 0),
     }
 }
 

@@ -1,8 +1,7 @@
 //! The rules a second time, in plain Rust: document 01's, and of document 02 the
 //! orders with an end, the pass, the tries that a module keeps, the four signs more,
 //! the greetings, the panel tracker, the bound on keying room, the masks that are kept,
-//! the crossing upward that requests nothing, the seconds in the books, and the night that
-//! is asked about before it comes.
+//! the crossing upward that requests nothing, and the seconds in the books.
 //!
 //! It is written from their words alone and shares nothing with the proved
 //! library, so that a slip in either shows as a difference. It goes for being
@@ -24,7 +23,6 @@ mod log;
 pub mod masks;
 pub mod message;
 pub mod morse;
-pub mod night;
 pub mod pass;
 pub mod report;
 pub mod state;

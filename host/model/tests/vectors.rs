@@ -2,7 +2,7 @@
 //! shares nothing with this one: the log must be theirs, byte for byte, and so
 //! must all that a call leaves behind.
 
-use cases::{books, modules_on, night, pass, summary, track, Board};
+use cases::{books, modules_on, pass, summary, track, Board};
 use model::track::Reading;
 use model::{calls, image};
 use std::{fs, path::Path};
@@ -67,18 +67,6 @@ fn every_case_of_a_summary_comes_out() {
     assert!(cases.len() >= 190, "only {} cases", cases.len());
     for case in cases {
         assert_eq!(summary::check(&case, calls::summary), Ok(()));
-    }
-}
-
-#[test]
-fn every_case_of_a_night_comes_out() {
-    let cases = night::cases().expect("the cases are there");
-    assert!(cases.len() >= 220, "only {} cases", cases.len());
-    for case in cases {
-        let checked = night::check(&case, &MODEL, |image, readings, limit| {
-            calls::night(image, readings, limit)
-        });
-        assert_eq!(checked, Ok(()));
     }
 }
 

@@ -4,7 +4,7 @@
 
 use crate::image::Image;
 use crate::tables::{origins, timed, TICK};
-use ems::{answer, Beacon, Craft, Module, Night, Report, BEACON_EXTENDED_BYTES, REPORT_BYTES};
+use ems::{answer, Beacon, Craft, Module, Report, BEACON_EXTENDED_BYTES, REPORT_BYTES};
 
 /// A board, and how far its flight has come.
 pub struct Board {
@@ -165,17 +165,6 @@ impl Board {
 
     pub fn image(&self) -> Image {
         self.image
-    }
-
-    /// How many seconds it has flown.
-    pub fn seconds(&self) -> u64 {
-        self.seconds
-    }
-
-    /// When it would fall from SAFE to RECOVERY, if the coming minutes' readings were
-    /// these; or the number that one of them is refused with. The board itself stays.
-    pub fn night(&self, readings: &[u16], limit: u64) -> Result<Night, u8> {
-        self.craft.night(readings, limit)
     }
 
     /// How many modules are on.

@@ -9,7 +9,7 @@ pub const REFUSED: u8 = 2;
 /// `compare`, `track`: the flights, or the walk, are not what the promise speaks of.
 pub const PREMISES: u8 = 3;
 /// `compare`, `track`: they are, and what is promised doesn't hold. `books`: nor does it
-/// of the seconds. `night`: nor of the answer, that it is what a flight shows.
+/// of the seconds.
 pub const CONCLUSIONS: u8 = 4;
 
 /// Why a command ended, and with which status.

@@ -40,11 +40,3 @@ impl<T> Few<T> {
         self.count - self.kept.len() as u64
     }
 }
-
-impl Few<String> {
-    /// Those that are kept, and what is said of how many more there are.
-    pub fn messages(&self, more: impl FnOnce(u64) -> String) -> Vec<String> {
-        let more = (self.more() > 0).then(|| more(self.more()));
-        self.kept.iter().cloned().chain(more).collect()
-    }
-}

@@ -70,12 +70,6 @@ impl Flight {
         Ok(Some(step))
     }
 
-    /// Flies to the end, and gives the board that it ends with, if no frame was refused.
-    pub fn fly(mut self) -> Result<Board, Failure> {
-        while self.step()?.is_some() {}
-        self.landed()
-    }
-
     /// The frame of the last step.
     pub fn frame(&self) -> &[u8] {
         self.stream.frame()
@@ -111,10 +105,14 @@ impl Flight {
         if self.refusals.is_empty() {
             return Ok(self.board);
         }
-        let more = |more| format!("{}: {} refused", self.name(), count(more, "more frame"));
+        let mut messages = self.refusals.kept().to_vec();
+        if self.refusals.more() > 0 {
+            let more = count(self.refusals.more(), "more frame");
+            messages.push(format!("{}: {more} refused", self.name()));
+        }
         Err(Failure {
             status: REFUSED,
-            messages: self.refusals.messages(more),
+            messages,
         })
     }
 }

@@ -8,14 +8,12 @@ mod books;
 mod closed;
 mod commands;
 mod compare;
-mod csv;
 mod failure;
 mod few;
 mod flight;
 mod image;
 mod mistake;
 mod morse;
-mod night;
 mod output;
 mod pass;
 mod plot;
@@ -64,7 +62,6 @@ fn run(command: &Command) -> Result<(), Failure> {
         Command::Show(show) => commands::show::run(show),
         Command::Plot(plot) => commands::plot::run(plot),
         Command::Books(books) => commands::books::run(books),
-        Command::Night(night) => commands::night::run(night),
         Command::Beacon(beacon) => commands::beacon::run(beacon),
         Command::Key(key) => commands::key::run(key),
         Command::Read(read) => commands::read::run(read),

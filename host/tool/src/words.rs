@@ -27,11 +27,6 @@ pub fn rounded(number: f64, places: usize) -> String {
     }
 }
 
-/// `7450` as `7,450 mV`.
-pub fn millivolts(number: impl Into<u64>) -> String {
-    format!("{} mV", thousands(number.into()))
-}
-
 /// `a, b and c`.
 pub fn list(items: &[String]) -> String {
     match items {

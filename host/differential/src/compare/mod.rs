@@ -1,17 +1,16 @@
 //! One call made on both sides, and all that it leaves behind compared: the
 //! answer, the count, and every byte of the buffers, also those past the
 //! lengths that the call was given, or beside its numbers. [`books`] has the calls that
-//! are lent books, [`night`] the one that tells of a night.
+//! are lent books.
 
 pub mod books;
-pub mod night;
 
 use crate::shrink::Move;
 use crate::sides::{Calls, Counted};
 use model::frame;
 use model::report::{self, Report};
 use model::track::Reading;
-use std::fmt::{self, Display, Write};
+use std::fmt::{self, Write};
 
 /// The longest image and reply room that a step is given.
 pub const LONGEST: usize = 80;
@@ -47,11 +46,6 @@ fn agree<T: PartialEq>([library, model]: [T; 2]) -> Both<T> {
     } else {
         Err(Box::new([library, model]))
     }
-}
-
-/// The outcomes of both sides, a line each.
-pub(crate) fn of_both<T: Display>([library, model]: &[T; 2]) -> String {
-    format!("library: {library}\nmodel:   {model}")
 }
 
 /// What a step leaves behind.

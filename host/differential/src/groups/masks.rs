@@ -12,12 +12,10 @@ use crate::compare::hex;
 use crate::frames::{Maker, Stream};
 use crate::images;
 use crate::masks::{self, Sort, MASKS, SORTS};
-use crate::nights;
 use crate::passes;
 use crate::rng::Rng;
 use crate::shrink::Shot;
 use crate::sides::Calls;
-use crate::watch::ask;
 use model::image;
 use model::state::Last;
 use model::table::KINDS;
@@ -124,11 +122,9 @@ fn every_call(sides: &[Calls; 2], rng: &mut Rng, last: Last, image: &[u8], agree
     let basic = call(sides, |calls| calls.beacon_basic, image, rng.below(20))?;
     let complete = call(sides, |calls| calls.beacon_complete, image, rng.below(20))?;
     let extended = call(sides, |calls| calls.beacon_extended, image, rng.below(37))?;
-    let (readings, limit) = nights::any(rng);
-    let night = ask(sides, image, &readings, limit)?;
-    let asked = [basic.answer, complete.answer, extended.answer, night.answer];
+    let beacons = [basic.answer, complete.answer, extended.answer];
     let frames = [stepped.answer, entered.answer(), passed.answer];
-    let answers = [&frames[..], &asked].concat();
+    let answers = [frames, beacons].concat();
     if answers.iter().any(|answer| (*answer != 1) != agree) {
         return Err(format!("input:   {}\nanswers {answers:?}", hex(image)));
     }
@@ -138,7 +134,7 @@ fn every_call(sides: &[Calls; 2], rng: &mut Rng, last: Last, image: &[u8], agree
         false => (1, 0),
     };
     count(sides, image, wanted)?;
-    Ok(8)
+    Ok(7)
 }
 
 /// A frame of any kind by the table, with room for its report; or one that is refused by

@@ -8,7 +8,6 @@ mod greetings;
 mod images;
 mod keying_room;
 mod masks;
-mod nights;
 mod passes;
 mod summaries;
 mod texts;
@@ -20,10 +19,8 @@ mod two_craft;
 use crate::compare::{self, Stepped};
 use crate::frames::Maker;
 use crate::rng::Rng;
-use crate::nights::any;
 use crate::shrink::{flight, tell_counted, tell_flight, Shot};
 use crate::sides::{Calls, Counted};
-use crate::watch::ask;
 use model::report;
 use model::state::{Mode, SETTLE_SECONDS};
 
@@ -46,7 +43,7 @@ pub type Verdict = Result<u64, String>;
 pub type Group = (&'static str, fn(&[Calls; 2], &mut Rng) -> Verdict);
 
 /// All groups.
-pub const GROUPS: [Group; 56] = [
+pub const GROUPS: [Group; 51] = [
     ("fresh start, every length", images::fresh_starts),
     ("flights by the table", |sides, rng| {
         flights::of(sides, rng, Maker::Structured, 4_000_000)
@@ -112,11 +109,6 @@ pub const GROUPS: [Group; 56] = [
     ("summaries of every length", summaries::lengths),
     ("shares about every thousandth", summaries::thousandths),
     ("shares of any numbers", summaries::any),
-    ("nights under every limit", nights::limits),
-    ("nights about every judgement", nights::judgements),
-    ("nights refused at every reading", nights::refusals),
-    ("long nights", nights::long),
-    ("two nights", nights::two),
     ("every text of up to 2 bytes", texts::short_texts),
     ("every byte in every place of a text", texts::every_place),
     ("every sign of up to 7 marks", texts::every_sign),
@@ -157,13 +149,11 @@ fn call(
 }
 
 /// All that is asked of an image without a frame: its beacons, in rooms of a length
-/// around theirs, how many modules are on, and whether a short night will hold.
+/// around theirs, and how many modules are on.
 fn asked(sides: &[Calls; 2], rng: &mut Rng, image: &[u8]) -> Verdict {
     call(sides, |calls| calls.beacon_basic, image, rng.below(20))?;
     call(sides, |calls| calls.beacon_complete, image, rng.below(20))?;
     call(sides, |calls| calls.beacon_extended, image, rng.below(37))?;
     call(sides, |calls| calls.modules_on, image, 0)?;
-    let (readings, limit) = any(rng);
-    ask(sides, image, &readings, limit)?;
-    Ok(5)
+    Ok(4)
 }

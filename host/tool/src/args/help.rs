@@ -12,8 +12,8 @@ Example:
   ems log --explain examples/dawn.pass
 
 Exit status: 0 done; 1 wrong usage, or a file that can't be read or written, or is no
-image, curve or list of readings; 2 a frame, a text, units, a reading or a call were
-refused; `compare` and `track` have 3 and 4 too, and `books` and `night` have 4.";
+image or curve; 2 a frame, a text, units or a call were refused; `compare` and `track`
+have 3 and 4 too, and `books` has 4.";
 
 pub const LOG: &str = "\
 Ends at the first frame that is refused with 4 to 7, with status 2 and the reason on
@@ -83,33 +83,6 @@ Examples:
   ems books examples/orbit.pass
   ems books examples/orbit.pass -o books.svg --title 'A day of fifteen orbits'
   ems books examples/morning.pass --after examples/dawn.pass --keep-going";
-
-pub const NIGHT: &str = "\
-After the flight, each reading is stored and 60 ticks without shorts are run, and so on
-until a tick takes the board down from SAFE to RECOVERY, or the readings or the limit
-end. Told are that tick with its time and what it did, or that there is none, and how
-many ticks were run. That there is none says nothing of what comes past the limit, nor
-that the board is in SAFE: if it never was, that is said.
-
-The readings are a CSV file: the head line millivolts, and a reading a line, the coming
-minute's first. From # to the end of a line is a comment.
-
-The answer is that of one call of ems_night. What a tick did, and the picture, are from
-single calls with the same frames; both have to agree. The picture goes on past that
-tick: to the end of the readings, or to the limit.
-
-In the flight no frame may be refused, nor in what comes before it, by --image or
---after. The flight of --after is a script or bytes by its name. A row of --table has
-the tick, 0 for none, and the ticks run.
-
-Exit status: 0 it is told whether the night holds, and it may or may not; 2 a frame or
-a reading was refused; 4 the call and the single calls disagree (never seen: it is
-proved that they don't).
-
-Examples:
-  ems night examples/eclipse-season.pass examples/eclipse-camera-on.csv -o night.svg
-  ems night examples/eclipse-season.pass examples/eclipse-camera-on.csv --limit 6h
-  ems night next.pass readings.csv --image saved.bin";
 
 pub const BEACON: &str = "\
 The text that the last tick made due; if none is due then, the board is left alone

@@ -36,9 +36,6 @@ pub enum Command {
     /// Each module's seconds on, off and failed, and its share on
     #[command(after_help = help::BOOKS)]
     Books(Books),
-    /// Will the night hold? When the board falls from SAFE, by the readings to come
-    #[command(after_help = help::NIGHT)]
-    Night(Night),
     /// The beacon's text that falls due at or after the flight's end
     #[command(after_help = help::BEACON)]
     Beacon(Beacon),
@@ -123,17 +120,6 @@ pub struct Begin {
     pub after: Option<PathBuf>,
 }
 
-/// For the commands that draw what they tell, if that is wanted.
-#[derive(Args, Debug)]
-pub struct Picture {
-    /// Where the picture goes; `-` is standard output, and then nothing else goes there
-    #[arg(short, long, value_name = "FILE")]
-    pub output: Option<PathBuf>,
-    /// The picture's title [default: the file's name]
-    #[arg(long, value_name = "TEXT", requires = "output")]
-    pub title: Option<String>,
-}
-
 #[derive(Args, Debug)]
 pub struct Frames {
     /// The pass script
@@ -189,32 +175,17 @@ pub struct Books {
     pub flight: Flight,
     #[command(flatten)]
     pub begin: Begin,
-    #[command(flatten)]
-    pub picture: Picture,
+    /// Where the picture goes; `-` is standard output, and then nothing else goes there
+    #[arg(short, long, value_name = "FILE")]
+    pub output: Option<PathBuf>,
+    /// The picture's title [default: the flight's file name]
+    #[arg(long, value_name = "TEXT", requires = "output")]
+    pub title: Option<String>,
     /// A row of CSV for each module, instead of words
     #[arg(long)]
     pub table: bool,
     #[command(flatten)]
     pub going: KeepGoing,
-}
-
-#[derive(Args, Debug)]
-pub struct Night {
-    #[command(flatten)]
-    pub flight: Flight,
-    /// The battery readings to come, one for each minute; `-` is standard input
-    pub readings: PathBuf,
-    /// How many ticks are run at most: 5400, 01:30:00 or 90m (s, m, h, d) [default: 60 for
-    /// each reading]
-    #[arg(long, value_name = "N", value_parser = time)]
-    pub limit: Option<u64>,
-    #[command(flatten)]
-    pub begin: Begin,
-    #[command(flatten)]
-    pub picture: Picture,
-    /// The answer as a row of CSV, instead of words
-    #[arg(long)]
-    pub table: bool,
 }
 
 #[derive(Args, Debug)]
@@ -323,8 +294,12 @@ pub struct Track {
     #[arg(long, value_name = "N", default_value_t = 200,
           value_parser = clap::value_parser!(u32).range(1..=1_000_000))]
     pub calls: u32,
-    #[command(flatten)]
-    pub picture: Picture,
+    /// Where the picture goes; `-` is standard output, and then nothing else goes there
+    #[arg(short, long, value_name = "FILE")]
+    pub output: Option<PathBuf>,
+    /// The picture's title [default: the curve's file name]
+    #[arg(long, value_name = "TEXT", requires = "output")]
+    pub title: Option<String>,
     /// A row of CSV for the start and for each call, instead of words
     #[arg(long)]
     pub table: bool,

@@ -37,5 +37,7 @@ pub fn board(begin: &Begin) -> Result<Board, Failure> {
 /// The board after a flight.
 fn flown(file: &Path) -> Result<Board, Failure> {
     let (file, kind) = (file.to_path_buf(), None);
-    Flight::open(&args::Flight { file, kind })?.fly()
+    let mut flight = Flight::open(&args::Flight { file, kind })?;
+    while flight.step()?.is_some() {}
+    flight.landed()
 }

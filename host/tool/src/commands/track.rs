@@ -2,17 +2,17 @@
 //! steps asks of the walk, and shows what it promises.
 
 use super::plot::title;
-use super::shown::show;
 use crate::args::Track;
 use crate::failure::{Failure, CONCLUSIONS, PREMISES};
-use crate::output;
+use crate::output::{self, Output};
 use crate::plot::tracker::{draw, Tracked};
 use crate::source;
 use crate::track::{table, told, Crossing, Curve, Promise, Walk};
 use std::io::Write;
+use std::path::Path;
 
 pub fn run(track: &Track) -> Result<(), Failure> {
-    if let Some(output) = &track.picture.output {
+    if let Some(output) = &track.output {
         output::spare(&track.curve, output)?;
     }
     let (name, content) = source::whole(&track.curve)?;
@@ -21,21 +21,27 @@ pub fn run(track: &Track) -> Result<(), Failure> {
     let peak = curve.peak();
     let promise = Promise::of(&walk, &peak);
     let told = told(&curve, &peak, &walk, &promise);
-    let draw = || {
+    // Where the first call is refused there is no walk to draw.
+    if let Some(path) = track.output.as_deref().filter(|_| walk.calls() > 0) {
         let tracked = Tracked {
             curve: &curve,
             peak,
             walk: &walk,
             crossing: Crossing::of(&walk, &peak),
         };
-        let title = title(track.picture.title.as_deref(), &track.curve, &name);
-        // Where the first call is refused there is no walk to draw.
-        (walk.calls() > 0).then(|| draw(&tracked, &title, &told))
-    };
-    show(&track.picture, draw, |output| match track.table {
-        true => table(output, &walk),
-        false => output.write_all(told.as_bytes()),
-    })?;
+        let title = title(track.title.as_deref(), &track.curve, &name);
+        let mut output = Output::at(path)?;
+        output.write_all(draw(&tracked, &title, &told).as_bytes())?;
+        output.flush()?;
+    }
+    if track.output.as_deref() != Some(Path::new("-")) {
+        let mut output = Output::standard()?;
+        match track.table {
+            true => table(&mut output, &walk)?,
+            false => output.write_all(told.as_bytes())?,
+        }
+        output.flush()?;
+    }
     ended(&name, &walk, &promise)
 }
 

@@ -90,9 +90,8 @@ impl Labels {
     }
 }
 
-/// The axis under the panels, with lines up to the top, of the time since something; gives
-/// where it ends.
-pub fn draw(svg: &mut Svg, view: &View, since: &str, (top, bottom): (f64, f64)) -> f64 {
+/// The axis under the panels, with lines up to the top; gives where it ends.
+pub fn draw(svg: &mut Svg, view: &View, top: f64, bottom: f64) -> f64 {
     let labels = Labels::of(view);
     let first = view.from.next_multiple_of(labels.step);
     for second in (first..=view.to).step_by(labels.step as usize) {
@@ -103,7 +102,7 @@ pub fn draw(svg: &mut Svg, view: &View, since: &str, (top, bottom): (f64, f64)) 
     svg.line(LEFT, bottom, RIGHT, bottom, "thin");
     svg.line(LEFT, top, LEFT, bottom, "thin");
     svg.line(RIGHT, top, RIGHT, bottom, "thin");
-    let unit = format!("{} since {since}", labels.name());
+    let unit = format!("{} since the start", labels.name());
     let middle = (LEFT + RIGHT) / 2.0;
     svg.text(middle, bottom + 35.0, SIZE, Align::Middle, &unit);
     bottom + 38.0

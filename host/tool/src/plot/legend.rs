@@ -46,21 +46,14 @@ pub fn rows(svg: &mut Svg, groups: impl IntoIterator<Item = Group>, y: f64) -> f
     y + 8.0
 }
 
-fn groups(view: &View) -> impl Iterator<Item = Group> {
-    let happened = [
-        ("Short:", shorts()),
-        ("Beacon:", due(view)),
-        ("Order:", orders()),
-    ];
-    state(view).into_iter().chain(happened)
-}
-
-/// The signs for how a board is.
-pub fn state(view: &View) -> [Group; 3] {
+fn groups(view: &View) -> [Group; 6] {
     [
         ("Mode:", modes()),
         ("Millivolts:", millivolts()),
         ("Module:", modules(view)),
+        ("Short:", shorts()),
+        ("Beacon:", due(view)),
+        ("Order:", orders()),
     ]
 }
 

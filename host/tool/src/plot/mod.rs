@@ -1,5 +1,5 @@
-//! A flight as a picture, its books, a night to come, and a walk on a panel's curve. All
-//! are black and white: what differs, differs in shape, pattern or place.
+//! A flight as a picture, its books, and a walk on a panel's curve. All are black and
+//! white: what differs, differs in shape, pattern or place.
 
 mod axis;
 mod beacons;
@@ -14,7 +14,6 @@ mod list;
 mod marks;
 mod modes;
 mod modules;
-pub mod night;
 mod record;
 mod scale;
 mod svg;
@@ -54,7 +53,7 @@ pub fn draw(view: &View, title: &str) -> String {
     modes::shade(&mut shade, view, top, bottom);
     events.stems(&mut shade, view, marks, bottom);
     svg.insert(behind, shade);
-    let y = axis::draw(&mut svg, view, "the start", (top, bottom));
+    let y = axis::draw(&mut svg, view, top, bottom);
     let y = list::draw(&mut svg, &events, y + 2.0 * GAP);
     svg.finish(WIDTH, y + GAP)
 }

@@ -22,12 +22,6 @@ pub struct Bar {
 }
 
 impl<'a> View<'a> {
-    /// All of a flight. There is always a second to draw.
-    pub fn whole(record: &'a Record) -> View<'a> {
-        let (from, to) = (0, record.seconds.max(1));
-        View { record, from, to }
-    }
-
     /// The part that is asked for, which has to be there.
     pub fn of(record: &'a Record, from: Option<u64>, to: Option<u64>) -> Result<View<'a>, String> {
         let end = record.seconds;

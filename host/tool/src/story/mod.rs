@@ -9,7 +9,7 @@ use crate::board::Step;
 use crate::image::{Image, Phase};
 use crate::script::word_of;
 use crate::tables::{self, shorts};
-use crate::words::{list, millivolts, modules};
+use crate::words::{list, modules, thousands};
 use ems::{answer, Report};
 use ends::Ends;
 use std::cmp::Ordering;
@@ -48,6 +48,10 @@ pub fn changes(frame: &[u8], step: &Step) -> Vec<String> {
     said.extend(powers::changes(before, after, shorts(frame)));
     said.extend(greeting::change(step));
     said
+}
+
+fn millivolts(number: u16) -> String {
+    format!("{} mV", thousands(u64::from(number)))
 }
 
 /// A change of mode, with the numbers that it was judged by.

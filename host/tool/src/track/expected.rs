@@ -1,6 +1,6 @@
 //! What may stand at a place of a curve's file.
 
-use super::row::HEAD;
+use super::line::HEAD;
 use crate::words::thousands;
 use std::fmt;
 

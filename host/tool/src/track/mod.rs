@@ -4,9 +4,9 @@
 mod csv;
 mod curve;
 mod expected;
+mod line;
 mod promise;
 mod refused;
-mod row;
 mod stay;
 mod table;
 mod told;
@@ -19,7 +19,12 @@ pub use table::table;
 pub use told::told;
 pub use walk::{Point, Walk};
 
-use crate::words::rounded;
+use crate::words::{rounded, thousands};
+
+/// Millivolts, for people.
+pub fn millivolts(number: u32) -> String {
+    format!("{} mV", thousands(u64::from(number)))
+}
 
 /// A power in milliwatts, for people.
 pub fn milliwatts(number: f64) -> String {

@@ -1,7 +1,7 @@
 //! What is promised of a walk: what the promise asks of it, and what it says.
 
-use super::{milliwatts, Crossing, Peak, Point, Stay, Walk};
-use crate::words::{count, millivolts, thousands};
+use super::{millivolts, milliwatts, Crossing, Peak, Point, Stay, Walk};
+use crate::words::{count, thousands};
 
 /// The promise, held against a walk.
 pub struct Promise {

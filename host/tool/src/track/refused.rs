@@ -1,8 +1,9 @@
 //! A call that was refused, in words: which number is out of which range.
 
+use super::millivolts;
 use crate::failure::{Failure, REFUSED};
 use crate::tables::meaning;
-use crate::words::{count, millivolts, thousands};
+use crate::words::{count, thousands};
 use ems::{Reading, LONGEST_STEP, MOST_MILLIAMPERES, MOST_MILLIVOLTS};
 
 /// The call, and what it was given. The set point is what the meter reads after the

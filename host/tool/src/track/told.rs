@@ -1,7 +1,7 @@
 //! A walk in words.
 
-use super::{milliwatts, Crossing, Curve, Peak, Promise, Stay, Walk};
-use crate::words::{count, millivolts, rounded, thousands};
+use super::{millivolts, milliwatts, Crossing, Curve, Peak, Promise, Stay, Walk};
+use crate::words::{count, rounded, thousands};
 
 /// So many more calls are tried where the walk has not come to the peak: with steps of
 /// 1 mV, enough to go to both ends.

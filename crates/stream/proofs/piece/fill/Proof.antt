@@ -2,7 +2,7 @@
 use Prim.Native.Nat.{◌-◌}
 use native.Mathlib.Omega.{arith}
 use lib.ListN.{length}
-use Rattle.log.proofs.EntryLaws.{line_within, last_within}
+use Rattle.frame_log.proofs.EntryLaws.{line_within, last_within}
 use borrow.Author.Rules.{rules}
 use Rattle.stream.proofs.FillLaws.{Underway, underway_start, underway_line, underway_last, underway_stop}
 use Rattle.stream.proofs.piece.fill.Statement.{statement}

@@ -7,8 +7,8 @@ mod signs;
 
 use super::svg::Svg;
 use super::{heading, legend, GAP, WIDTH};
-use crate::track::{Crossing, Curve, Peak, Walk};
-use crate::words::{count, millivolts};
+use crate::track::{millivolts, Crossing, Curve, Peak, Walk};
+use crate::words::count;
 use ems::MOST_MILLIVOLTS;
 
 /// Room for a name over a panel.

@@ -6,8 +6,8 @@ use crate::plot::layout::groups;
 use crate::plot::scale::Scale;
 use crate::plot::svg::{polyline, Svg};
 use crate::plot::{edges, LEFT, RIGHT};
-use crate::track::{milliwatts, Point};
-use crate::words::{count, millivolts, thousands};
+use crate::track::{millivolts, milliwatts, Point};
+use crate::words::{count, thousands};
 use ems::MOST_MILLIVOLTS;
 use std::collections::BTreeMap;
 

@@ -1,0 +1,76 @@
+// The parts of a line, each stored in a room from a place on. Each call gives the place after what it stored.
+ghost use Rattle.std.specs.Prelude.{◌≡◌, ◌+◌, ◌<◌, ◌≤◌, length};
+ghost use Rattle.basics.specs.Choice.{word};
+ghost use Rattle.basics.specs.Bytes.{hex_digit};
+ghost use Rattle.frame_log.specs.Text.{most_digits, decimal, hex, spaced, most_decimal, most_hex, Put, PutText};
+
+// The decimal digits of the largest number of 64 bits.
+pub(crate) const MOST_DIGITS: usize = 20;
+
+// At most so many bytes for a space and a number in decimal.
+pub(crate) const MOST_DECIMAL: usize = 1 + MOST_DIGITS;
+
+// So many bytes for a space and a byte in hex.
+pub(crate) const MOST_HEX: usize = 3;
+
+// Bytes as they are.
+pub(crate) fn put_bytes(room: &mut [u8], at: usize, text: &[u8]) -> usize
+    requires { at + length text.now ≤ length room.old }
+    ensures { PutText text.now at room.old result room.new }
+{
+    at + basics::copy(text, &mut room[at..])
+}
+
+// A number in decimal.
+pub(crate) fn put_decimal(room: &mut [u8], at: usize, n: u64) -> usize
+    requires { at + most_digits ≤ length room.old }
+    ensures { Put (decimal n) most_digits at room.old result room.new }
+{
+    let mut digits = [0u8; MOST_DIGITS];
+    let k = io::decimal(n, &mut digits);
+    put_bytes(room, at, &digits[0..k])
+}
+
+// The hex digit of a number below 16, in upper case.
+fn hex_digit(d: u8) -> u8
+    requires { d < 16 }
+    ensures { result ≡ hex_digit d }
+{
+    if d < 10 { b'0' + d } else { b'A' + (d - 10) }
+}
+
+// A space and a number in decimal.
+fn put_spaced(room: &mut [u8], at: usize, n: u64) -> usize
+    requires { at + most_decimal ≤ length room.old }
+    ensures { Put (spaced (decimal n)) most_decimal at room.old result room.new }
+{
+    room[at] = b' ';
+    put_decimal(room, at + 1, n)
+}
+
+// A space and a byte in decimal.
+pub(crate) fn put_byte(room: &mut [u8], at: usize, byte: u8) -> usize
+    requires { at + most_decimal ≤ length room.old }
+    ensures { Put (spaced (decimal byte)) most_decimal at room.old result room.new }
+{
+    put_spaced(room, at, byte as u64)
+}
+
+// A space and a two-byte number, its high byte first, in decimal.
+pub(crate) fn put_word(room: &mut [u8], at: usize, high: u8, low: u8) -> usize
+    requires { at + most_decimal ≤ length room.old }
+    ensures { Put (spaced (decimal (word high low))) most_decimal at room.old result room.new }
+{
+    put_spaced(room, at, (high as u64) * 256 + (low as u64))
+}
+
+// A space and a byte as two hex digits.
+pub(crate) fn put_hex(room: &mut [u8], at: usize, byte: u8) -> usize
+    requires { at + most_hex ≤ length room.old }
+    ensures { Put (spaced (hex byte)) most_hex at room.old result room.new }
+{
+    room[at] = b' ';
+    room[at + 1] = hex_digit(byte / 16);
+    room[at + 2] = hex_digit(byte % 16);
+    at + MOST_HEX
+}
