@@ -123,11 +123,11 @@ module _ (i : ℕ) (low : i < module_count) where
       Held i (controlled s) (crossing mission s.watch.mode (controlled s).watch.mode word)
   control_held mission e word s n h (level count below none w) = rw (w, no_crossing mission s.watch.mode word) h
   control_held true e word s n h (upward j m t w) = rw (w, m) h
-  control_held false e word s n h (upward j m t w) = rw (w, m) h
+  control_held false e word s n h (upward j m t w) = rw w h
   control_held true e word s n h (downward j m t w) =
       rw (w, m) (record { requested = ap (λ r. r.requested) (at_unasked s i mission_four) ∙ rw e; end = none_at i })
   control_held false e word s n h (downward j m t w) =
-      rw (w, m)
+      rw w
       (record {
         requested = ap (λ r. r.requested) (not_unasked s i mission_four e) ∙ h.requested;
         end = none_at i ∙ sym (core_none i s.ends e) ∙ h.end;
