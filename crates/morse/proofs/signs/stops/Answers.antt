@@ -2,12 +2,8 @@
 use lib.Count.{ones_in}
 use Rattle.morse.specs.Signs.{alphabet, sign_of}
 use Rattle.morse.specs.SignTable.{marks_of}
-use Rattle.morse.proofs.signs.stops.Statement.{statement}
-use Rattle.morse.proofs.signs.stops.Tie as tie
+use Rattle.morse.proofs.signs.stops.Goals as goal
 
-returns : tie.Need-returns
+pub returns : goal.returns
 unfolding ones_in alphabet sign_of marks_of
 returns c = tt
-
-pub stops-spec : {M : Type 1} → statement M
-stops-spec = tie.close (tie.spec returns)

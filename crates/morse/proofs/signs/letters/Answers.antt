@@ -2,12 +2,8 @@
 use lib.Count.{ones_in}
 use Rattle.morse.specs.Signs.{alphabet, sign_of}
 use Rattle.morse.specs.SignTable.{marks_of}
-use Rattle.morse.proofs.signs.letters.Statement.{statement}
-use Rattle.morse.proofs.signs.letters.Tie as tie
+use Rattle.morse.proofs.signs.letters.Goals as goal
 
-returns : tie.Need-returns
+pub returns : goal.returns
 unfolding ones_in alphabet sign_of marks_of
 returns c = tt
-
-pub letters-spec : {M : Type 1} → statement M
-letters-spec = tie.close (tie.spec returns)
