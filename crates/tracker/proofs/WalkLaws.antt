@@ -1,13 +1,13 @@
 -- Laws of a call on a curve: which way it goes, and what power is won or lost on either side of the peak.
 -- Assumes nothing.
-use Prim.Native.Nat.{ℕ, ◌+◌, ◌-◌, ◌<◌, ◌≤◌}
+use Prim.Native.Nat.{ℕ, ◌+◌, ◌<◌, ◌≤◌}
 use native.Mathlib.Omega.{arith}
 use native.Mathlib.Nat.{le_of_mul-le-mul_right, lt_of_mul-lt-mul_right}
 use mathlib.Core.Path.{◌≡◌, ap, subst, ◌∙◌}
 use mathlib.Core.Bool.{Bool, true, false, not}
 use lib.IntN.{ℤ, neg_ℤ}
 use Rattle.basics.proofs.ChoiceLaws.{within_low, within_high}
-use Rattle.tracker.specs.Tracker.{most_millivolts, longest_step, power, headed, in_range, track_of}
+use Rattle.tracker.specs.Tracker.{most_millivolts, longest_step, headed, in_range, track_of}
 use Rattle.tracker.specs.Range.{step_to, Moves, goes_up, goes_down, stops_above, stops_below, Kept}
 use Rattle.tracker.specs.Walk.{Curve, Place, size_of, Called}
 use Rattle.tracker.specs.TwoSteps.{Lower, Peaked}
