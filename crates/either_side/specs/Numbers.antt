@@ -1,6 +1,7 @@
 -- Numbers on either side: the fourteen that the page marks to be proved, each through the definition that a public
 -- call's contract cites.
 -- Assumes nothing.
+use Rattle.frames.specs.Serial.{both}
 use Rattle.std.specs.Prelude.{ℕ, ◌/◌, ◌%◌, ◌≡◌, Bool, true, false, List, [], ◌∷◌, replicate}
 use Rattle.basics.specs.Outcome.{reply}
 use Rattle.modules.specs.Power.{switched}
@@ -35,7 +36,7 @@ room = replicate 64 0
 
 -- a board fresh but for ground's last serial
 abbrev last_at : ℕ → State
-last_at last = with_serials (record { ground = last; payload = 0 }) fresh_state
+last_at last = with_serials (both last 0) fresh_state
 
 -- one that the next tick judges, fresh but for its mode and tension
 abbrev judged_next : Mode → ℕ → State

@@ -1,5 +1,6 @@
 -- The state of an image: what its fields say, if that is in range.
 -- Assumes nothing.
+use Rattle.frames.specs.Serial.{both}
 use Rattle.std.specs.Prelude.{ℕ, ◌+◌, ◌*◌, Bool, ◌&&◌, false, List, eqb, leb, length, take, drop, replicate}
 use Rattle.std.proofs.Math.Option.{Option, none, some}
 use Rattle.basics.specs.Choice.{if◌then◌else◌}
@@ -68,7 +69,7 @@ decoded bytes =
       antennas = eqb (byte_at 7 bytes) 1;
       masks = masks_in bytes;
       battery = record { tension = pair_at 8 bytes; ascend = pair_at 10 bytes; descend = pair_at 12 bytes };
-      serials = record { ground = pair_at 14 bytes; payload = pair_at 16 bytes };
+      serials = both (pair_at 14 bytes) (pair_at 16 bytes);
       message = message_in bytes;
       ends = ends_in bytes;
       modules = modules_in bytes;

@@ -26,6 +26,10 @@ class_of serial last =
     if distance serial last == 0 then Repeat else
     if nat_lt (distance serial last) stale_from then Fresh else Stale
 
+-- the last serial of each origin
+abbrev pub both : (ground : ℕ) (payload : ℕ) → Serials
+both ground payload = record { ground = ground; payload = payload }
+
 -- each origin has a last serial
 abbrev pub last_of : Origin → Serials → ℕ
 last_of Ground serials = serials.ground
@@ -33,5 +37,5 @@ last_of Payload serials = serials.payload
 
 -- a fresh one becomes the last serial
 abbrev pub moved_to : Origin → ℕ → Serials → Serials
-moved_to Ground serial serials = record { ground = serial; payload = serials.payload }
-moved_to Payload serial serials = record { ground = serials.ground; payload = serial }
+moved_to Ground serial serials = both serial serials.payload
+moved_to Payload serial serials = both serials.ground serial

@@ -1,5 +1,6 @@
 -- The fresh start.
 -- Assumes nothing.
+use Rattle.frames.specs.Serial.{both}
 use Rattle.std.specs.Prelude.{ℕ, true, false, List, replicate}
 use Rattle.modules.specs.Groups.{module_count, core_four}
 use Rattle.modules.specs.Ends.{no_ends}
@@ -32,7 +33,7 @@ fresh_state =
       antennas = false;
       masks = masks_of fresh_modules;
       battery = record { tension = 0; ascend = fresh_ascend; descend = fresh_descend };
-      serials = record { ground = 0; payload = 0 };
+      serials = both 0 0;
       message = no_message;
       ends = no_ends;
       modules = fresh_modules;
