@@ -1,5 +1,4 @@
 -- `State::in_range` meets its contract.
--- Assumes nothing.
 use mathlib.Core.Path.{◌≡◌, refl, sym, ◌∙◌}
 use mathlib.Core.Bool.{Bool, true, false, ◌&&◌, true≢false, false≢true}
 use borrow.Author.Tests.{not-false, not-true}
@@ -9,8 +8,7 @@ use Rattle.modules.specs.Stage.{modules_in_range}
 use Rattle.modules.specs.Masks.{are_masks_of}
 use Rattle.supervisor.specs.Range.{watch_in_range, battery_in_range, message_in_range, in_range}
 use Rattle.supervisor.specs.declared.state.State.{State}
-use Rattle.supervisor.proofs.state.State.in_range.Statement.{statement}
-use Rattle.supervisor.proofs.state.State.in_range.Tie as tie
+use Rattle.supervisor.proofs.state.State.in_range.Goals as goal
 
 -- check 1 by its parts, in the order in which they are asked: watch, battery and ends; modules and masks; message
 first_out : (watch battery message ends modules masks : Bool) → watch && battery && ends ≡ false → false ≡ (watch && battery && message && ends && modules && masks)
@@ -43,66 +41,38 @@ front_of s = watchOf s && battery_in_range s.battery && ends_in_range s.ends
 abbrev backOf : State → Bool
 backOf s = modules_in_range s.modules && are_masks_of s.modules s.masks
 
-in-range-requires : tie.Need-in-range-requires
-in-range-requires c κs = search rules
-
-in-range-requires-2 : tie.Need-in-range-requires-2
-in-range-requires-2 c κs = search rules
-
-in-range-requires-3 : tie.Need-in-range-requires-3
-in-range-requires-3 c κs = search rules
-
-returns : tie.Need-returns
+pub returns-then-not-in_range : goal.returns-then-not-in_range
 unfolding in_range
-returns c =
-    let watch = c.before.before.before.in_range_law in
-    let battery = c.before.before.in-range2 in
-    let ends = c.before.in-range3 in
-    let s : State = c.before.before.before.before.args.self in
+returns-then-not-in_range c =
+    let watch = c.in_range in
+    let battery = c.in_range-2 in
+    let ends = c.in_range-3 in
+    let s : State = c.args.self in
     let out : front_of s ≡ false =
-    rw (watch.ensures, battery.ensures, ends.ensures) at (not-true (watch.result && battery.result && ends.result) c.if1.true) in
+    rw (watch.ensures, battery.ensures, ends.ensures) at (not-true (watch.result && battery.result && ends.result) c.if-not-in_range.true-raw) in
     first_out (watchOf s) (battery_in_range s.battery) (message_in_range s.message) (ends_in_range s.ends)
     (modules_in_range s.modules) (are_masks_of s.modules s.masks) out
 
-in-range-requires-4 : tie.Need-in-range-requires-4
-in-range-requires-4 c κs = search rules
-
-returns-2 : tie.Need-returns-2
+pub returns-then-not-in_range-2 : goal.returns-then-not-in_range-2
 unfolding in_range
-returns-2 c =
-    let s : State = c.before.before.before.before.before.before.before.args.self in
-    let out : backOf s ≡ false = rw c.before.in-range4.ensures at (not-true c.before.in-range4.result c.if2.true) in
+returns-then-not-in_range-2 c =
+    let s : State = c.args.self in
+    let out : backOf s ≡ false = rw c.in_range-4.ensures at (not-true c.in_range-4.result c.if-not-in_range-2.true-raw) in
     modules-out (watchOf s && battery_in_range s.battery && message_in_range s.message && ends_in_range s.ends)
     (modules_in_range s.modules) (are_masks_of s.modules s.masks) out
 
-in-range-requires-5 : tie.Need-in-range-requires-5
-in-range-requires-5 c κs = search rules
-
-returns-3 : tie.Need-returns-3
+pub returns : goal.returns
 unfolding in_range
-returns-3 c =
-    let watch = c.before.before.before.before.before.before.before.in_range_law in
-    let battery = c.before.before.before.before.before.before.in-range2 in
-    let ends = c.before.before.before.before.before.in-range3 in
-    let modules = c.before.before.in-range4 in
-    let s : State = c.before.before.before.before.before.before.before.before.args.self in
+returns c =
+    let watch = c.in_range in
+    let battery = c.in_range-2 in
+    let ends = c.in_range-3 in
+    let modules = c.in_range-4 in
+    let s : State = c.args.self in
     let front : front_of s ≡ true =
     rw (watch.ensures, battery.ensures, ends.ensures) at
-    (not-false (watch.result && battery.result && ends.result) c.before.before.before.before.if1.false) in
-    let back : backOf s ≡ true = rw modules.ensures at (not-false modules.result c.before.if2.false) in
-    c.in-range5.ensures
+    (not-false (watch.result && battery.result && ends.result) c.if-not-in_range.false-raw) in
+    let back : backOf s ≡ true = rw modules.ensures at (not-false modules.result c.if-not-in_range-2.false-raw) in
+    c.in_range-5.ensures
     ∙ message-left (watchOf s) (battery_in_range s.battery) (message_in_range s.message) (ends_in_range s.ends)
     (modules_in_range s.modules) (are_masks_of s.modules s.masks) front back
-
-pub in-range-spec : {M : Type 1} → statement M
-in-range-spec =
-    tie.close
-    (tie.spec
-    in-range-requires
-    in-range-requires-2
-    in-range-requires-3
-    returns
-    in-range-requires-4
-    returns-2
-    in-range-requires-5
-    returns-3)

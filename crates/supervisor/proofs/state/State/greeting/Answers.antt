@@ -1,0 +1,6 @@
+-- `State::greeting` meets its contract.
+use borrow.Author.Rules.{rules}
+use Rattle.supervisor.proofs.state.State.greeting.Goals as goal
+
+pub returns : goal.returns
+returns c = simp (c.silent.ensures, c.message_from-self.ensures)
