@@ -1,6 +1,5 @@
 -- `act` meets its contract.
 use Rattle.supervisor.specs.Act.{act_of}
-use borrow.Author.Rules.{rules}
 use Rattle.basics.proofs.ChoiceLaws.{holds}
 use Rattle.supervisor.specs.Range.{in_range}
 use Rattle.supervisor.proofs.RangeLaws.{parts}

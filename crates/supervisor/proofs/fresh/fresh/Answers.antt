@@ -3,7 +3,6 @@ use Rattle.basics.specs.Each.{each, each_from}
 use Rattle.modules.specs.Masks.{mask_of, masks_of}
 use Rattle.modules.specs.Stage.{requested_by}
 use Rattle.supervisor.specs.Fresh.{fresh_state}
-use borrow.Author.Rules.{rules}
 use Rattle.supervisor.proofs.fresh.fresh.Goals as goal
 
 pub returns : goal.returns

@@ -1,5 +1,4 @@
 -- `message_from` meets its contract.
-use borrow.Author.Rules.{rules}
 use Rattle.supervisor.proofs.message.message_from.Goals as goal
 
 pub returns-then-length-repeats : goal.returns-then-length-repeats

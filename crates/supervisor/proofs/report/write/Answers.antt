@@ -2,7 +2,6 @@
 use native.Mathlib.Omega.{arith}
 use lib.ListN.{length-set}
 use lib.Seq.{sets-eq}
-use borrow.Author.Rules.{rules}
 use Rattle.supervisor.specs.Report.{report_of}
 use Rattle.supervisor.proofs.report.write.Goals as goal
 

@@ -10,7 +10,6 @@ use Rattle.supervisor.specs.State.{HasMasks}
 use Rattle.supervisor.proofs.RangeKept.{acted_masks}
 use Rattle.supervisor.specs.Range.{in_range}
 use borrow.Author.Tests.{le-leb, lt-leb, not-false, not-true}
-use borrow.Author.Rules.{rules}
 use Rattle.supervisor.specs.Step.{step_of}
 use Rattle.supervisor.proofs.step.step.Goals as goal
 use Rattle.supervisor.proofs.step.step.Goals.{Else-not-in_range}

@@ -1,6 +1,5 @@
 -- `Due::repeats` meets its contract.
 use native.Mathlib.Omega.{arith}
-use borrow.Author.Rules.{rules}
 use Rattle.supervisor.proofs.acted.Due.repeats.Goals as goal
 
 pub returns-then-repeats-eq0 : goal.returns-then-repeats-eq0

@@ -1,5 +1,4 @@
 -- `Battery::in_range` meets its contract.
-use borrow.Author.Rules.{rules}
 use Rattle.supervisor.proofs.state.Battery.in_range.Goals as goal
 
 pub returns : goal.returns

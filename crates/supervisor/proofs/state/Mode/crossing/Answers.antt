@@ -1,7 +1,6 @@
 -- `Mode::crossing` meets its contract.
 use native.Mathlib.Omega.{arith}
 use borrow.Author.Tests.{lt-ltb, le-ltb}
-use borrow.Author.Rules.{rules}
 use Rattle.supervisor.specs.declared.state.Battery.{Battery}
 use Rattle.supervisor.proofs.state.Mode.crossing.Goals as goal
 

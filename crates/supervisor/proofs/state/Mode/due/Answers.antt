@@ -1,6 +1,5 @@
 -- `Mode::due` meets its contract.
 use borrow.Author.Tests.{eq-eqb, ne_eqb}
-use borrow.Author.Rules.{rules}
 use Rattle.supervisor.proofs.state.Mode.due.Goals as goal
 
 pub returns-then-count-eq-BASIC_TICKS : goal.returns-then-count-eq-BASIC_TICKS

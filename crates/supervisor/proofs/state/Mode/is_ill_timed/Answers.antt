@@ -1,5 +1,4 @@
 -- `Mode::is_ill_timed` meets its contract.
-use borrow.Author.Rules.{rules}
 use Rattle.supervisor.specs.Command.{is_ill_timed}
 use Rattle.supervisor.proofs.state.Mode.is_ill_timed.Goals as goal
 

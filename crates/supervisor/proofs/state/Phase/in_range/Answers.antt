@@ -1,5 +1,4 @@
 -- `Phase::in_range` meets its contract.
-use borrow.Author.Rules.{rules}
 use Rattle.supervisor.proofs.state.Phase.in_range.Goals as goal
 
 pub returns-in-Waiting : goal.returns-in-Waiting

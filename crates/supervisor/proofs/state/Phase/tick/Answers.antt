@@ -2,7 +2,6 @@
 use Prim.Native.Nat.{ℕ}
 use native.Mathlib.Omega.{arith}
 use borrow.Author.Tests.{ltb-true, eq-eqb, ne_eqb}
-use borrow.Author.Rules.{rules}
 use Rattle.basics.specs.Choice.{within}
 use Rattle.supervisor.specs.Range.{wait_seconds, settle_seconds}
 use Rattle.basics.proofs.ChoiceLaws.{holds, within_low}

@@ -1,6 +1,5 @@
 -- `State::beacon_stage` meets its contract.
 use Rattle.supervisor.specs.Due.{beacon_stage}
-use borrow.Author.Rules.{rules}
 use Rattle.supervisor.proofs.state.State.beacon_stage.Goals as goal
 
 pub returns : goal.returns

@@ -1,6 +1,5 @@
 -- `State::command` meets its contract.
 use Rattle.supervisor.specs.Command.{by_serial}
-use borrow.Author.Rules.{rules}
 use Rattle.supervisor.proofs.state.State.command.Goals as goal
 
 pub returns-in-Repeat : goal.returns-in-Repeat

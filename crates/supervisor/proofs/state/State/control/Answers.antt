@@ -1,6 +1,5 @@
 -- `State::control` meets its contract.
 use borrow.Author.Tests.{eq-eqb, ne_eqb}
-use borrow.Author.Rules.{rules}
 use Rattle.supervisor.specs.Control.{controlled}
 use Rattle.supervisor.proofs.state.State.control.Goals as goal
 

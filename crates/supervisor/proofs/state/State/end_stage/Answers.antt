@@ -1,7 +1,6 @@
 -- `State::end_stage` meets its contract.
 use mathlib.Core.Path.{sym, ◌∙◌}
 use mathlib.Core.Bool.{false}
-use borrow.Author.Rules.{rules}
 use Rattle.modules.proofs.StageLaws.{requested_none}
 use Rattle.supervisor.specs.Ending.{ended}
 use Rattle.supervisor.proofs.state.State.end_stage.Goals as goal

@@ -1,5 +1,4 @@
 -- `State::fallen` meets its contract.
-use borrow.Author.Rules.{rules}
 use Rattle.supervisor.proofs.state.State.fallen.Goals as goal
 
 pub without_requests-requires : goal.without_requests-requires

@@ -1,5 +1,4 @@
 -- `State::greeting` meets its contract.
-use borrow.Author.Rules.{rules}
 use Rattle.supervisor.proofs.state.State.greeting.Goals as goal
 
 pub returns : goal.returns

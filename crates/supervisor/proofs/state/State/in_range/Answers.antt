@@ -2,7 +2,6 @@
 use mathlib.Core.Path.{◌≡◌, refl, sym, ◌∙◌}
 use mathlib.Core.Bool.{Bool, true, false, ◌&&◌, true≢false, false≢true}
 use borrow.Author.Tests.{not-false, not-true}
-use borrow.Author.Rules.{rules}
 use Rattle.modules.specs.Ends.{ends_in_range}
 use Rattle.modules.specs.Stage.{modules_in_range}
 use Rattle.modules.specs.Masks.{are_masks_of}

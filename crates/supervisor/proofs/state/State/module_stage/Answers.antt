@@ -3,7 +3,6 @@ use Prim.Native.Nat.{ℕ}
 use mathlib.Core.Path.{◌≡◌, ap, sym, ◌∙◌}
 use mathlib.Core.List.{List}
 use lib.Bits.{bit_and}
-use borrow.Author.Rules.{rules}
 use Rattle.modules.specs.Masks.{masks_of, staged}
 use Rattle.modules.specs.Stage.{stage_of, switched_by}
 use Rattle.modules.specs.declared.power.Module.{Module}

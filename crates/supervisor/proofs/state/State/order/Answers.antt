@@ -1,7 +1,6 @@
 -- `State::order` meets its contract.
 use Prim.Native.Nat.{ℕ}
 use mathlib.Core.Path.{ap, sym, ◌∙◌}
-use borrow.Author.Tests.{not-false, not-true}
 use Rattle.basics.proofs.EachLaws.{length_mapped}
 use Rattle.modules.specs.Masks.{masks_of, requests_set}
 use Rattle.modules.proofs.MasksLaws.{masks_asked_one}
@@ -16,12 +15,12 @@ with_modules-requires c =
     let s = c.args.self in
     let eight : Eight s = search (rules, length_mapped) in
     elim c.if-not-is_ill_timed.branch [
-      then-not-is_ill_timed w ↦
-        w.masks-is ∙ w.request-masks.ensures
-        ∙ ap (λ (n : ℕ). requests_set n c.args.on s.masks) w.one_bit.ensures
-        ∙ masks_asked_one c.args.which c.args.on s.modules s.masks eight c.requires
-        ∙ ap masks_of (sym (w.asked-is ∙ w.request_one-asked.ensures))
-    | else-not-is_ill_timed w ↦ w.masks-is ∙ c.requires ∙ ap masks_of (sym w.asked-is)
+      | then-not-is_ill_timed w ↦
+          w.masks-is ∙ w.request-masks.ensures
+          ∙ ap (λ (n : ℕ). requests_set n c.args.on s.masks) w.one_bit.ensures
+          ∙ masks_asked_one c.args.which c.args.on s.modules s.masks eight c.requires
+          ∙ ap masks_of (sym (w.asked-is ∙ w.request_one-asked.ensures))
+      | else-not-is_ill_timed w ↦ w.masks-is ∙ c.requires ∙ ap masks_of (sym w.asked-is)
     ]
 
 pub returns : goal.returns
@@ -29,7 +28,7 @@ unfolding request_set
 returns c =
     let judged = c.is_ill_timed in
     elim c.if-not-is_ill_timed.branch [
-      then-not-is_ill_timed w ↦ simp (
+      | then-not-is_ill_timed w ↦ simp (
         c.silent.ensures,
         c.with_modules.ensures,
         w.request_one-asked.ensures,
@@ -39,7 +38,7 @@ returns c =
         w.answer-is,
         sym judged.ensures ∙ w.if-not-is_ill_timed.true,
       )
-    | else-not-is_ill_timed w ↦ simp (
+      | else-not-is_ill_timed w ↦ simp (
         c.silent.ensures,
         c.with_modules.ensures,
         w.self-is,

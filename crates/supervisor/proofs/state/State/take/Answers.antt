@@ -1,5 +1,4 @@
 -- `State::take` meets its contract.
-use borrow.Author.Rules.{rules}
 use Rattle.supervisor.proofs.state.State.take.Goals as goal
 
 pub returns-in-Order : goal.returns-in-Order

@@ -1,12 +1,6 @@
 -- `State::tick` meets its contract.
 use mathlib.Core.Path.{◌≡◌, refl}
 use mathlib.Core.Bool.{false}
-use mathlib.Core.List.{[], ◌∷◌}
-use mathlib.Core.Logic.{⊎_elim}
-use native.Mathlib.Omega.{arith}
-use types.Run.{OneOf}
-use denote.Enum.Declared
-use borrow.Author.Rules.{rules}
 use Rattle.basics.proofs.ChoiceLaws.{is_true, holds}
 use Rattle.supervisor.proofs.RangeLaws.{parts, phase_in_range_law, counts_of}
 use Rattle.supervisor.proofs.BeforeModulesLaws.{before_masks}

@@ -1,5 +1,4 @@
 -- `Watch::in_range` meets its contract.
-use borrow.Author.Rules.{rules}
 use Rattle.supervisor.proofs.state.Watch.in_range.Goals as goal
 
 pub returns-in-DeployWait : goal.returns-in-DeployWait
