@@ -1,5 +1,4 @@
 -- `modules_on` meets its contract: the ones of the on mask are the modules that are on.
--- Assumes nothing.
 use mathlib.Core.Path.{◌≡◌, ap, ◌∙◌}
 use mathlib.Core.Bool.{true}
 use borrow.Author.Tests.{not-false, not-true}
@@ -12,23 +11,16 @@ use Rattle.modules.proofs.MasksLaws.{ones_on}
 use Rattle.supervisor.specs.Range.{in_range}
 use Rattle.supervisor.proofs.RangeLaws.{parts}
 use Rattle.counting.specs.Counting.{modules_on_of}
-use Rattle.counting.proofs.modules_on.Statement.{statement}
-use Rattle.counting.proofs.modules_on.Tie as tie
+use Rattle.counting.proofs.modules_on.Goals as goal
 
-in-range-requires : tie.Need-in-range-requires
-in-range-requires c κs = search rules
-
-returns : tie.Need-returns
+pub returns-then-not-in_range : goal.returns-then-not-in_range
 unfolding modules_on_of
-returns c = simp (rw c.before.in_range_law.ensures at (not-true c.before.in_range_law.result c.if1.true))
+returns-then-not-in_range c = simp (rw c.in_range.ensures at (not-true c.in_range.result c.if-not-in_range.true-raw))
 
-returns-2 : tie.Need-returns-2
+pub returns : goal.returns
 unfolding modules_on_of
-returns-2 c =
-    let s = c.before.before.before.args.state in
-    let valid : in_range s ≡ true = rw c.before.before.in_range_law.ensures at (not-false c.before.before.in_range_law.result c.before.if1.false) in
+returns c =
+    let s = c.args.state in
+    let valid : in_range s ≡ true = rw c.in_range.ensures at (not-false c.in_range.result c.if-not-in_range.false-raw) in
     let counted : ones s.masks.on ≡ count_on s.modules = ap (λ (m : Masks). ones m.on) (parts s (holds (in_range s) valid)).masks ∙ ones_on s.modules in
     simp (valid, counted)
-
-pub modules-on-spec : {M : Type 1} → statement M
-modules-on-spec = tie.close (tie.spec in-range-requires returns returns-2)
