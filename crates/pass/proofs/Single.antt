@@ -15,8 +15,8 @@ use Rattle.frames.specs.Answer.{is_reported}
 use Rattle.frames.specs.Kind.{report_bytes}
 use Rattle.frames.specs.declared.answer.Answer.{Answer}
 use Rattle.supervisor.specs.Range.{in_range}
-use Rattle.supervisor.specs.Step.{step_of, refused}
-use Rattle.supervisor.specs.History.{Call, called, after, Roomy}
+use Rattle.supervisor.specs.Step.{step_of}
+use Rattle.supervisor.specs.History.{Call, called, Roomy}
 use Rattle.supervisor.specs.declared.state.State.{State}
 use Rattle.supervisor.specs.declared.step.Stepped.{Stepped}
 use Rattle.supervisor.proofs.HistoryLaws.{called_in_range}

@@ -2,7 +2,6 @@
 use mathlib.Core.Path.{◌≡◌, ap, ◌∙◌}
 use mathlib.Core.Bool.{true}
 use borrow.Author.Tests.{not-false, not-true}
-use borrow.Author.Rules.{rules}
 use lib.Count.{ones}
 use Rattle.basics.proofs.ChoiceLaws.{holds}
 use Rattle.modules.specs.Masks.{count_on}

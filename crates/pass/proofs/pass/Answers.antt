@@ -1,14 +1,9 @@
 -- `pass` meets its contract. The invariant: what was done and what is left make up the whole. The measure is the bytes left.
-use Prim.Native.Nat.{◌-◌}
-use mathlib.Core.Path.{◌≡◌, sym, ◌∙◌}
-use mathlib.Core.Bool.{true}
+use mathlib.Core.Path.{sym, ◌∙◌}
 use native.Mathlib.Omega.{arith}
 use borrow.Author.Tests.{not-true, not-false}
-use lib.ListN.{length}
-use borrow.Author.Rules.{rules}
-use Rattle.frames.specs.Answer.{is_reported}
 use Rattle.pass.specs.Pass.{pass_of}
-use Rattle.pass.proofs.PassLaws.{Underway, underway_start, underway_frame, underway_stop, underway_end, frame_within, report_within}
+use Rattle.pass.proofs.PassLaws.{underway_start, underway_frame, underway_stop, underway_end, frame_within, report_within}
 use Rattle.pass.proofs.pass.Goals as goal
 
 pub returns-then-not-in_range : goal.returns-then-not-in_range

@@ -1,5 +1,4 @@
 -- `work` meets its contract: the frame at the front is handed to a step.
-use borrow.Author.Rules.{rules}
 use Rattle.frames.proofs.CutLaws.{front_within}
 use Rattle.pass.proofs.PassLaws.{work_made}
 use Rattle.pass.proofs.work.Goals as goal
