@@ -66,6 +66,7 @@ fn stayed_on(tries: u8, seconds: u8) -> Power
 
 impl Power {
     // The power after one second in which the module was wanted or not, and short or not.
+    #[tactic(auto, unfolding(crate::specs::Power::switched))]
     pub fn second(self, wanted: bool, short: bool) -> Power
         ensures { result ≡ switched wanted short self }
     {
