@@ -1,5 +1,5 @@
 -- `total` meets its contract: by the table's rule, and past the last kind there is none.
-use Rattle.std.proofs.Common.{◌+◌, arith, eqb→eq, rules}
+use Rattle.std.proofs.Common.{◌+◌, arith, eqb→eq}
 use Rattle.basics.proofs.TablesLaws.{upto}
 use Rattle.frames.specs.Kind.{greeting_kind, is_total, total_of}
 use Rattle.frames.proofs.ReadingLaws.{no_total}
