@@ -6,7 +6,7 @@ use Rattle.frames.proofs.ReadingLaws.{no_total}
 use Rattle.frames.proofs.kind.total.Goals as goal
 
 pub returns-then-kind-gt-GREETING : goal.returns-then-kind-gt-GREETING
-returns-then-kind-gt-GREETING c = no_total _ c.if-kind-gt-GREETING.true
+returns-then-kind-gt-GREETING c = no_total _ (omega (arith, c.if-kind-gt-GREETING.true))
 
 pub returns : goal.returns
 returns c =
