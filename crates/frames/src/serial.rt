@@ -26,6 +26,7 @@ pub enum Class {
 const STALE_FROM: u16 = 32768;
 
 // The class of a serial, by its distance from the last.
+#[tactic(auto, unfolding(crate::specs::Serial::class_of))]
 fn classify(serial: u16, last: u16) -> Class
     ensures { result ≡ class_of serial last }
 {

@@ -1,5 +1,5 @@
 -- `cut` meets its contract: the tests are those of the definition.
-use Rattle.std.proofs.Common.{rules, le-ltb, lt-ltb, eq-eqb, ne_eqb}
+use Rattle.std.proofs.Common.{le-ltb, lt-ltb, eq-eqb, ne_eqb}
 use Rattle.frames.specs.Cut.{cut_of}
 use Rattle.frames.proofs.cut.cut.Goals as goal
 

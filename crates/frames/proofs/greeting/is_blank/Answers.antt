@@ -1,6 +1,5 @@
 -- `is_blank` meets its contract: the bytes that are left decide.
-use Rattle.std.proofs.Common.{◌≡◌, ◌-◌, ◌≤◌, [], length, drop, sym, ◌∙◌, arith, drop_of_length-le, rules, eq-eqb, ne_eqb}
-use Rattle.frames.specs.Greeting.{all_zero}
+use Rattle.std.proofs.Common.{◌≡◌, [], drop, sym, ◌∙◌, arith, drop_of_length-le, rules, eq-eqb, ne_eqb}
 use Rattle.frames.proofs.GreetingLaws.{zero_step}
 use Rattle.frames.proofs.greeting.is_blank.Goals as goal
 

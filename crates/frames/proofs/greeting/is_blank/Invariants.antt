@@ -1,7 +1,6 @@
 -- `is_blank` meets its contract: the bytes that are left decide.
-use Rattle.std.proofs.Common.{◌≡◌, ◌-◌, ◌≤◌, [], length, drop, sym, ◌∙◌, arith, drop_of_length-le, rules, eq-eqb, ne_eqb}
+use Rattle.std.proofs.Common.{◌≡◌, ◌-◌, ◌≤◌, length, drop}
 use Rattle.frames.specs.Greeting.{all_zero}
-use Rattle.frames.proofs.GreetingLaws.{zero_step}
 use Rattle.frames.proofs.greeting.is_blank.Given as goal
 
 abbrev pub invariant-loop-i : goal.invariant-loop-i

@@ -1,7 +1,5 @@
 -- `is_empty` meets its contract: what is found from byte i up is all that there is.
-use Rattle.std.proofs.Common.{◌≡◌, ℕ, ◌-◌, ◌≤◌, Bool, ◌&&◌, eqb, length, get_or, drop, sym, refl, ap, ◌∙◌, arith, rules}
-use Rattle.basics.proofs.BitLaws.{or_none}
-use Rattle.basics.proofs.EachLaws.{gathered_turn, gathered_none}
+use Rattle.std.proofs.Common.{◌≡◌, ◌≤◌, eqb, drop}
 use Rattle.frames.specs.Greeting.{longest_greeting, all_zero}
 use Rattle.frames.proofs.greeting.is_empty.Given as goal
 

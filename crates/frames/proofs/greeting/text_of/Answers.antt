@@ -1,5 +1,5 @@
 -- `text_of` meets its contract.
-use Rattle.std.proofs.Common.{drop, arith, length-drop, rules, eq-eqb, ne_eqb}
+use Rattle.std.proofs.Common.{drop, arith, length-drop, eq-eqb, ne_eqb}
 use Rattle.basics.proofs.PartLaws.{part_from_law, copied_over}
 use Rattle.frames.specs.Greeting.{text_place, greeting_text}
 use Rattle.frames.proofs.greeting.text_of.Goals as goal

@@ -1,5 +1,5 @@
 -- `antennas` meets its contract.
-use Rattle.std.proofs.Common.{rules, le-leb}
+use Rattle.std.proofs.Common.{le-leb}
 use borrow.Author.Tests.{lt-leb}
 use Rattle.frames.specs.Reading.{antennas_fields}
 use Rattle.frames.proofs.reading.antennas.Goals as goal

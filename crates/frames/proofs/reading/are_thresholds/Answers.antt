@@ -1,5 +1,4 @@
 -- `are_thresholds` meets its contract.
-use Rattle.std.proofs.Common.{rules}
 use Rattle.frames.proofs.reading.are_thresholds.Goals as goal
 
 pub returns : goal.returns

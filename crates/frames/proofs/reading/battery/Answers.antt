@@ -1,5 +1,4 @@
 -- `battery` meets its contract.
-use Rattle.std.proofs.Common.{rules}
 use Rattle.frames.specs.Reading.{battery_fields}
 use Rattle.frames.proofs.reading.battery.Goals as goal
 

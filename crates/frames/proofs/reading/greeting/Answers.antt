@@ -1,6 +1,5 @@
 -- `greeting` meets its contract.
 use Rattle.frames.specs.Reading.{greeting_fields}
-use Rattle.std.proofs.Common.{rules}
 use Rattle.frames.proofs.reading.greeting.Goals as goal
 
 pub returns-then-is_origin-is_greeting : goal.returns-then-is_origin-is_greeting

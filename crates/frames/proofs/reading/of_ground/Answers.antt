@@ -1,5 +1,5 @@
 -- `of_ground` meets its contract.
-use Rattle.std.proofs.Common.{rules, eq-eqb, ne_eqb}
+use Rattle.std.proofs.Common.{eq-eqb, ne_eqb}
 use Rattle.frames.specs.Reading.{of_ground}
 use Rattle.frames.proofs.reading.of_ground.Goals as goal
 

@@ -1,6 +1,5 @@
 -- `order` meets its contract.
 use Rattle.frames.specs.Reading.{order_fields}
-use Rattle.std.proofs.Common.{rules}
 use Rattle.frames.proofs.reading.order.Goals as goal
 
 pub returns-then-is_foreign : goal.returns-then-is_foreign

@@ -1,5 +1,5 @@
 -- `read` meets its contract.
-use Rattle.std.proofs.Common.{◌≡◌, ℕ, List, length, sym, refl, ap, ◌∙◌, arith, rules, eq-eqb, ne_eqb}
+use Rattle.std.proofs.Common.{◌≡◌, ℕ, List, length, sym, refl, ap, ◌∙◌, arith, eq-eqb, ne_eqb}
 use Rattle.frames.proofs.ReadingLaws.{last_total, read_fields}
 use Rattle.frames.specs.Kind.{total_of}
 use Rattle.frames.specs.Reading.{byte_at, fields_of, read_frame}

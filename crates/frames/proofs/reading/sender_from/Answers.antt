@@ -1,5 +1,4 @@
 -- `sender_from` meets its contract.
-use Rattle.std.proofs.Common.{rules}
 use Rattle.frames.proofs.reading.sender_from.Goals as goal
 
 pub returns : goal.returns

@@ -1,6 +1,5 @@
 -- `thresholds` meets its contract.
 use Rattle.frames.specs.Reading.{thresholds_fields}
-use Rattle.std.proofs.Common.{rules}
 use Rattle.frames.proofs.reading.thresholds.Goals as goal
 
 pub returns-then-is_origin-are_thresholds : goal.returns-then-is_origin-are_thresholds

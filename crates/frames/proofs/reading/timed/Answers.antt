@@ -1,6 +1,5 @@
 -- `timed` meets its contract.
 use Rattle.frames.specs.Reading.{timed_fields}
-use Rattle.std.proofs.Common.{rules}
 use Rattle.frames.proofs.reading.timed.Goals as goal
 
 pub returns-then-is_foreign : goal.returns-then-is_foreign

@@ -1,5 +1,4 @@
 -- `Frame::head` meets its contract.
-use Rattle.std.proofs.Common.{rules}
 use Rattle.frames.proofs.frame.Frame.head.Goals as goal
 
 pub returns-in-Tick : goal.returns-in-Tick

@@ -1,5 +1,4 @@
 -- `Serials::moved` meets its contract.
-use Rattle.std.proofs.Common.{rules}
 use Rattle.frames.proofs.serial.Serials.moved.Goals as goal
 
 pub returns-in-Ground : goal.returns-in-Ground
