@@ -1,0 +1,34 @@
+-- `flight::saving::save` meets its contract: the head, then the message, the ends, the masks and the modules, fill the image.
+use Prim.Native.Nat.{ℕ}
+use mathlib.Core.Path.{ap, ◌∙◌}
+use mathlib.Core.List.{List}
+use lib.Seq.{sets}
+use Rattle.basics.proofs.EachLaws.{length_mapped}
+use Rattle.supervisor.proofs.ModuleLaws.{Eight}
+use Rattle.flight.specs.Saving.{message_place, ends_place, masks_place, modules_place}
+use Rattle.flight.specs.Saving.{message_bytes, ends_bytes, masks_bytes, modules_bytes}
+use Rattle.flight.proofs.SavingLaws.{modules_in_range_law, stored_state}
+use borrow.Author.Rules.{rules}
+use Rattle.flight.proofs.saving.save.Goals as goal
+
+pub put_modules-requires : goal.put_modules-requires
+put_modules-requires c =
+    (c.put_masks.auto.1.0 ∙ put-masks-requires (goal.at.put_modules-requires c).After-put_masks-arg-2-1 κs, modules_in_range_law c.args.state c.requires.1)
+
+eight : (start : tie.Start) → Eight start.args.state
+eight start = search (rules, length_mapped)
+
+pub returns : goal.returns
+returns c =
+    let start = (goal.at.returns c).After-head-front in
+    let s = start.args.state in
+    let stored : List ℕ → List ℕ = λ r. sets r modules_place (modules_bytes s.modules) in
+    let with-masks : List ℕ → List ℕ = λ r. stored (sets r masks_place (masks_bytes s.masks)) in
+    let with-ends : List ℕ → List ℕ = λ r. with-masks (sets r ends_place (ends_bytes s.ends)) in
+    let with-message : List ℕ → List ℕ = λ r. with-ends (sets r message_place (message_bytes s.message)) in
+    c.put_modules.ensures
+    ∙ ap stored c.put_masks.ensures
+    ∙ ap with-masks c.put_ends.ensures
+    ∙ ap with-ends c.put_message.ensures
+    ∙ ap with-message c.copy.ensures.1
+    ∙ stored_state s _ start.args.image.now c.head-front.ensures start.requires.1 (eight start) start.requires.0
