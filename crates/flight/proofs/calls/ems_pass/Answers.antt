@@ -2,7 +2,6 @@
 -- and the image becomes that of the state after it if a report was written.
 use mathlib.Core.Path.{◌≡◌, sym, ◌∙◌}
 use mathlib.Core.Bool.{true}
-use mathlib.Core.Logic.{⊎_elim}
 use native.Mathlib.Omega.{arith}
 use borrow.Author.Tests.{not-true, not-false}
 use borrow.Author.Rules.{rules}
@@ -10,35 +9,30 @@ use Rattle.flight.specs.Loading.{has_layout}
 use Rattle.flight.proofs.LoadingLaws.{layout}
 use Rattle.flight.proofs.CallsLaws.{pass_foreign, pass_in_range, pass_worked, pass_idles}
 use Rattle.flight.proofs.calls.ems_pass.Goals as goal
-use Rattle.flight.proofs.calls.ems_pass.Goals.{Else-not-has_layout}
+use Rattle.flight.proofs.calls.ems_pass.Goals.{then-passed-gt0, else-passed-gt0}
 
 pub returns-then-not-has_layout : goal.returns-then-not-has_layout
 returns-then-not-has_layout c =
     simp c.number.ensures (pass_foreign _ _ (sym c.has_layout.ensures ∙ not-true _ c.if-not-has_layout.true-raw) _)
 
--- past the test, the image has the layout
-own : (c : Else-not-has_layout) → has_layout c.args.image.now ≡ true
-own c = sym c.has_layout.ensures ∙ not-false _ c.if-not-has_layout.false-raw
-
 pub decode-state-requires : goal.decode-state-requires
-decode-state-requires c = (layout _ (own (goal.at.decode-state-requires c).After-has_layout)).size
+decode-state-requires c =
+    let own : has_layout c.args.image.now ≡ true = sym c.has_layout.ensures ∙ c.if-not-has_layout.false in
+    (layout _ own).size
 
 pub save-requires : goal.save-requires
 save-requires c =
-    let test = (goal.at.save-requires c).Else-not-has_layout in
-    ((layout _ (own test)).size, pass_in_range _ _ (own test) _ c.decode-state.ensures _ c.pass-passed.result _ c.pass-passed.ensures c.if-passed-gt0.true)
-
-pub shape_of-image : goal.shape_of-image
-shape_of-image c = ⊎_elim (λ w. search rules) (λ w. search rules) c.if-passed-gt0.branch
+    let own : has_layout c.args.image.now ≡ true = sym c.has_layout.ensures ∙ c.if-not-has_layout.false in
+    ((layout _ own).size, pass_in_range _ _ own _ c.decode-state.ensures _ c.pass-passed.result _ c.pass-passed.ensures c.if-passed-gt0.true)
 
 pub returns : goal.returns
 returns c =
-    let test = (goal.at.returns c).After-has_layout in
+    let own : has_layout c.args.image.now ≡ true = sym c.has_layout.ensures ∙ c.if-not-has_layout.false in
     simp c.number-2.ensures
-    (⊎_elim
-    (λ w. simp (w.5, w.2.ensures)
-    (pass_worked _ _ (own test) _ c.decode-state.ensures _ c.pass-passed.result _ c.pass-passed.ensures w.0.taken))
-    (λ w. simp w.1
-    (pass_idles _ _ (own test) _ c.decode-state.ensures _ c.pass-passed.result _ c.pass-passed.ensures
-    (λ i. (test.slice_known-1.given i).fits) (omega (arith, w.0.left))))
-    c.if-passed-gt0.branch)
+    (elim c.if-passed-gt0.branch [
+      then-passed-gt0 w ↦ simp (w.image-is, w.save.ensures)
+    (pass_worked _ _ own _ c.decode-state.ensures _ c.pass-passed.result _ c.pass-passed.ensures w.if-passed-gt0.true)
+    | else-passed-gt0 w ↦ simp w.image-is
+    (pass_idles _ _ own _ c.decode-state.ensures _ c.pass-passed.result _ c.pass-passed.ensures
+    (λ i. search rules) (omega (arith, w.if-passed-gt0.false)))
+    ])

@@ -10,8 +10,7 @@ use Rattle.flight.proofs.codes.power_code.Goals as goal
 
 pub overflow_sub-result : goal.overflow_sub-result
 overflow_sub-result c =
-    let (tries, (seconds, _)) = c.power-1.given.0 in
-    omega (arith, (on_fits tries seconds (holds _ (rw c.in-On.is at c.requires))).low)
+    omega (arith, (on_fits c.in-On.tries c.in-On.seconds (holds _ (rw c.in-On.is at c.requires))).low)
 
 pub overflow_add-result-in-Failed : goal.overflow_add-result-in-Failed
 overflow_add-result-in-Failed c = omega (arith, leb-true c.in-Failed.left retry_seconds (rw c.in-Failed.is at c.requires))

@@ -12,16 +12,12 @@ use borrow.Author.Rules.{rules}
 use Rattle.flight.proofs.saving.save.Goals as goal
 
 pub put_modules-requires : goal.put_modules-requires
-put_modules-requires c =
-    (c.put_masks.auto.1.0 ∙ put-masks-requires (goal.at.put_modules-requires c).After-put_masks-arg-2-1 κs, modules_in_range_law c.args.state c.requires.1)
-
-eight : (start : tie.Start) → Eight start.args.state
-eight start = search (rules, length_mapped)
+put_modules-requires c = (search rules, modules_in_range_law c.args.state c.requires.1)
 
 pub returns : goal.returns
 returns c =
-    let start = (goal.at.returns c).After-head-front in
-    let s = start.args.state in
+    let s = c.args.state in
+    let eight : Eight s = search (rules, length_mapped) in
     let stored : List ℕ → List ℕ = λ r. sets r modules_place (modules_bytes s.modules) in
     let with-masks : List ℕ → List ℕ = λ r. stored (sets r masks_place (masks_bytes s.masks)) in
     let with-ends : List ℕ → List ℕ = λ r. with-masks (sets r ends_place (ends_bytes s.ends)) in
@@ -31,4 +27,4 @@ returns c =
     ∙ ap with-masks c.put_ends.ensures
     ∙ ap with-ends c.put_message.ensures
     ∙ ap with-message c.copy.ensures.1
-    ∙ stored_state s _ start.args.image.now c.head-front.ensures start.requires.1 (eight start) start.requires.0
+    ∙ stored_state s _ c.args.image.now c.head-front.ensures c.requires.1 eight c.requires.0
