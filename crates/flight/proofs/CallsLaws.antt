@@ -16,7 +16,6 @@ use Rattle.morse.specs.Answers.{noRoom}
 use Rattle.hearing.specs.Reading.{Read, read_reply}
 use Rattle.hearing.specs.declared.reading.Heard.{Heard}
 use Rattle.frames.specs.Answer.{answer_number, is_reported}
-use Rattle.frames.specs.declared.answer.Answer.{Answer}
 use Rattle.supervisor.specs.Range.{in_range}
 use Rattle.supervisor.specs.Step.{step_of}
 use Rattle.supervisor.specs.History.{Call, called}

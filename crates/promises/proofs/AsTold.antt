@@ -18,7 +18,6 @@ use Rattle.supervisor.specs.declared.state.State.{State}
 use Rattle.supervisor.proofs.FreshLaws.{fresh_eight, fresh_requested, fresh_off}
 use Rattle.supervisor.proofs.HistoryLaws.{called_eight, after_append}
 use Rattle.supervisor.proofs.ModuleLaws.{Eight, core_low, core_or_mission, core_not_mission}
-use Rattle.supervisor.proofs.TickLaws.{waits}
 use Rattle.promises.specs.AsTold.{AsTold, Word, plain, says, Requested, AsOrdered, OnAfter, running_tick, ordered, later, crossing, said, last_word, last_order}
 use Rattle.promises.specs.TwoCraft.{shorted}
 use Rattle.promises.specs.Deployment.{deployed}

@@ -14,7 +14,6 @@ use Rattle.frames.specs.About.{a_command, about, is_tick}
 use Rattle.frames.specs.Reading.{most_minutes}
 use Rattle.frames.specs.declared.answer.Answer.TheVariants.{NotNow}
 use Rattle.frames.specs.declared.sender.Sender.{Sender}
-use Rattle.frames.specs.declared.command.Command.{Command}
 use Rattle.frames.specs.declared.command.Command.TheVariants.{Timed}
 use Rattle.frames.specs.declared.frame.Frame.{Frame}
 use Rattle.frames.specs.declared.reading.Reading.TheVariants.{Accepted}

@@ -1,6 +1,6 @@
 -- Greeted as often as asked, proved: what is left of a message is what its greeting asked for, less what was sent.
 -- Assumes nothing.
-use Prim.Native.Nat.{ℕ, ◌+◌, ◌-◌, ◌%◌}
+use Prim.Native.Nat.{ℕ, ◌+◌, ◌%◌}
 use native.Mathlib.Omega.{arith}
 use mathlib.Core.Path.{◌≡◌, refl, sym, ap, subst, ◌∙◌}
 use mathlib.Core.Bool.{Bool, true, false, ◌&&◌, ◌||◌, true≢false}
@@ -14,7 +14,6 @@ use Rattle.frames.specs.Answer.{answer_number}
 use Rattle.frames.specs.Greeting.{greeting_text}
 use Rattle.frames.specs.About.{about, is_tick, a_command}
 use Rattle.frames.specs.declared.sender.Sender.{Sender}
-use Rattle.frames.specs.declared.command.Command.{Command}
 use Rattle.frames.specs.declared.command.Command.TheVariants.{Greeting}
 use Rattle.frames.specs.declared.frame.Frame.{Frame}
 use Rattle.frames.specs.declared.frame.Frame.TheVariants as frame

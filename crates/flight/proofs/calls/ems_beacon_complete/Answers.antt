@@ -1,5 +1,4 @@
 -- `flight::calls::ems_beacon_complete` meets its contract: the answer by the page's number and length.
-use borrow.Author.Rules.{rules}
 use Rattle.beacon.specs.Writing.{written_reply}
 use Rattle.flight.proofs.CallsLaws.{replied_by}
 use Rattle.flight.proofs.calls.ems_beacon_complete.Goals as goal

@@ -1,7 +1,6 @@
 -- `flight::calls::ems_beacon_extended` meets its contract: the answer by the page's number and length.
 use Rattle.beacon.specs.Writing.{written_reply}
 use Rattle.flight.proofs.CallsLaws.{replied_by}
-use borrow.Author.Rules.{rules}
 use Rattle.flight.proofs.calls.ems_beacon_extended.Goals as goal
 
 pub returns : goal.returns

@@ -1,5 +1,4 @@
 -- `flight::calls::ems_key` meets its contract: the answer by the page's number and count.
-use borrow.Author.Rules.{rules}
 use Rattle.morse.specs.Keying.{key_reply}
 use Rattle.flight.proofs.CallsLaws.{replied_by}
 use Rattle.flight.proofs.calls.ems_key.Goals as goal

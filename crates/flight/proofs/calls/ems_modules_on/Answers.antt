@@ -3,7 +3,6 @@ use Prim.Native.Nat.{ℕ}
 use mathlib.Core.Path.{◌≡◌, ap, sym, ◌∙◌}
 use mathlib.Core.Bool.{true}
 use borrow.Author.Tests.{not-true, not-false}
-use borrow.Author.Rules.{rules}
 use Rattle.basics.specs.Outcome.{reply}
 use Rattle.flight.specs.Calls.{modules_on_reply}
 use Rattle.flight.specs.Loading.{has_layout}

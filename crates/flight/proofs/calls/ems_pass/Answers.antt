@@ -3,7 +3,7 @@
 use mathlib.Core.Path.{◌≡◌, sym, ◌∙◌}
 use mathlib.Core.Bool.{true}
 use native.Mathlib.Omega.{arith}
-use borrow.Author.Tests.{not-true, not-false}
+use borrow.Author.Tests.{not-true}
 use borrow.Author.Rules.{rules}
 use Rattle.flight.specs.Loading.{has_layout}
 use Rattle.flight.proofs.LoadingLaws.{layout}
@@ -30,9 +30,9 @@ returns c =
     let own : has_layout c.args.image.now ≡ true = sym c.has_layout.ensures ∙ c.if-not-has_layout.false in
     simp c.number-2.ensures
     (elim c.if-passed-gt0.branch [
-      then-passed-gt0 w ↦ simp (w.image-is, w.save.ensures)
-    (pass_worked _ _ own _ c.decode-state.ensures _ c.pass-passed.result _ c.pass-passed.ensures w.if-passed-gt0.true)
-    | else-passed-gt0 w ↦ simp w.image-is
-    (pass_idles _ _ own _ c.decode-state.ensures _ c.pass-passed.result _ c.pass-passed.ensures
-    (λ i. search rules) (omega (arith, w.if-passed-gt0.false)))
+      | then-passed-gt0 w ↦ simp (w.image-is, w.save.ensures)
+          (pass_worked _ _ own _ c.decode-state.ensures _ c.pass-passed.result _ c.pass-passed.ensures w.if-passed-gt0.true)
+      | else-passed-gt0 w ↦ simp w.image-is
+          (pass_idles _ _ own _ c.decode-state.ensures _ c.pass-passed.result _ c.pass-passed.ensures
+          (λ i. search rules) (omega (arith, w.if-passed-gt0.false)))
     ])

@@ -1,5 +1,4 @@
 -- `flight::calls::ems_read` meets its contract: the answer by the page's number and count.
-use borrow.Author.Rules.{rules}
 use Rattle.flight.proofs.CallsLaws.{read_replied}
 use Rattle.flight.proofs.calls.ems_read.Goals as goal
 

@@ -2,7 +2,7 @@
 -- becomes the next state's if a report was written.
 use mathlib.Core.Path.{◌≡◌, sym, ◌∙◌}
 use mathlib.Core.Bool.{true}
-use borrow.Author.Tests.{not-true, not-false}
+use borrow.Author.Tests.{not-true}
 use borrow.Author.Rules.{rules}
 use Rattle.flight.specs.Loading.{has_layout}
 use Rattle.flight.proofs.LoadingLaws.{layout}
@@ -31,9 +31,9 @@ returns c =
     let own : has_layout c.args.image.now ≡ true = sym c.has_layout.ensures ∙ c.if-not-has_layout.false in
     simp c.number-2.ensures
     (elim c.if-is_reported.branch [
-      then-is_reported w ↦ simp (w.image-is, w.save.ensures)
-    (step_reported _ _ own _ c.decode-state.ensures _ c.step-after.result _ c.step-after.ensures (sym c.is_reported.ensures ∙ w.if-is_reported.true)) 
-    | else-is_reported w ↦ simp w.image-is
-    (step_refused _ _ own _ c.decode-state.ensures _ c.step-after.result _ c.step-after.ensures
-    (λ i. search rules) (sym c.is_reported.ensures ∙ w.if-is_reported.false))
+      | then-is_reported w ↦ simp (w.image-is, w.save.ensures)
+          (step_reported _ _ own _ c.decode-state.ensures _ c.step-after.result _ c.step-after.ensures (sym c.is_reported.ensures ∙ w.if-is_reported.true))
+      | else-is_reported w ↦ simp w.image-is
+          (step_refused _ _ own _ c.decode-state.ensures _ c.step-after.result _ c.step-after.ensures
+          (λ i. search rules) (sym c.is_reported.ensures ∙ w.if-is_reported.false))
     ])

@@ -2,9 +2,7 @@
 -- worked, and its image becomes the next state's if a report was written.
 use mathlib.Core.Path.{◌≡◌, sym, ◌∙◌}
 use mathlib.Core.Bool.{true}
-use lib.ListN.{length}
-use borrow.Author.Tests.{ne_eqb, not-true, not-false}
-use Rattle.books.specs.Books.{book_numbers}
+use borrow.Author.Tests.{ne_eqb, not-true}
 use Rattle.flight.specs.Loading.{has_layout}
 use Rattle.flight.proofs.LoadingLaws.{layout}
 use Rattle.flight.proofs.CallsLaws.{books_none, books_foreign, books_in_range, books_reported, books_refused}
@@ -37,9 +35,9 @@ returns c =
     let own : has_layout c.args.image.now ≡ true = sym c.has_layout.ensures ∙ c.if-not-has_layout.false in
     simp c.number-2.ensures
     (elim c.if-is_reported.branch [
-      then-is_reported w ↦ simp (w.image-is, w.save.ensures)
-    (books_reported _ _ own _ c.decode-state.ensures _ _ c.if-books-ne-NUMBERS.false c.step_books-booked.result _ _ c.step_books-booked.ensures (sym c.is_reported.ensures ∙ w.if-is_reported.true)) 
-    | else-is_reported w ↦ simp w.image-is
-    (books_refused _ _ own _ c.decode-state.ensures _ _ c.if-books-ne-NUMBERS.false c.step_books-booked.result _ _ c.step_books-booked.ensures
-    (λ i. search rules) (sym c.is_reported.ensures ∙ w.if-is_reported.false))
+      | then-is_reported w ↦ simp (w.image-is, w.save.ensures)
+          (books_reported _ _ own _ c.decode-state.ensures _ _ c.if-books-ne-NUMBERS.false c.step_books-booked.result _ _ c.step_books-booked.ensures (sym c.is_reported.ensures ∙ w.if-is_reported.true))
+      | else-is_reported w ↦ simp w.image-is
+          (books_refused _ _ own _ c.decode-state.ensures _ _ c.if-books-ne-NUMBERS.false c.step_books-booked.result _ _ c.step_books-booked.ensures
+          (λ i. search rules) (sym c.is_reported.ensures ∙ w.if-is_reported.false))
     ])

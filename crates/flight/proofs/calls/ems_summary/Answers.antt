@@ -3,7 +3,6 @@ use mathlib.Core.Path.{ap, ◌∙◌}
 use Rattle.books.specs.Summary.{put_into}
 use Rattle.books.specs.declared.shares.Summary.{Summary}
 use Rattle.flight.proofs.CallsLaws.{summed_short, summed_put}
-use borrow.Author.Rules.{rules}
 use Rattle.flight.proofs.calls.ems_summary.Goals as goal
 
 pub returns-then-number-shares : goal.returns-then-number-shares

@@ -2,7 +2,6 @@
 use mathlib.Core.Path.{◌≡◌, sym, ◌∙◌}
 use mathlib.Core.Bool.{true}
 use borrow.Author.Tests.{not-true, not-false}
-use borrow.Author.Rules.{rules}
 use Rattle.flight.specs.Loading.{has_layout}
 use Rattle.flight.proofs.LoadingLaws.{layout}
 use Rattle.flight.proofs.CallsLaws.{beacon_foreign, beacon_worked}

@@ -1,5 +1,4 @@
 -- `flight::codes::mode_code` meets its contract: each mode's number is the rule's.
-use borrow.Author.Rules.{rules}
 use Rattle.flight.proofs.codes.mode_code.Goals as goal
 
 pub returns-in-Settling : goal.returns-in-Settling

@@ -1,6 +1,5 @@
 -- `flight::codes::mode_from` meets its contract: the tests are the rule's.
 use borrow.Author.Tests.{eq-eqb, ne_eqb, le-leb, lt-leb, lt-ltb, le-ltb}
-use borrow.Author.Rules.{rules}
 use Rattle.flight.proofs.codes.mode_from.Goals as goal
 
 pub returns-then-code-le-SETTLING : goal.returns-then-code-le-SETTLING

@@ -2,7 +2,6 @@
 use native.Mathlib.Omega.{arith}
 use Rattle.basics.proofs.ChoiceLaws.{holds}
 use Rattle.flight.proofs.CodesLaws.{power_small}
-use borrow.Author.Rules.{rules}
 use Rattle.flight.proofs.codes.module_code.Goals as goal
 
 pub overflow_add-result : goal.overflow_add-result

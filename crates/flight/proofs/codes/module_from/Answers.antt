@@ -1,6 +1,5 @@
 -- `flight::codes::module_from` meets its contract: the tests are the rule's.
 use borrow.Author.Tests.{le-leb, lt-leb, lt-ltb, le-ltb}
-use borrow.Author.Rules.{rules}
 use Rattle.flight.proofs.codes.module_from.Goals as goal
 
 pub returns-then-left-le-ALL_TRIES : goal.returns-then-left-le-ALL_TRIES

@@ -5,7 +5,6 @@ use borrow.Author.Tests.{leb-true}
 use Rattle.basics.proofs.ChoiceLaws.{holds}
 use Rattle.modules.specs.Power.{retry_seconds}
 use Rattle.modules.proofs.PowerLaws.{on_fits}
-use borrow.Author.Rules.{rules}
 use Rattle.flight.proofs.codes.power_code.Goals as goal
 
 pub overflow_sub-result : goal.overflow_sub-result

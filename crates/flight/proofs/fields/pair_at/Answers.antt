@@ -1,7 +1,6 @@
 -- `flight::fields::pair_at` meets its contract: a byte is below 256.
 use Prim.Native.Nat.{◌+◌}
 use native.Mathlib.Omega.{arith}
-use borrow.Author.Rules.{rules}
 use Rattle.flight.proofs.fields.pair_at.Goals as goal
 
 pub overflow_cast-result : goal.overflow_cast-result

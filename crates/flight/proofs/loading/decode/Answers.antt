@@ -1,7 +1,6 @@
 -- `flight::loading::decode` meets its contract: each field is the rule's.
 use native.Mathlib.Omega.{arith}
 use Rattle.flight.specs.Loading.{masks_in, decoded}
-use borrow.Author.Rules.{rules}
 use Rattle.flight.proofs.loading.decode.Goals as goal
 
 pub overflow_cast-image : goal.overflow_cast-image

@@ -1,5 +1,4 @@
 -- `flight::loading::ends_in` meets its contract: each end is the rule's.
-use borrow.Author.Rules.{rules}
 use Rattle.flight.specs.Loading.{ends_in}
 use Rattle.flight.proofs.loading.ends_in.Goals as goal
 

@@ -1,7 +1,6 @@
 -- `flight::loading::has_layout` meets its contract: the tests are the rule's.
 use borrow.Author.Tests.{eq-eqb, ne_eqb}
 use Rattle.flight.specs.Loading.{has_layout}
-use borrow.Author.Rules.{rules}
 use Rattle.flight.proofs.loading.has_layout.Goals as goal
 
 pub returns-then-image-ne-IMAGE_BYTES : goal.returns-then-image-ne-IMAGE_BYTES

@@ -7,7 +7,6 @@ use Rattle.basics.proofs.PartLaws.{copied_over}
 use Rattle.frames.specs.Greeting.{longest_greeting}
 use Rattle.flight.specs.Saving.{text_place}
 use Rattle.flight.specs.Loading.{message_in}
-use borrow.Author.Rules.{rules}
 use Rattle.flight.proofs.loading.message_in.Goals as goal
 
 pub returns : goal.returns

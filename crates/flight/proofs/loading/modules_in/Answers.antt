@@ -1,13 +1,9 @@
 -- `flight::loading::modules_in` meets its contract: the first i modules are read, and the place is theirs.
-use Prim.Native.Nat.{◌+◌, ◌*◌, ◌-◌, ◌≤◌}
 use native.Mathlib.Omega.{arith}
 use mathlib.Core.Path.{◌≡◌, refl, ◌∙◌}
 use lib.ListN.{replicate}
-use Rattle.basics.proofs.EachLaws.{worked, worked_none, worked_turn, worked_all}
+use Rattle.basics.proofs.EachLaws.{worked_none, worked_turn, worked_all}
 use Rattle.modules.specs.Groups.{module_count}
-use Rattle.flight.specs.Fields.{pair_at}
-use Rattle.flight.specs.Codes.{module_from}
-use Rattle.flight.specs.Saving.{modules_place}
 use Rattle.flight.specs.Loading.{blank, modules_in}
 use borrow.Author.Rules.{rules}
 use Rattle.flight.proofs.loading.modules_in.Goals as goal

@@ -1,6 +1,5 @@
 -- `flight::saving::head` meets its contract: each byte is the rule's.
 use native.Mathlib.Omega.{arith}
-use borrow.Author.Rules.{rules}
 use Rattle.flight.specs.Saving.{head_bytes}
 use Rattle.flight.proofs.SavingLaws.{mode_code_small}
 use Rattle.flight.proofs.saving.head.Goals as goal

@@ -1,5 +1,4 @@
 -- `flight::saving::put_ends` meets its contract: four numbers in a row.
-use borrow.Author.Rules.{rules}
 use Rattle.flight.specs.Saving.{ends_bytes}
 use Rattle.flight.proofs.saving.put_ends.Goals as goal
 

@@ -2,7 +2,6 @@
 use mathlib.Core.Path.{refl}
 use native.Mathlib.Omega.{arith}
 use lib.ListN.{length-set}
-use borrow.Author.Rules.{rules}
 use Rattle.flight.specs.Saving.{masks_bytes}
 use Rattle.flight.proofs.saving.put_masks.Goals as goal
 

@@ -1,16 +1,10 @@
 -- `flight::saving::put_modules` meets its contract: the modules left, put into the image as it is, make what all of them make of it at entry.
 use Prim.Native.Nat.{◌+◌, ◌*◌, ◌-◌, ◌≤◌}
-use native.Mathlib.Omega.{arith}
-use mathlib.Core.Path.{◌≡◌, refl, ◌∙◌}
-use mathlib.Core.List.{[]}
-use lib.ListN.{length, drop, drop_of_length-le}
+use mathlib.Core.Path.{◌≡◌}
+use lib.ListN.{length, drop}
 use lib.Seq.{sets}
-use Rattle.basics.proofs.ChoiceLaws.{holds, is_true}
-use Rattle.basics.proofs.EachLaws.{length_mapped}
 use Rattle.modules.specs.Groups.{module_count}
 use Rattle.flight.specs.Saving.{image_bytes, modules_place, modules_bytes}
-use Rattle.flight.proofs.SavingLaws.{stored_turn, module_in_range}
-use borrow.Author.Rules.{rules}
 use Rattle.flight.proofs.saving.put_modules.Given as goal
 
 abbrev pub invariant-loop-at : goal.invariant-loop-at

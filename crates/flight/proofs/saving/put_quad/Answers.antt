@@ -4,7 +4,6 @@ use native.Mathlib.Omega.{arith}
 use native.Mathlib.Numerals.{add-one}
 use mathlib.Core.Path.{◌≡◌}
 use lib.ListN.{length-set}
-use borrow.Author.Rules.{rules}
 use Rattle.flight.proofs.saving.put_quad.Goals as goal
 
 pub bounds-bytes-at-2 : goal.bounds-bytes-at-2
