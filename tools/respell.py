@@ -21,7 +21,10 @@ DECLARED = re.compile(
 )
 USE = re.compile(r"\buse ([^\s;{]+)(\{[^}]*\})?")
 ALIAS = re.compile(r"\buse [^\s;{]+ as ([a-z][^\s;]*)")
-OF_A_FUNCTION = re.compile(r"/(Proof|Answers|Invariants)\.antt$")
+OF_A_FUNCTION = re.compile(r"/proofs/.*/(Proof|Answers|Invariants)\.antt$")
+# Parameters, and what a proof has for itself.
+LOCAL = """worksIn watchOf backOf andZero andPower voltsBefore voltsAfter ampsBefore ampsAfter mostTicks isKnown after-pass no-space
+no-loss""".split()
 # Names that would fall together with another of ours: a law that would be called like its definition says that it is the
 # law, a wrong program that is shut out says so.
 APART = {
@@ -109,6 +112,7 @@ def table():
         for name in DECLARED.findall(read(path)):
             if re.match(r"[a-z]", name) and (name in APART or snake(name) != name):
                 found[name] = APART.get(name, snake(name))
+    found.update({name: snake(name) for name in LOCAL})
     for path in files("crates", (".antt",)):
         for name in ALIAS.findall(read(path)):
             if "-" in name:

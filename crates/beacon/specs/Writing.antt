@@ -3,7 +3,7 @@
 use Rattle.std.specs.Prelude.{ℕ, not, List, ltb, length}
 use Rattle.basics.specs.Choice.{if◌then◌else◌}
 use Rattle.basics.specs.Outcome.{Outcome, outcome, written, Reply, reply}
-use Rattle.morse.specs.Answers.{done, noRoom}
+use Rattle.morse.specs.Answers.{done, no_room}
 use Rattle.frames.specs.Answer.{answer_number}
 use Rattle.frames.specs.declared.answer.Answer.TheVariants as answer
 use Rattle.supervisor.specs.Range.{in_range}
@@ -22,7 +22,7 @@ abbrev pub written_reply : Written → Reply
 written_reply (Done n) = reply done n
 written_reply BadState = reply (answer_number answer.BadState) 0
 written_reply NoMessage = reply no_message 0
-written_reply NoRoom = reply noRoom 0
+written_reply NoRoom = reply no_room 0
 
 -- 1: the state outside its ranges; 21: the extended text with no message kept; 14: the room shorter than the text;
 -- else the text and its length

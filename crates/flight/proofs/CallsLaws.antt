@@ -12,7 +12,7 @@ use borrow.Author.Tests.{eq-eqb}
 use Rattle.basics.specs.Outcome.{Outcome, outcome, Reply, reply}
 use Rattle.basics.proofs.ChoiceLaws.{is_true, holds}
 use Rattle.modules.specs.Groups.{module_count}
-use Rattle.morse.specs.Answers.{noRoom}
+use Rattle.morse.specs.Answers.{no_room}
 use Rattle.hearing.specs.Reading.{Read, read_reply}
 use Rattle.hearing.specs.declared.reading.Heard.{Heard}
 use Rattle.frames.specs.Answer.{answer_number, is_reported}
@@ -73,7 +73,7 @@ books_none image frame room books e = simp e
 
 -- a summary with no place for the shares, and any other
 pub summed_short :
-    (books room : List ℕ) → (eqb (book_number (summary_of books).answer) 0 && ltb (length room) module_count) ≡ true → outcome noRoom room ≡ summary_reply books room
+    (books room : List ℕ) → (eqb (book_number (summary_of books).answer) 0 && ltb (length room) module_count) ≡ true → outcome no_room room ≡ summary_reply books room
 unfolding summary_reply
 summed_short books room e = simp e
 

@@ -5,7 +5,7 @@ use Rattle.std.proofs.Math.Option.{Option, none, some}
 use Rattle.basics.specs.Choice.{if◌then◌else◌}
 use Rattle.basics.specs.Outcome.{Outcome, outcome, Reply, reply}
 use Rattle.modules.specs.Groups.{module_count}
-use Rattle.morse.specs.Answers.{noRoom}
+use Rattle.morse.specs.Answers.{no_room}
 use Rattle.hearing.specs.Reading.{Read, read_reply}
 use Rattle.hearing.specs.declared.reading.Heard.{Heard}
 use Rattle.frames.specs.Answer.{answer_number}
@@ -116,7 +116,7 @@ unfoldable pub summary_reply : (books room : List ℕ) → Outcome ℕ
 summary_reply books room =
     let summed = summary_of books in
     let number = book_number summed.answer in
-    if eqb number 0 && ltb (length room) module_count then outcome noRoom room
+    if eqb number 0 && ltb (length room) module_count then outcome no_room room
     else outcome number (put_into summed.shares room)
 
 -- the beacon's text of what was loaded; where that is nothing, the room stays
@@ -153,10 +153,10 @@ abbrev pub tracked_to : Tracked → Tracks
 tracked_to t = tracks (track_number t.answer) t.point t.step
 
 -- a call of it, the readings as four numbers
-unfoldable pub tracks_of : (voltsBefore ampsBefore voltsAfter ampsAfter point : ℕ) (step : ℤ) → Tracks
-tracks_of voltsBefore ampsBefore voltsAfter ampsAfter point step =
+unfoldable pub tracks_of : (volts_before amps_before volts_after amps_after point : ℕ) (step : ℤ) → Tracks
+tracks_of volts_before amps_before volts_after amps_after point step =
     tracked_to
     (track_of
-    (record { millivolts = voltsBefore; milliamperes = ampsBefore })
-    (record { millivolts = voltsAfter; milliamperes = ampsAfter })
+    (record { millivolts = volts_before; milliamperes = amps_before })
+    (record { millivolts = volts_after; milliamperes = amps_after })
     point step)

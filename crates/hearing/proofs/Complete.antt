@@ -183,11 +183,11 @@ heard_right [] e = refl
 heard_right (c ∷ t) e =
     let f = fair (c ∷ t) e in
     let walk = walk_spaced c t f.spaced in
-    let no-space = not-true (is_space c) (is_true _ (and_left (not (is_space c)) (spaced_after (is_space c) t) walk)) in
-    let s : T (spaced_after false t) = rw no-space at (and_right (not (is_space c)) (spaced_after (is_space c) t) walk) in
-    let k : T (signed (sign_of c) && all_known t) = rw no-space at (holds (all_known (c ∷ t)) f.known) in
+    let no_space = not-true (is_space c) (is_true _ (and_left (not (is_space c)) (spaced_after (is_space c) t) walk)) in
+    let s : T (spaced_after false t) = rw no_space at (and_right (not (is_space c)) (spaced_after (is_space c) t) walk) in
+    let k : T (signed (sign_of c) && all_known t) = rw no_space at (holds (all_known (c ∷ t)) f.known) in
     let g = and_left (signed (sign_of c)) (all_known t) k in
-    rw no-space (heard_byte c t (sign_of c) g (sign_numbered c g) (and_right (signed (sign_of c)) (all_known t) k) s)
+    rw no_space (heard_byte c t (sign_of c) g (sign_numbered c g) (and_right (signed (sign_of c)) (all_known t) k) s)
 
 -- units that are the keying of a text are heard as that text
 pub heard_text : (text units : List ℕ) → Keys text units → heard units ≡ some text

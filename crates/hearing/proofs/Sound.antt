@@ -52,8 +52,8 @@ gap_before : (gap : ℕ) (t : List ℕ) → T (all_known t) → T (spaced_after 
     → units_after gap t ≡ up gap ++ units_after 0 t
 gap_before gap [] k s = absurd s
 gap_before gap (c ∷ t) k s =
-    let no-space = not-true (is_space c) (is_true _ (and_left (not (is_space c)) (spaced_after (is_space c) t) s)) in
-    let g : T (signed (sign_of c) && all_known t) = rw no-space at k in
+    let no_space = not-true (is_space c) (is_true _ (and_left (not (is_space c)) (spaced_after (is_space c) t) s)) in
+    let g : T (signed (sign_of c) && all_known t) = rw no_space at k in
     by_sign (sign_of c) (and_left (signed (sign_of c)) (all_known t) g)
   where
     by_sign : (ms : List Mark) → T (signed ms)

@@ -6,15 +6,15 @@ use Rattle.basics.specs.Outcome.{Outcome, outcome, written, Reply, reply}
 use Rattle.hearing.specs.declared.reading.Heard.{Heard}
 use Rattle.hearing.specs.declared.reading.Heard.TheVariants.{Done, NotAKeying, NoRoom}
 use Rattle.morse.specs.declared.texts.Fault.TheVariants.{Nothing}
-use Rattle.morse.specs.Answers.{done, noRoom, notAKeying}
+use Rattle.morse.specs.Answers.{done, no_room, not_a_keying}
 use Rattle.morse.specs.Texts.{fault_of}
 use Rattle.morse.specs.Units.{units_of}
 
 -- the page's number and the count of each answer
 abbrev pub read_reply : Heard → Reply
 read_reply (Done n) = reply done n
-read_reply NotAKeying = reply notAKeying 0
-read_reply NoRoom = reply noRoom 0
+read_reply NotAKeying = reply not_a_keying 0
+read_reply NoRoom = reply no_room 0
 
 -- the units are exactly the keying of the text, and the text passes 11 to 13
 pub record Keys (text units : List ℕ) : Type 0 where

@@ -15,7 +15,7 @@ use Rattle.basics.specs.Choice.{if◌then◌else◌}
 use Rattle.basics.specs.Bytes.{space}
 use Rattle.basics.proofs.ChoiceLaws.{is_true, holds, and_left, and_right, neither_left, neither_right}
 use Rattle.morse.specs.declared.signs.Sign.{Sign}
-use Rattle.morse.specs.Answers.{done, noRoom}
+use Rattle.morse.specs.Answers.{done, no_room}
 use Rattle.morse.specs.declared.texts.Fault.{Fault}
 use Rattle.morse.specs.declared.texts.Fault.TheVariants.{Nothing, TextTooLong, NotKeyable, BadSpace}
 use Rattle.morse.specs.declared.texts.Seen.{Seen}
@@ -108,7 +108,7 @@ keyable_fault t h = by_fault (fault_of t) (eqb→eq (fault_number (fault_of t)) 
     by_fault BadSpace e = absurd (omega arith)
 
 -- no fault's number is 14
-pub fault_not_room : (f : Fault) → fault_number f ≡ noRoom → ⊥
+pub fault_not_room : (f : Fault) → fault_number f ≡ no_room → ⊥
 fault_not_room Nothing e = omega arith
 fault_not_room TextTooLong e = omega arith
 fault_not_room NotKeyable e = omega arith
@@ -177,10 +177,10 @@ joined (c ∷ a) b fa fb ha hb h =
     }
 
 -- a byte of the alphabet that is no space, over and over
-module _ (c : ℕ) (isKnown : known c ≡ true) (unspaced : is_space c ≡ false) where
+module _ (c : ℕ) (is_known : known c ≡ true) (unspaced : is_space c ≡ false) where
   repeated_known : (n : ℕ) → all_known (replicate n c) ≡ true
   repeated_known zero = refl
-  repeated_known (suc n) = rw isKnown (repeated_known n)
+  repeated_known (suc n) = rw is_known (repeated_known n)
 
   repeated_single : (n : ℕ) → doubled (replicate n c) ≡ false
   repeated_single zero = refl

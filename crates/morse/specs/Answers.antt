@@ -7,21 +7,21 @@ abbrev pub done : ℕ
 done = 0
 
 -- a text over 64 bytes
-abbrev pub textTooLong : ℕ
-textTooLong = 11
+abbrev pub text_too_long : ℕ
+text_too_long = 11
 
 -- a byte that is neither a space nor of A to Z, 0 to 9 and . , ? /
-abbrev pub notKeyable : ℕ
-notKeyable = 12
+abbrev pub not_keyable : ℕ
+not_keyable = 12
 
 -- a space first, last or doubled
-abbrev pub badSpace : ℕ
-badSpace = 13
+abbrev pub bad_space : ℕ
+bad_space = 13
 
 -- a room shorter than the result
-abbrev pub noRoom : ℕ
-noRoom = 14
+abbrev pub no_room : ℕ
+no_room = 14
 
 -- units that are not exactly the keying of a text
-abbrev pub notAKeying : ℕ
-notAKeying = 15
+abbrev pub not_a_keying : ℕ
+not_a_keying = 15

@@ -7,17 +7,17 @@ use Rattle.morse.specs.declared.keying.Keyed.{Keyed}
 use Rattle.morse.specs.declared.keying.Keyed.TheVariants as keyed
 use Rattle.morse.specs.declared.texts.Fault.{Fault}
 use Rattle.morse.specs.declared.texts.Fault.TheVariants as fault
-use Rattle.morse.specs.Answers.{done, textTooLong, notKeyable, badSpace, noRoom}
+use Rattle.morse.specs.Answers.{done, text_too_long, not_keyable, bad_space, no_room}
 use Rattle.morse.specs.Texts.{fault_of}
 use Rattle.morse.specs.Units.{units_of}
 
 -- the page's number and the count of each answer
 abbrev pub key_reply : Keyed → Reply
 key_reply (keyed.Done n) = reply done n
-key_reply keyed.TextTooLong = reply textTooLong 0
-key_reply keyed.NotKeyable = reply notKeyable 0
-key_reply keyed.BadSpace = reply badSpace 0
-key_reply keyed.NoRoom = reply noRoom 0
+key_reply keyed.TextTooLong = reply text_too_long 0
+key_reply keyed.NotKeyable = reply not_keyable 0
+key_reply keyed.BadSpace = reply bad_space 0
+key_reply keyed.NoRoom = reply no_room 0
 
 -- units into a room: 14 if it is shorter, else they are written and counted
 unfoldable pub key_units : (units room : List ℕ) → Outcome Keyed

@@ -3,7 +3,7 @@
 use Rattle.std.specs.Prelude.{ℕ, ◌-◌, Bool, true, false, not, ◌&&◌, ◌||◌, List, [], ◌∷◌, eqb, ltb, length, get_or}
 use Rattle.basics.specs.Choice.{if◌then◌else◌}
 use Rattle.basics.specs.Bytes.{space}
-use Rattle.morse.specs.Answers.{done, textTooLong, notKeyable, badSpace}
+use Rattle.morse.specs.Answers.{done, text_too_long, not_keyable, bad_space}
 use Rattle.morse.specs.Signs.{sign_of, signed}
 use Rattle.morse.specs.declared.texts.Fault.{Fault}
 use Rattle.morse.specs.declared.texts.Fault.TheVariants.{Nothing, TextTooLong, NotKeyable, BadSpace}
@@ -46,9 +46,9 @@ fault_of t =
 -- the page's number of a fault
 abbrev pub fault_number : Fault → ℕ
 fault_number Nothing = done
-fault_number TextTooLong = textTooLong
-fault_number NotKeyable = notKeyable
-fault_number BadSpace = badSpace
+fault_number TextTooLong = text_too_long
+fault_number NotKeyable = not_keyable
+fault_number BadSpace = bad_space
 
 -- a text that keying takes
 abbrev pub is_keyable : List ℕ → Bool

@@ -38,14 +38,14 @@ pub data Stops (s : State) (spare : ℕ) : List Call → Answer → Type 0 where
       Stops s spare (c ∷ cs) (called s c).result.answer
 
 -- a pass does as many calls of a list as it says, and leaves what they leave
-pub record Does (s : State) (cs : List Call) (room : List ℕ) (after-pass : Outcome Passed) : Type 0 where
-  pub count : after-pass.result.reported ≤ length cs
-  pub reported : AllReported s (take after-pass.result.reported cs)
-  pub state : after-pass.result.state ≡ after s (take after-pass.result.reported cs)
-  pub reports : after-pass.room ≡ written (reports_of s (take after-pass.result.reported cs)) room
+pub record Does (s : State) (cs : List Call) (room : List ℕ) (after_pass : Outcome Passed) : Type 0 where
+  pub count : after_pass.result.reported ≤ length cs
+  pub reported : AllReported s (take after_pass.result.reported cs)
+  pub state : after_pass.result.state ≡ after s (take after_pass.result.reported cs)
+  pub reports : after_pass.room ≡ written (reports_of s (take after_pass.result.reported cs)) room
   pub stops :
-      Stops after-pass.result.state (length room - after-pass.result.reported * report_bytes)
-      (drop after-pass.result.reported cs) after-pass.result.answer
+      Stops after_pass.result.state (length room - after_pass.result.reported * report_bytes)
+      (drop after_pass.result.reported cs) after_pass.result.answer
 
 -- whatever rooms of 11 bytes or more the single calls have
 abbrev pub AsSingleCalls : Type 0

@@ -6,7 +6,7 @@ use denote.Triple.Entry.{Args}
 use denote.Triple.Clauses.{at_exit}
 use Rattle.basics.specs.OneOutcome.{Leaves}
 use Rattle.basics.specs.Outcome.{Reply, reply}
-use Rattle.morse.specs.Answers.{done, noRoom}
+use Rattle.morse.specs.Answers.{done, no_room}
 use Rattle.morse.specs.Signs.{first_figure}
 use Rattle.morse.specs.Texts.{longest, fault_of, fault_number}
 use Rattle.morse.specs.Units.{units_for}
@@ -31,7 +31,7 @@ Enough n bytes =
 -- a text needs so many: with room for them they are counted, and with less the answer is 14
 pub record Needs (text : List ℕ) (units : ℕ) : Type 0 where
   pub given : (room : List ℕ) → units ≤ length room → keying text room ≡ reply done units
-  pub short : (room : List ℕ) → length room < units → keying text room ≡ reply noRoom 0
+  pub short : (room : List ℕ) → length room < units → keying text room ≡ reply no_room 0
 
 -- n zeros
 abbrev pub zeros : ℕ → List ℕ
@@ -53,4 +53,4 @@ pub record KeyingRoom : Type 0 where
   pub reached : (n : ℕ) → n ≤ longest → Needs (zeros n) (units_for n)
   pub most_in_c : OfEmsKey (λ text room returned. returned.count ≤ units_for (length text))
   pub enough_in_c :
-      OfEmsKey (λ text room returned. units_for (length text) ≤ length room → returned.number ≡ noRoom → ⊥)
+      OfEmsKey (λ text room returned. units_for (length text) ≤ length room → returned.number ≡ no_room → ⊥)

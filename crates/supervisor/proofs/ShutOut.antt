@@ -43,9 +43,9 @@ constant_report report s input room =
     (if is_reported (step_of s input room).result.answer then report ++ drop report_bytes room else room)
 
 -- it works the frames of states that pass a test, such as the fresh one, and then only reports
-abbrev pub only_reports : (worksIn : State → Bool) → Supervisor
-only_reports worksIn s input room =
-    if worksIn s then step_of s input room
+abbrev pub only_reports : (works_in : State → Bool) → Supervisor
+only_reports works_in s input room =
+    if works_in s then step_of s input room
     else outcome (record { answer = (step_of s input room).result.answer; state = s }) (step_of s input room).room
 
 -- it leaves another state after a done tick from a state that passes a test
@@ -127,9 +127,9 @@ unfolding rules room waited_of
 two_waited = refl
 
 -- the second tick moves the state too
-pub only_reports_shut_out : (worksIn : State → Bool) → worksIn waiting ≡ false → ShutOut (only_reports worksIn)
+pub only_reports_shut_out : (works_in : State → Bool) → works_in waiting ≡ false → ShutOut (only_reports works_in)
 unfolding waited_of
-only_reports_shut_out worksIn idle meets =
+only_reports_shut_out works_in idle meets =
     let same : waiting ≡ (step_of waiting tick room).result.state = ap (λ (o : Outcome Stepped). o.result.state) (rw idle at (meets waiting tick room)) in
     let one : ◌≡◌ {A = ℕ} 1 2 = ap (λ (s : State). waited_of s.watch.mode) same ∙ two_waited in
     omega arith

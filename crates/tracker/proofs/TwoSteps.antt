@@ -120,7 +120,7 @@ module _ (curve : Curve) (peak : ℕ) (peaked : Peaked Lower curve peak) (size :
   pub around_next : Around size peak p → Around size peak q
   around_next (crossed up s f h k) = by (leb (curve.at p.was) (curve.at p.point)) refl
     where
-      by : (no-loss : Bool) → leb (curve.at p.was) (curve.at p.point) ≡ no-loss → Around size peak q
+      by : (no_loss : Bool) → leb (curve.at p.was) (curve.at p.point) ≡ no_loss → Around size peak q
       by true e =
           let no_less = leb-true (curve.at p.was) (curve.at p.point) e in
           crossed_on up f k (short_of up f no_less) (kept up s no_less)
@@ -136,7 +136,7 @@ module _ (curve : Curve) (peak : ℕ) (peaked : Peaked Lower curve peak) (size :
       short : size ≤ longest_step
       short = omega (arith, ap nat_abs s ∙ step_to_size up size, short_step curve p q c)
 
-      by : (no-loss : Bool) → leb (curve.at p.was) (curve.at p.point) ≡ no-loss → Around size peak q
+      by : (no_loss : Bool) → leb (curve.at p.was) (curve.at p.point) ≡ no_loss → Around size peak q
       by true t = leaves up short e h (kept up s (leb-true (curve.at p.was) (curve.at p.point) t))
       by false t = stands up e h (turned up s (leb-false (curve.at p.was) (curve.at p.point) t))
 

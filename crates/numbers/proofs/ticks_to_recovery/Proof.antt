@@ -5,14 +5,14 @@ use Rattle.numbers.proofs.ticks_to_recovery.Statement.{statement}
 use Rattle.numbers.proofs.ticks_to_recovery.Tie as tie
 
 -- the code's MOST_TICKS
-abbrev mostTicks : ℕ
-mostTicks = 100000
+abbrev most_ticks : ℕ
+most_ticks = 100000
 
 abbrev invariant-loop : tie.invariant-loop
-invariant-loop state₀ ticks₀ state ticks = ticks ≤ mostTicks
+invariant-loop state₀ ticks₀ state ticks = ticks ≤ most_ticks
 
 abbrev decreases-loop : tie.decreases-loop
-decreases-loop state₀ ticks₀ state ticks = mostTicks - ticks
+decreases-loop state₀ ticks₀ state ticks = most_ticks - ticks
 
 loop-holds : tie.Need-loop-init invariant-loop decreases-loop
 loop-holds c = search rules

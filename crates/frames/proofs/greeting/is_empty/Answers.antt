@@ -6,13 +6,13 @@ use Rattle.frames.specs.Greeting.{longest_greeting, all_zero}
 use Rattle.frames.proofs.greeting.is_empty.Goals as goal
 
 -- one byte more
-abbrev andZero : ℕ → Bool → Bool
-andZero byte rest = eqb byte 0 && rest
+abbrev and_zero : ℕ → Bool → Bool
+and_zero byte rest = eqb byte 0 && rest
 
 pub loop-i-init : goal.loop-i-init
 loop-i-init c =
     let sixteen : length c.args.text ≡ longest_greeting = search rules in
-    record { low = search rules; done = sym (gathered_none all_zero andZero (λ x xs. refl) longest_greeting c.args.text sixteen) }
+    record { low = search rules; done = sym (gathered_none all_zero and_zero (λ x xs. refl) longest_greeting c.args.text sixteen) }
 
 pub loop-i-preserved : goal.loop-i-preserved
 loop-i-preserved c =
@@ -24,7 +24,7 @@ loop-i-preserved c =
       done =
           or_none c.loop-i.any byte
           ∙ ap (λ r. eqb byte 0 && r) c.loop-i.invariant.done
-          ∙ gathered_turn all_zero andZero (λ x xs. refl) c.loop-i.i text 0 (search rules) (omega arith);
+          ∙ gathered_turn all_zero and_zero (λ x xs. refl) c.loop-i.i text 0 (search rules) (omega arith);
     }
 
 pub returns : goal.returns

@@ -18,8 +18,8 @@ use Rattle.modules.proofs.masks.in_range.Goals as goal
 use Rattle.modules.proofs.masks.in_range.Goals.{At-loop-i}
 
 -- one module more
-abbrev andPower : Module → Bool → Bool
-andPower m rest = power_in_range m.power && rest
+abbrev and_power : Module → Bool → Bool
+and_power m rest = power_in_range m.power && rest
 
 -- there is room for one module more
 room : (here : At-loop-i) → 0 < here.loop-i.i → here.loop-i.all < 8421504
@@ -35,7 +35,7 @@ loop-i-init c =
     let eight : length c.args.modules ≡ 8 = search (rules, length_mapped) in
     record {
       low = search rules;
-      ranges = gathered_none modules_in_range andPower (λ m ms. refl) 8 c.args.modules eight;
+      ranges = gathered_none modules_in_range and_power (λ m ms. refl) 8 c.args.modules eight;
       done = sym (gathered_none packed packed_with packed_step 8 c.args.modules eight ∙ packed_none);
     }
 
@@ -74,7 +74,7 @@ loop-i-preserved c =
       ranges =
           rw (c.loop-i.invariant.ranges, sym checked.ensures ∙ not-false checked.result c.if-not-in_range.false-raw) at
           (sym
-          (gathered_turn modules_in_range andPower (λ m ms. refl) c.loop-i.i c.args.modules no_module (search rules)
+          (gathered_turn modules_in_range and_power (λ m ms. refl) c.loop-i.i c.args.modules no_module (search rules)
           (omega arith)));
       done =
           simp (c.power_bits.ensures, c.request_bit.ensures, c.loop-i.invariant.done)

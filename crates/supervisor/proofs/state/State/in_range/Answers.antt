@@ -31,14 +31,14 @@ message-left true true false true modules masks h k = refl
 message-left true true true true modules masks h k = sym k
 
 -- the parts of a state
-abbrev watchOf : State → Bool
-watchOf s = watch_in_range s.watch.mode s.watch.control s.watch.beacon
+abbrev watch_of : State → Bool
+watch_of s = watch_in_range s.watch.mode s.watch.control s.watch.beacon
 
 abbrev front_of : State → Bool
-front_of s = watchOf s && battery_in_range s.battery && ends_in_range s.ends
+front_of s = watch_of s && battery_in_range s.battery && ends_in_range s.ends
 
-abbrev backOf : State → Bool
-backOf s = modules_in_range s.modules && are_masks_of s.modules s.masks
+abbrev back_of : State → Bool
+back_of s = modules_in_range s.modules && are_masks_of s.modules s.masks
 
 pub returns-then-not-in_range : goal.returns-then-not-in_range
 unfolding in_range
@@ -49,15 +49,15 @@ returns-then-not-in_range c =
     let s : State = c.args.self in
     let out : front_of s ≡ false =
     rw (watch.ensures, battery.ensures, ends.ensures) at (not-true (watch.result && battery.result && ends.result) c.if-not-in_range.true-raw) in
-    first_out (watchOf s) (battery_in_range s.battery) (message_in_range s.message) (ends_in_range s.ends)
+    first_out (watch_of s) (battery_in_range s.battery) (message_in_range s.message) (ends_in_range s.ends)
     (modules_in_range s.modules) (are_masks_of s.modules s.masks) out
 
 pub returns-then-not-in_range-2 : goal.returns-then-not-in_range-2
 unfolding in_range
 returns-then-not-in_range-2 c =
     let s : State = c.args.self in
-    let out : backOf s ≡ false = rw c.in_range-4.ensures at (not-true c.in_range-4.result c.if-not-in_range-2.true-raw) in
-    modules-out (watchOf s && battery_in_range s.battery && message_in_range s.message && ends_in_range s.ends)
+    let out : back_of s ≡ false = rw c.in_range-4.ensures at (not-true c.in_range-4.result c.if-not-in_range-2.true-raw) in
+    modules-out (watch_of s && battery_in_range s.battery && message_in_range s.message && ends_in_range s.ends)
     (modules_in_range s.modules) (are_masks_of s.modules s.masks) out
 
 pub returns : goal.returns
@@ -71,7 +71,7 @@ returns c =
     let front : front_of s ≡ true =
     rw (watch.ensures, battery.ensures, ends.ensures) at
     (not-false (watch.result && battery.result && ends.result) c.if-not-in_range.false-raw) in
-    let back : backOf s ≡ true = rw modules.ensures at (not-false modules.result c.if-not-in_range-2.false-raw) in
+    let back : back_of s ≡ true = rw modules.ensures at (not-false modules.result c.if-not-in_range-2.false-raw) in
     c.in_range-5.ensures
-    ∙ message-left (watchOf s) (battery_in_range s.battery) (message_in_range s.message) (ends_in_range s.ends)
+    ∙ message-left (watch_of s) (battery_in_range s.battery) (message_in_range s.message) (ends_in_range s.ends)
     (modules_in_range s.modules) (are_masks_of s.modules s.masks) front back
