@@ -23,6 +23,8 @@ USE = re.compile(r"\buse ([^\s;{]+)(\{[^}]*\})?")
 ALIAS = re.compile(r"\buse [^\s;{]+ as ([a-z][^\s;]*)")
 OF_A_FUNCTION = re.compile(r"/proofs/.*/(Proof|Answers|Invariants)\.antt$")
 # Parameters, and what a proof has for itself.
+# The library has an `if◌then◌else◌` of its own now, which takes no chain of cases without brackets: ours is called otherwise.
+CHOICE = {"if": "when", "if◌then◌else◌": "when◌then◌else◌"}
 LOCAL = """worksIn watchOf backOf andZero andPower voltsBefore voltsAfter ampsBefore ampsAfter mostTicks isKnown after-pass no-space
 no-loss""".split()
 # Names that would fall together with another of ours: a law that would be called like its definition says that it is the
@@ -113,6 +115,7 @@ def table():
             if re.match(r"[a-z]", name) and (name in APART or snake(name) != name):
                 found[name] = APART.get(name, snake(name))
     found.update({name: snake(name) for name in LOCAL})
+    found.update(CHOICE)
     for path in files("crates", (".antt",)):
         for name in ALIAS.findall(read(path)):
             if "-" in name:

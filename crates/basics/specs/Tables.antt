@@ -2,7 +2,7 @@
 -- that passes a test holds.
 -- Assumes nothing.
 use Rattle.std.specs.Prelude.{ℕ, zero, suc, Bool, true, ◌&&◌, List, [], ◌∷◌}
-use Rattle.basics.specs.Choice.{if◌then◌else◌}
+use Rattle.basics.specs.Choice.{when◌then◌else◌}
 
 -- a test passes at each number below n
 abbrev pub all_below : (ℕ → Bool) → ℕ → Bool
@@ -12,4 +12,4 @@ all_below f (suc n) = f n && all_below f n
 -- what the first entry that passes a test holds; a default where none does
 abbrev pub first_of : {A B : Type 0} (test : A → Bool) (held : A → B) (default : B) → List A → B
 first_of test held default [] = default
-first_of test held default (x ∷ xs) = if test x then held x else first_of test held default xs
+first_of test held default (x ∷ xs) = when test x then held x else first_of test held default xs

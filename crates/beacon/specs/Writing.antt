@@ -1,7 +1,7 @@
 -- What writing a beacon's text answers, and what it leaves in the room.
 -- Assumes nothing.
 use Rattle.std.specs.Prelude.{ℕ, not, List, ltb, length}
-use Rattle.basics.specs.Choice.{if◌then◌else◌}
+use Rattle.basics.specs.Choice.{when◌then◌else◌}
 use Rattle.basics.specs.Outcome.{Outcome, outcome, written, Reply, reply}
 use Rattle.morse.specs.Answers.{done, no_room}
 use Rattle.frames.specs.Answer.{answer_number}
@@ -28,7 +28,7 @@ written_reply NoRoom = reply no_room 0
 -- else the text and its length
 unfoldable pub beacon_of : Form → State → (room : List ℕ) → Outcome Written
 beacon_of form s room =
-    if not (in_range s) then outcome BadState room else
-    if not (has_text form s.message.length) then outcome NoMessage room else
-    if ltb (length room) (length (text_of form s)) then outcome NoRoom room
+    when not (in_range s) then outcome BadState room else
+    when not (has_text form s.message.length) then outcome NoMessage room else
+    when ltb (length room) (length (text_of form s)) then outcome NoRoom room
     else outcome (Done (length (text_of form s))) (written (text_of form s) room)

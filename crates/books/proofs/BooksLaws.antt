@@ -8,7 +8,7 @@ use native.Mathlib.Omega.{arith}
 use lib.Dec.{T, eqb, leb, ltb, leb→le, le→leb, ltb→lt, lt→ltb}
 use lib.ListN.{get_or, length}
 use borrow.Author.Tests.{eqb-true, eq-eqb}
-use Rattle.basics.specs.Choice.{if◌then◌else◌, bit}
+use Rattle.basics.specs.Choice.{when◌then◌else◌, bit}
 use Rattle.basics.specs.Tables.{all_below}
 use Rattle.basics.proofs.ChoiceLaws.{holds}
 use Rattle.basics.proofs.EachLaws.{length_each, at_each, each_at}
@@ -33,7 +33,7 @@ same_truth false false f g = refl
 
 -- ---- what masks show
 
-shown_power : (p : Power) → (if is_on p then 0 else if is_failed p then 2 else 1) ≡ second_of p
+shown_power : (p : Power) → (when is_on p then 0 else when is_failed p then 2 else 1) ≡ second_of p
 shown_power (On tries seconds) = refl
 shown_power (Off tries) = refl
 shown_power (Failed left) = refl
@@ -46,7 +46,7 @@ shown_found ms m = rw (on_bit m ms off_module refl, failed_bit m ms off_module r
 pub shown_small : (masks : Masks) (m : ℕ) → shown_as masks m < 3
 shown_small masks m = by (bit m masks.on) (bit m masks.failed)
   where
-    by : (on failed : Bool) → (if on then 0 else if failed then 2 else 1) < 3
+    by : (on failed : Bool) → (when on then 0 else when failed then 2 else 1) < 3
     by true failed = omega arith
     by false true = omega arith
     by false false = omega arith
@@ -56,20 +56,20 @@ shown_small masks m = by (bit m masks.on) (bit m masks.failed)
 pub added_small : (found : ℕ → ℕ) (i : ℕ) → added_to found i ≤ 1
 added_small found i = by (eqb (found (i / 3)) (i % 3))
   where
-    by : (here : Bool) → (if here then 1 else 0) ≤ 1
+    by : (here : Bool) → (when here then 1 else 0) ≤ 1
     by true = omega arith
     by false = omega arith
 
 -- number 3m + k, k below 3
 module _ (found : ℕ → ℕ) (m k : ℕ) (small : k < 3) where
-  pub added_at : added_to found (place_of m k) ≡ (if eqb (found m) k then 1 else 0)
+  pub added_at : added_to found (place_of m k) ≡ (when eqb (found m) k then 1 else 0)
   added_at =
       let whose : place_of m k / 3 ≡ m = omega arith in
       let which : place_of m k % 3 ≡ k = omega arith in
-      ap (λ (n : ℕ). if eqb (found n) (place_of m k % 3) then 1 else 0) whose ∙ ap (λ (n : ℕ). if eqb (found m) n then 1 else 0) which
+      ap (λ (n : ℕ). when eqb (found n) (place_of m k % 3) then 1 else 0) whose ∙ ap (λ (n : ℕ). when eqb (found m) n then 1 else 0) which
 
 pub added_found : (found : ℕ → ℕ) (m : ℕ) → found m < 3 → added_to found (place_of m (found m)) ≡ 1
-added_found found m small = added_at found m (found m) small ∙ ap (λ (t : Bool). if t then 1 else 0) (eq-eqb (found m) (found m) refl)
+added_found found m small = added_at found m (found m) small ∙ ap (λ (t : Bool). when t then 1 else 0) (eq-eqb (found m) (found m) refl)
 
 module _ (found : ℕ → ℕ) (books : List ℕ) where
   pub counted_length : length (counted found books) ≡ length books
@@ -87,7 +87,7 @@ pub counted_same :
 unfolding counted
 counted_same found shown books size alike =
     each_at (λ i n. n + added_to found i) (λ i n. n + added_to shown i) books 0
-    (λ i h. ap (λ (k : ℕ). get_or books i 0 + (if eqb k (i % 3) then 1 else 0)) (alike (i / 3) (omega (arith, size, h))))
+    (λ i h. ap (λ (k : ℕ). get_or books i 0 + (when eqb k (i % 3) then 1 else 0)) (alike (i / 3) (omega (arith, size, h))))
 
 -- ---- no number above the most
 
@@ -123,7 +123,7 @@ module _ (found : ℕ → ℕ) (small : (m : ℕ) → found m < 3) (books : List
           let less : get_or books i 0 < most_seconds = rw place at (below (i / 3) (omega (arith, size, h))) in
           omega (arith, counted_at found books i h, added_small found i, less)
       by false e =
-          let none : added_to found i ≡ 0 = ap (λ (t : Bool). if t then 1 else 0) e in
+          let none : added_to found i ≡ 0 = ap (λ (t : Bool). when t then 1 else 0) e in
           omega (arith, counted_at found books i h, none, none_above_at books low i h)
 
   pub takes_tick : none_above books ≡ true → none_above (counted found books) ≡ all_below (below_most found books) module_count

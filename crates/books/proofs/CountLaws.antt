@@ -8,7 +8,7 @@ use native.Mathlib.Omega.{arith}
 use lib.Dec.{eqb, ltb}
 use lib.ListN.{get_or, set, length}
 use borrow.Author.Tests.{eqb-true, eqb-false, eq-eqb, ne_eqb, ltb-true, ltb-false, lt-ltb, le-ltb}
-use Rattle.basics.specs.Choice.{if◌then◌else◌}
+use Rattle.basics.specs.Choice.{when◌then◌else◌}
 use Rattle.basics.specs.Each.{each}
 use Rattle.basics.proofs.ChoiceLaws.{holds}
 use Rattle.basics.proofs.EachLaws.{each_kept, each_one, each_twice}
@@ -18,15 +18,15 @@ use Rattle.books.proofs.BooksLaws.{added_small, counted_at, counted_same, room_a
 
 -- 1 where a test passes
 abbrev one_if : Bool → ℕ
-one_if t = if t then 1 else 0
+one_if t = when t then 1 else 0
 
 -- of the modules below n alone: the others are found as nothing that is counted
 abbrev pub up_to : (n : ℕ) (found : ℕ → ℕ) → ℕ → ℕ
-up_to n found m = if ltb m n then found m else 3
+up_to n found m = when ltb m n then found m else 3
 
 -- what a tick adds to number i for those modules
-adds : (n : ℕ) (found : ℕ → ℕ) (i : ℕ) (n≤ : Bool) → ltb (i / 3) n ≡ n≤ → added_to (up_to n found) i ≡ one_if (eqb (if n≤ then found (i / 3) else 3) (i % 3))
-adds n found i t e = ap (λ (t : Bool). one_if (eqb (if t then found (i / 3) else 3) (i % 3))) e
+adds : (n : ℕ) (found : ℕ → ℕ) (i : ℕ) (n≤ : Bool) → ltb (i / 3) n ≡ n≤ → added_to (up_to n found) i ≡ one_if (eqb (when n≤ then found (i / 3) else 3) (i % 3))
+adds n found i t e = ap (λ (t : Bool). one_if (eqb (when t then found (i / 3) else 3) (i % 3))) e
 
 adds_none : (n : ℕ) (found : ℕ → ℕ) (i : ℕ) → ltb (i / 3) n ≡ false → added_to (up_to n found) i ≡ 0
 adds_none n found i e = adds n found i false e ∙ ap one_if (ne_eqb 3 (i % 3) (λ q. absurd (omega (arith, q))))
@@ -37,21 +37,21 @@ counted_none found books = sym (each_kept (λ i n. n + added_to (up_to 0 found) 
 
 pub counted_all : (found : ℕ → ℕ) (books : List ℕ) → length books ≡ book_numbers → counted (up_to module_count found) books ≡ counted found books
 counted_all found books size =
-    counted_same (up_to module_count found) found books size (λ m h. ap (λ (t : Bool). if t then found m else 3) (lt-ltb m module_count h))
+    counted_same (up_to module_count found) found books size (λ m h. ap (λ (t : Bool). when t then found m else 3) (lt-ltb m module_count h))
 
 -- one turn: the number of module m for what it is found as
 module _ (found : ℕ → ℕ) (m : ℕ) (small : found m < 3) where
   -- what it does to number i
   raise : ℕ → ℕ → ℕ
-  raise i n = if eqb i (place_of m (found m)) then n + 1 else n
+  raise i n = when eqb i (place_of m (found m)) then n + 1 else n
 
   raise_here : (n : ℕ) → raise (place_of m (found m)) n ≡ n + 1
   unfolding raise
-  raise_here n = ap (λ (t : Bool). if t then n + 1 else n) (eq-eqb (place_of m (found m)) (place_of m (found m)) refl)
+  raise_here n = ap (λ (t : Bool). when t then n + 1 else n) (eq-eqb (place_of m (found m)) (place_of m (found m)) refl)
 
   raise_others : (i n : ℕ) → (i ≡ place_of m (found m) → ⊥) → raise i n ≡ n
   unfolding raise
-  raise_others i n away = ap (λ (t : Bool). if t then n + 1 else n) (ne_eqb i (place_of m (found m)) away)
+  raise_others i n away = ap (λ (t : Bool). when t then n + 1 else n) (ne_eqb i (place_of m (found m)) away)
 
   -- number i after the modules below m, and m
   both : (i n : ℕ) → raise i (n + added_to (up_to m found) i) ≡ n + added_to (up_to (m + 1) found) i

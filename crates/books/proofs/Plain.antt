@@ -6,7 +6,7 @@ use mathlib.Core.Bool.{Bool, true, false, not, true≢false, false≢true}
 use mathlib.Core.List.{List, [], ◌∷◌}
 use lib.Dec.{T}
 use lib.ListN.{take}
-use Rattle.basics.specs.Choice.{if◌then◌else◌}
+use Rattle.basics.specs.Choice.{when◌then◌else◌}
 use Rattle.basics.specs.Outcome.{Outcome}
 use Rattle.basics.proofs.ChoiceLaws.{and_left, and_right, and_both}
 use Rattle.supervisor.specs.History.{Call, after}
@@ -39,7 +39,7 @@ module _ (b : Board) (c : Call) where
 flies_on :
     (b : Board) (c : Call) (cs : List Call) → (after_with (board_after b c) cs).state ≡ after (board_after b c).state (unhalted (board_after b c) cs) →
     (halts : Bool) → is_books (answer_with b c) ≡ halts →
-    (after_with (board_after b c) cs).state ≡ after b.state (if halts then unhalted (board_after b c) cs else c ∷ unhalted (board_after b c) cs)
+    (after_with (board_after b c) cs).state ≡ after b.state (when halts then unhalted (board_after b c) cs else c ∷ unhalted (board_after b c) cs)
 flies_on b c cs rest true e =
     rest ∙ ap (λ (s : State). after s (unhalted (board_after b c) cs)) (ap (λ (x : Board). x.state) (halted_by b c (way b c) e).board)
 flies_on b c cs rest false e = rest ∙ ap (λ (s : State). after s (unhalted (board_after b c) cs)) (as_called b c (way b c) e).state

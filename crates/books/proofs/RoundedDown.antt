@@ -9,7 +9,7 @@ use native.Mathlib.Nat.{div-add-mod', mod-lt}
 use lib.Dec.{T, eqb}
 use lib.ListN.{get_or, length, length-replicate}
 use borrow.Author.Tests.{eq-eqb, eqb-true, eqb-false}
-use Rattle.basics.specs.Choice.{if◌then◌else◌}
+use Rattle.basics.specs.Choice.{when◌then◌else◌}
 use Rattle.basics.proofs.ChoiceLaws.{is_true}
 use Rattle.basics.proofs.EachLaws.{at_each}
 use Rattle.modules.specs.Groups.{module_count}
@@ -26,7 +26,7 @@ share_down on off failed = by (eqb (on + off + failed) 0) refl
     all : ℕ
     all = on + off + failed
 
-    by : (none : Bool) → eqb (on + off + failed) 0 ≡ none → Down on (on + off + failed) (if none then 0 else on * 1000 / (on + off + failed))
+    by : (none : Bool) → eqb (on + off + failed) 0 ≡ none → Down on (on + off + failed) (when none then 0 else on * 1000 / (on + off + failed))
     by true e = record { fits = omega arith; next = λ h. absurd (omega (arith, eqb-true (on + off + failed) 0 e)); none = λ z. refl }
     by false e =
         let some : 0 < on + off + failed = omega (arith, eqb-false (on + off + failed) 0 e) in

@@ -8,7 +8,7 @@ use native.Mathlib.Omega.{arith}
 use native.Mathlib.Nat.{zero-add}
 use lib.Dec.{T, eqb}
 use lib.ListN.{length, take, replicate, get_or-replicate}
-use Rattle.basics.specs.Choice.{if◌then◌else◌}
+use Rattle.basics.specs.Choice.{when◌then◌else◌}
 use Rattle.basics.specs.Outcome.{Outcome}
 use Rattle.modules.specs.Groups.{module_count}
 use Rattle.frames.specs.Kind.{report_bytes}
@@ -27,7 +27,7 @@ use Rattle.books.proofs.WaysLaws.{Way, halts, plain, way, board_halted, board_pl
 
 -- what one report adds to the count
 abbrev adds : (m second : ℕ) (report : List ℕ) → ℕ
-adds m second report = if eqb (shown_as (shown_in report) m) second then 1 else 0
+adds m second report = when eqb (shown_as (shown_in report) m) second then 1 else 0
 
 -- one call
 module _ (b : Board) (c : Call) where
@@ -47,30 +47,30 @@ module _ (b : Board) (c : Call) where
   module _ (m second : ℕ) (few : m < module_count) (small : second < 3) where
     counts_by :
         Way b c → length b.books ≡ book_numbers →
-        number_in (board_after b c).books m second ≡ number_in b.books m second + (if done_tick_with b c then adds m second (report_with b c) else 0)
+        number_in (board_after b c).books m second ≡ number_in b.books m second + (when done_tick_with b c then adds m second (report_with b c) else 0)
     counts_by (halts a n w) size =
         let still : number_in (board_after b c).books m second ≡ number_in b.books m second = ap (λ (x : Board). number_in x.books m second) (board_halted b c a w) in
-        let none : (if done_tick_with b c then adds m second (report_with b c) else 0) ≡ 0 =
-        ap (λ (t : Bool). if t then adds m second (report_with b c) else 0)
+        let none : (when done_tick_with b c then adds m second (report_with b c) else 0) ≡ 0 =
+        ap (λ (t : Bool). when t then adds m second (report_with b c) else 0)
         (ap (λ (o : Outcome (WithBooks Booked)). is_tick (about_of c) && is_done (book_number o.result.result.answer)) w ∙ halted_undone (is_tick (about_of c)) a n) in
         omega (arith, still, none)
     counts_by (plain low w) size =
         ap (λ (x : Board). number_in x.books m second) (board_plain b c w)
         ∙ by (done_tick b.state c) refl
-        ∙ sym (ap (λ (o : Outcome (WithBooks Booked)). number_in b.books m second + (if is_tick (about_of c) && is_done (book_number o.result.result.answer) then adds m second (take report_bytes o.room) else 0)) w)
+        ∙ sym (ap (λ (o : Outcome (WithBooks Booked)). number_in b.books m second + (when is_tick (about_of c) && is_done (book_number o.result.result.answer) then adds m second (take report_bytes o.room) else 0)) w)
       where
         by :
             (tick : Bool) → done_tick b.state c ≡ tick →
             number_in (later tick (found_after b.state c) b.books) m second
-            ≡ number_in b.books m second + (if tick then adds m second (take report_bytes (called b.state c).room) else 0)
+            ≡ number_in b.books m second + (when tick then adds m second (take report_bytes (called b.state c).room) else 0)
         by true e =
             counted_at (found_after b.state c) b.books (place_of m second) (omega (arith, size))
             ∙ ap (λ (k : ℕ). number_in b.books m second + k)
-            (added_at (found_after b.state c) m second small ∙ ap (λ (k : ℕ). if eqb k second then 1 else 0) (sym (tick_shown b.state c e m)))
+            (added_at (found_after b.state c) m second small ∙ ap (λ (k : ℕ). when eqb k second then 1 else 0) (sym (tick_shown b.state c e m)))
         by false e = omega arith
 
 -- in the front of a list there is at most one report more
-seconds_front : (m second : ℕ) (tick : Bool) (report : List ℕ) (reports : List (List ℕ)) → seconds_in m second ((if tick then report ∷ [] else []) ++ reports) ≡ (if tick then adds m second report else 0) + seconds_in m second reports
+seconds_front : (m second : ℕ) (tick : Bool) (report : List ℕ) (reports : List (List ℕ)) → seconds_in m second ((when tick then report ∷ [] else []) ++ reports) ≡ (when tick then adds m second report else 0) + seconds_in m second reports
 seconds_front m second true report reports = refl
 seconds_front m second false report reports = omega arith
 
@@ -95,7 +95,7 @@ sizes [] b size = size
 sizes (c ∷ cs) b size = sizes cs (board_after b c) (size_by b c (way b c) size)
 
 -- each report shows the module as one of the three
-one_of_three : (shown : ℕ) → shown < 3 → (if eqb shown 0 then 1 else 0) + (if eqb shown 1 then 1 else 0) + (if eqb shown 2 then 1 else 0) ≡ 1
+one_of_three : (shown : ℕ) → shown < 3 → (when eqb shown 0 then 1 else 0) + (when eqb shown 1 then 1 else 0) + (when eqb shown 2 then 1 else 0) ≡ 1
 one_of_three zero h = refl
 one_of_three (suc zero) h = refl
 one_of_three (suc (suc zero)) h = refl

@@ -1,7 +1,7 @@
 -- The books: three numbers for each module, and what a done tick adds to them.
 -- Assumes nothing.
 use Rattle.std.specs.Prelude.{ℕ, ◌+◌, ◌*◌, ◌/◌, ◌%◌, Bool, ◌&&◌, true, false, List, eqb, leb, get_or, length}
-use Rattle.basics.specs.Choice.{if◌then◌else◌, bit}
+use Rattle.basics.specs.Choice.{when◌then◌else◌, bit}
 use Rattle.basics.specs.Each.{each}
 use Rattle.basics.specs.Tables.{all_below}
 use Rattle.modules.specs.declared.power.Power.{Power}
@@ -38,11 +38,11 @@ found_in s m = second_of (module_at m s).power
 
 -- what masks show of it
 abbrev pub shown_as : Masks → (m : ℕ) → ℕ
-shown_as masks m = if bit m masks.on then 0 else if bit m masks.failed then 2 else 1
+shown_as masks m = when bit m masks.on then 0 else when bit m masks.failed then 2 else 1
 
 -- what a tick adds to number i, given what each module is found as after it
 abbrev pub added_to : (found : ℕ → ℕ) → (i : ℕ) → ℕ
-added_to found i = if eqb (found (i / 3)) (i % 3) then 1 else 0
+added_to found i = when eqb (found (i / 3)) (i % 3) then 1 else 0
 
 -- the books with a tick counted
 unfoldable pub counted : (found : ℕ → ℕ) → (books : List ℕ) → List ℕ
@@ -54,7 +54,7 @@ none_above books = all_below (λ i. leb (get_or books i 0) most_seconds) (length
 
 -- the books after a call: a done tick is counted
 abbrev pub later : (tick : Bool) (found : ℕ → ℕ) → (books : List ℕ) → List ℕ
-later tick found books = if tick then counted found books else books
+later tick found books = when tick then counted found books else books
 
 -- they hold that: no number is above the most, and none is taken above
 abbrev pub holds_later : (tick : Bool) (found : ℕ → ℕ) → (books : List ℕ) → Bool
@@ -72,4 +72,4 @@ kept held books = record { held = held; books = books }
 -- what is kept; books that can't hold it stay
 unfoldable pub kept_of : (tick : Bool) (found : ℕ → ℕ) → (books : List ℕ) → Kept
 kept_of tick found books =
-    if holds_later tick found books then kept true (later tick found books) else kept false books
+    when holds_later tick found books then kept true (later tick found books) else kept false books

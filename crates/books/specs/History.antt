@@ -1,7 +1,7 @@
 -- A flight with books: calls of `step_books` in a row, with the same books.
 -- Assumes nothing.
 use Rattle.std.specs.Prelude.{ℕ, Bool, ◌&&◌, List, [], ◌∷◌, ◌++◌, take}
-use Rattle.basics.specs.Choice.{if◌then◌else◌}
+use Rattle.basics.specs.Choice.{when◌then◌else◌}
 use Rattle.basics.specs.Outcome.{Outcome}
 use Rattle.frames.specs.Kind.{report_bytes}
 use Rattle.frames.specs.About.{is_tick}
@@ -50,4 +50,4 @@ report_with b c = take report_bytes (called_with b c).room
 abbrev pub tick_reports : Board → List Call → List (List ℕ)
 tick_reports b [] = []
 tick_reports b (c ∷ cs) =
-    (if done_tick_with b c then report_with b c ∷ [] else []) ++ tick_reports (board_after b c) cs
+    (when done_tick_with b c then report_with b c ∷ [] else []) ++ tick_reports (board_after b c) cs

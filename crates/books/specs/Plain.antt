@@ -2,7 +2,7 @@
 -- so leaves everything as it was. So a flight with books is a flight.
 -- Assumes nothing.
 use Rattle.std.specs.Prelude.{◌≡◌, Bool, true, false, not, ◌&&◌, List, [], ◌∷◌}
-use Rattle.basics.specs.Choice.{if◌then◌else◌}
+use Rattle.basics.specs.Choice.{when◌then◌else◌}
 use Rattle.supervisor.specs.History.{Call, called, after}
 use Rattle.books.specs.Answer.{is_books}
 use Rattle.books.specs.History.{Board, called_with, answer_with, board_after, after_with}
@@ -24,7 +24,7 @@ pub record Halted (b : Board) (c : Call) : Type 0 where
 abbrev pub unhalted : Board → List Call → List Call
 unhalted b [] = []
 unhalted b (c ∷ cs) =
-    if is_books (answer_with b c) then unhalted (board_after b c) cs else c ∷ unhalted (board_after b c) cs
+    when is_books (answer_with b c) then unhalted (board_after b c) cs else c ∷ unhalted (board_after b c) cs
 
 -- they halt none of a history
 abbrev pub halts_none : Board → List Call → Bool

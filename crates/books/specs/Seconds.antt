@@ -2,7 +2,7 @@
 -- number of those whose report shows the module so.
 -- Assumes nothing.
 use Rattle.std.specs.Prelude.{ℕ, ◌+◌, ◌<◌, ◌≤◌, ◌≡◌, Bool, true, List, [], ◌∷◌, eqb, length, replicate}
-use Rattle.basics.specs.Choice.{if◌then◌else◌}
+use Rattle.basics.specs.Choice.{when◌then◌else◌}
 use Rattle.modules.specs.Groups.{module_count}
 use Rattle.supervisor.specs.Report.{shown_in}
 use Rattle.supervisor.specs.History.{Call}
@@ -14,13 +14,13 @@ use Rattle.books.specs.History.{Board, after_with, tick_reports}
 abbrev pub those : (counts : (report : List ℕ) → Bool) → (reports : List (List ℕ)) → List (List ℕ)
 those counts [] = []
 those counts (report ∷ reports) =
-    if counts report then report ∷ those counts reports else those counts reports
+    when counts report then report ∷ those counts reports else those counts reports
 
 -- how many of them show module m as on (0), off (1) or failed (2)
 abbrev pub seconds_in : (m second : ℕ) → (reports : List (List ℕ)) → ℕ
 seconds_in m second [] = 0
 seconds_in m second (report ∷ reports) =
-    (if eqb (shown_as (shown_in report) m) second then 1 else 0) + seconds_in m second reports
+    (when eqb (shown_as (shown_in report) m) second then 1 else 0) + seconds_in m second reports
 
 -- all zeros
 abbrev pub anew : State → Board

@@ -1,7 +1,7 @@
 -- A call with books: the plain call, and its done ticks counted.
 -- Assumes nothing.
 use Rattle.std.specs.Prelude.{ℕ, Bool, not, ◌&&◌, List, eqb, length}
-use Rattle.basics.specs.Choice.{if◌then◌else◌, within}
+use Rattle.basics.specs.Choice.{when◌then◌else◌, within}
 use Rattle.basics.specs.Outcome.{Outcome, outcome}
 use Rattle.frames.specs.Answer.{answer_number}
 use Rattle.frames.specs.declared.answer.Answer.{Answer}
@@ -49,6 +49,6 @@ is_full s c books =
 unfoldable pub step_books_of : State → (input room books : List ℕ) → Outcome (WithBooks Booked)
 step_books_of s input room books =
     let c : Call = record { input = input; room = room } in
-    if not (eqb (length books) book_numbers) then halted NotBooks s room books
-    else if is_full s c books then halted Full s room books
+    when not (eqb (length books) book_numbers) then halted NotBooks s room books
+    else when is_full s c books then halted Full s room books
     else as_plain (called s c) (later (done_tick s c) (found_after s c) books)

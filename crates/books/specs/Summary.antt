@@ -1,7 +1,7 @@
 -- The summary of the books: each module's share on, in thousandths.
 -- Assumes nothing.
 use Rattle.std.specs.Prelude.{ℕ, ◌+◌, ◌*◌, ◌/◌, not, List, ◌++◌, eqb, length, take, drop, replicate}
-use Rattle.basics.specs.Choice.{if◌then◌else◌}
+use Rattle.basics.specs.Choice.{when◌then◌else◌}
 use Rattle.basics.specs.Each.{each}
 use Rattle.modules.specs.Groups.{module_count}
 use Rattle.frames.specs.declared.answer.Answer.TheVariants.{Done}
@@ -12,7 +12,7 @@ use Rattle.books.specs.declared.shares.Summary.{Summary}
 -- thousandths of the three together, rounded down, 0 where they are 0
 abbrev pub share_of : (on off failed : ℕ) → ℕ
 share_of on off failed =
-    let all = on + off + failed in if eqb all 0 then 0 else on * 1000 / all
+    let all = on + off + failed in when eqb all 0 then 0 else on * 1000 / all
 
 -- the share on of module m
 abbrev pub share_in : (books : List ℕ) → (m : ℕ) → ℕ
@@ -29,8 +29,8 @@ shares_of books = each (λ m none. share_in books m) no_shares
 -- 18, unless there are 24 numbers, then 17, when any is above the most: every share is then 0
 unfoldable pub summary_of : (books : List ℕ) → Summary
 summary_of books =
-    if not (eqb (length books) book_numbers) then record { answer = NotBooks; shares = no_shares }
-    else if none_above books then record { answer = Plain Done; shares = shares_of books }
+    when not (eqb (length books) book_numbers) then record { answer = NotBooks; shares = no_shares }
+    else when none_above books then record { answer = Plain Done; shares = shares_of books }
     else record { answer = Full; shares = no_shares }
 
 -- shares at the front of a room, as many as it has place for; what stands past them stays

@@ -8,7 +8,7 @@ use mathlib.Core.List.{List}
 use mathlib.Core.Option.{none, some}
 use borrow.Author.Tests.{eq-eqb}
 use lib.ListN.{length}
-use Rattle.basics.specs.Choice.{if◌then◌else◌}
+use Rattle.basics.specs.Choice.{when◌then◌else◌}
 use Rattle.supervisor.specs.Range.{in_range}
 use Rattle.supervisor.specs.declared.state.State.{State}
 use Rattle.supervisor.proofs.ModuleLaws.{Eight}
@@ -30,7 +30,7 @@ load_save s e eight = simp (saved_layout s e eight, decoded_saved s e eight, e)
 -- what bytes that load are
 module _ (bytes : List ℕ) (s : State) (e : loaded bytes ≡ some s) where
   by_tests :
-      (t : Bool) → has_layout bytes ≡ t → (u : Bool) → in_range (decoded bytes) ≡ u → (if t && u then some (decoded bytes) else none) ≡ some s →
+      (t : Bool) → has_layout bytes ≡ t → (u : Bool) → in_range (decoded bytes) ≡ u → (when t && u then some (decoded bytes) else none) ≡ some s →
       (has_layout bytes ≡ true) × (in_range s ≡ true) × (decoded bytes ≡ s)
   by_tests true l true r z = let same : decoded bytes ≡ s = cc in (l, ap in_range (sym same) ∙ r, same)
   by_tests true l false r z = let never : ◌≡◌ {A = ℕ} 0 1 = cc in absurd (omega arith)

@@ -2,7 +2,7 @@
 -- Assumes nothing.
 use Rattle.std.specs.Prelude.{ℕ, ◌≡◌, ◌&&◌, List, eqb, ltb, ℤ, length}
 use Rattle.std.proofs.Math.Option.{Option, none, some}
-use Rattle.basics.specs.Choice.{if◌then◌else◌}
+use Rattle.basics.specs.Choice.{when◌then◌else◌}
 use Rattle.basics.specs.Outcome.{Outcome, outcome, Reply, reply}
 use Rattle.modules.specs.Groups.{module_count}
 use Rattle.morse.specs.Answers.{no_room}
@@ -49,7 +49,7 @@ bad_state = answer_number answer.BadState
 -- the image of the fresh start, into 71 bytes
 unfoldable pub fresh_image : (image : List ℕ) → Imaged ℕ
 fresh_image image =
-    if eqb (length image) image_bytes then imaged (answer_number answer.Done) (saved fresh_state)
+    when eqb (length image) image_bytes then imaged (answer_number answer.Done) (saved fresh_state)
     else imaged bad_state image
 
 -- what a step leaves, as bytes
@@ -107,7 +107,7 @@ step_books_loaded (some s) image frame room books = booked_to (step_books_of s f
 -- a step with books of an image: 18 goes before all, unless 24 numbers are lent
 unfoldable pub step_books_image : (image frame room books : List ℕ) → Outcome (WithBooks (Imaged ℕ))
 step_books_image image frame room books =
-    if eqb (length books) book_numbers then step_books_loaded (loaded image) image frame room books
+    when eqb (length books) book_numbers then step_books_loaded (loaded image) image frame room books
     else outcome (with_books (imaged (book_number NotBooks) image) books) room
 
 -- a summary of books into a room: 18, then 17, with as many zeros as there is place for; then 14 where there is none
@@ -116,7 +116,7 @@ unfoldable pub summary_reply : (books room : List ℕ) → Outcome ℕ
 summary_reply books room =
     let summed = summary_of books in
     let number = book_number summed.answer in
-    if eqb number 0 && ltb (length room) module_count then outcome no_room room
+    when eqb number 0 && ltb (length room) module_count then outcome no_room room
     else outcome number (put_into summed.shares room)
 
 -- the beacon's text of what was loaded; where that is nothing, the room stays

@@ -2,7 +2,7 @@
 -- Each in range has one number of its own, and each other number says one out of range.
 -- Assumes nothing.
 use Rattle.std.specs.Prelude.{ℕ, ◌+◌, ◌-◌, ◌*◌, ◌/◌, ◌%◌, eqb, leb, ltb}
-use Rattle.basics.specs.Choice.{if◌then◌else◌}
+use Rattle.basics.specs.Choice.{when◌then◌else◌}
 use Rattle.modules.specs.Power.{clean_seconds}
 use Rattle.modules.specs.declared.power.Power.{Power}
 use Rattle.modules.specs.declared.power.Power.TheVariants.{On, Off, Failed}
@@ -33,10 +33,10 @@ mode_code Safe = safe_code
 -- the mode of a number; past SAFE's it is waiting, for longer than any board waits
 abbrev pub mode_from : ℕ → Mode
 mode_from code =
-    if leb code settling_code then DeployWait (Waiting code) else
-    if ltb code recovery_code then DeployWait (Settling (code - settling_code)) else
-    if eqb code recovery_code then Recovery else
-    if eqb code safe_code then Safe else
+    when leb code settling_code then DeployWait (Waiting code) else
+    when ltb code recovery_code then DeployWait (Settling (code - settling_code)) else
+    when eqb code recovery_code then Recovery else
+    when eqb code safe_code then Safe else
     DeployWait (Waiting code)
 
 -- on with all tries, the last number of a module that is on; off is this and the tries left
@@ -60,13 +60,13 @@ power_code (Failed left) = failed_code + left
 -- the power of a number; past 846 it is failed, for longer than any module is
 abbrev pub power_from : ℕ → Power
 power_from code =
-    if leb code all_tries_code then On (code / clean_seconds + 1) (code % clean_seconds) else
-    if ltb code failed_code then Off (code - all_tries_code) else
+    when leb code all_tries_code then On (code / clean_seconds + 1) (code % clean_seconds) else
+    when ltb code failed_code then Off (code - all_tries_code) else
     Failed (code - failed_code)
 
 -- a module as a number
 abbrev pub module_code : Module → ℕ
-module_code m = if m.requested then requested_code + power_code m.power else power_code m.power
+module_code m = when m.requested then requested_code + power_code m.power else power_code m.power
 
 -- the module of a number
 abbrev pub module_from : ℕ → Module

@@ -3,7 +3,7 @@
 use Rattle.frames.specs.Serial.{both}
 use Rattle.std.specs.Prelude.{ℕ, ◌+◌, ◌*◌, Bool, ◌&&◌, false, List, eqb, leb, length, take, drop, replicate}
 use Rattle.std.proofs.Math.Option.{Option, none, some}
-use Rattle.basics.specs.Choice.{if◌then◌else◌}
+use Rattle.basics.specs.Choice.{when◌then◌else◌}
 use Rattle.basics.specs.Each.{each}
 use Rattle.modules.specs.Groups.{module_count}
 use Rattle.modules.specs.declared.ends.Ends.{Ends}
@@ -77,4 +77,4 @@ decoded bytes =
 
 -- the state of an image; no other bytes have one
 unfoldable pub loaded : List ℕ → Option State
-loaded bytes = if has_layout bytes && in_range (decoded bytes) then some (decoded bytes) else none
+loaded bytes = when has_layout bytes && in_range (decoded bytes) then some (decoded bytes) else none

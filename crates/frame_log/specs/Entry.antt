@@ -1,7 +1,7 @@
 -- The log's next entry: the frame at the front of a stream, worked, and its line.
 -- Assumes nothing.
 use Rattle.std.specs.Prelude.{ℕ, ◌+◌, ◌%◌, ◌^◌, Bool, List, length, take, replicate, nat_le}
-use Rattle.basics.specs.Choice.{if◌then◌else◌}
+use Rattle.basics.specs.Choice.{when◌then◌else◌}
 use Rattle.basics.specs.Outcome.{Outcome, outcome}
 use Rattle.frames.specs.Answer.{is_reported}
 use Rattle.frames.specs.Kind.{report_bytes}
@@ -39,7 +39,7 @@ ends line log = entered (entry.Last line.result) log line.room
 -- what is printed of a step's answer, next state and report
 abbrev pub printed : Answer → State → (report : List ℕ) → Log → (frame room : List ℕ) → Outcome Entered
 printed answer s report log frame room =
-    if is_reported answer then goes_on (placed (line_of log.n report) room) (length frame) s log
+    when is_reported answer then goes_on (placed (line_of log.n report) room) (length frame) s log
     else ends (placed (refused_line log.n answer) room) log
 
 -- the same, of all that a step leaves
@@ -55,10 +55,10 @@ worked log frame room = printed_step (step_of log.state frame (replicate report_
 abbrev pub entered_at : Front → Log → (bytes : List ℕ) (ended : Bool) (room : List ℕ) → Outcome Entered
 entered_at (front.Frame total) log bytes ended room = worked log (take total bytes) room
 entered_at front.Unknown log bytes ended room = worked log bytes room
-entered_at front.Short log bytes ended room = if ended then worked log bytes room else entered entry.More log room
+entered_at front.Short log bytes ended room = when ended then worked log bytes room else entered entry.More log room
 entered_at front.Empty log bytes ended room = entered entry.More log room
 
 -- the frame at the front of the bytes is entered, where the room has place for every line
 unfoldable pub enter_of : Log → (bytes : List ℕ) (ended : Bool) (room : List ℕ) → Outcome Entered
 enter_of log bytes ended room =
-    if nat_le longest (length room) then entered_at (cut_of bytes) log bytes ended room else entered entry.Full log room
+    when nat_le longest (length room) then entered_at (cut_of bytes) log bytes ended room else entered entry.Full log room

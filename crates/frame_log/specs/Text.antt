@@ -3,7 +3,7 @@
 use Rattle.std.specs.Prelude.{◌≡◌, ℕ, zero, suc, ◌+◌, ◌/◌, ◌≤◌, List, ◌∷◌, length, nat_lt}
 use Rattle.std.proofs.lemmas.List.Edits.{sets}
 use Rattle.basics.specs.Bytes.{two_hex, space}
-use Rattle.basics.specs.Choice.{if◌then◌else◌}
+use Rattle.basics.specs.Choice.{when◌then◌else◌}
 use Rattle.io.specs.Digits.{last_digits}
 
 -- the decimal digits of the largest number of 64 bits
@@ -13,7 +13,7 @@ most_digits = 20
 -- how many decimal digits a number has: one, and as many more as its tenth has, if it isn't below 10
 unfoldable pub digit_count_up_to : (more : ℕ) → ℕ → ℕ
 digit_count_up_to zero n = 1
-digit_count_up_to (suc more) n = if nat_lt n 10 then 1 else suc (digit_count_up_to more (n / 10))
+digit_count_up_to (suc more) n = when nat_lt n 10 then 1 else suc (digit_count_up_to more (n / 10))
 
 -- a number of 64 bits in decimal, without leading zeros
 unfoldable pub decimal : ℕ → List ℕ

@@ -2,7 +2,7 @@
 -- Assumes nothing.
 use Rattle.std.proofs.Common.{◌≡◌, ℕ, ◌<◌, Bool, true, false, ◌&&◌, T, eqb, leb, List, [], ◌∷◌, length, refl, ◌∙◌, arith, eq-eqb, ne_eqb, eqb-true}
 use borrow.Author.Tests.{eqb-false}
-use Rattle.basics.specs.Choice.{if◌then◌else◌, within, word}
+use Rattle.basics.specs.Choice.{when◌then◌else◌, within, word}
 use Rattle.basics.proofs.ChoiceLaws.{is_true, holds, either, decided, and_left, and_right, within_low, within_high, within_of}
 use Rattle.modules.specs.Groups.{is_mission}
 use Rattle.frames.specs.Answer.{answer_number}
@@ -42,7 +42,7 @@ pub last_total :
     (kind ≡ thresholds_kind → ⊥) → (kind ≡ timed_kind → ⊥) → (total_of kind ≡ 0 → ⊥) → total_of kind ≡ total_of greeting_kind
 unfolding total_of
 last_total kind a b c d e f known =
-    let none : total_of kind ≡ (if eqb kind greeting_kind then greeting_bytes else 0) =
+    let none : total_of kind ≡ (when eqb kind greeting_kind then greeting_bytes else 0) =
     simp (ne_eqb kind tick_kind a, ne_eqb kind battery_kind b, ne_eqb kind antennas_kind c, ne_eqb kind order_kind d, ne_eqb kind thresholds_kind e, ne_eqb kind timed_kind f) in
     none ∙ decided (λ (n : ℕ). n ≡ greeting_bytes) (eqb kind greeting_kind) (λ t. refl) (λ t. absurd (known (none ∙ rw t)))
 

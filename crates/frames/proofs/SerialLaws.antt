@@ -2,12 +2,12 @@
 -- Assumes nothing.
 use Rattle.std.proofs.Common.{◌≡◌, ℕ, ◌+◌, ◌%◌, ◌<◌, Bool, true, false, eqb, ltb, refl, arith, ltb-true}
 use borrow.Author.Tests.{eqb-false}
-use Rattle.basics.specs.Choice.{if◌then◌else◌}
+use Rattle.basics.specs.Choice.{when◌then◌else◌}
 use Rattle.frames.specs.Serial.{serial_count, stale_from, distance, class_of}
 use Rattle.frames.specs.declared.serial.Class.TheVariants.{Repeat, Fresh, Stale}
 
 ahead :
-    (d : ℕ) (zero near : Bool) → eqb d 0 ≡ zero → ltb d stale_from ≡ near → (if zero then Repeat else if near then Fresh else Stale) ≡ Fresh →
+    (d : ℕ) (zero near : Bool) → eqb d 0 ≡ zero → ltb d stale_from ≡ near → (when zero then Repeat else when near then Fresh else Stale) ≡ Fresh →
     (0 < d) × (d < stale_from)
 ahead d true near e f h = let z : ◌≡◌ {A = ℕ} 0 1 = cc in absurd (omega arith)
 ahead d false false e f h = let z : ◌≡◌ {A = ℕ} 0 1 = cc in absurd (omega arith)

@@ -1,7 +1,7 @@
 -- What a reading is about, for whoever looks at a flight from outside.
 -- Assumes nothing.
 use Rattle.std.specs.Prelude.{ℕ, Bool, true, false, List, [], ◌∷◌}
-use Rattle.basics.specs.Choice.{if◌then◌else◌}
+use Rattle.basics.specs.Choice.{when◌then◌else◌}
 use Rattle.frames.specs.declared.sender.Origin.{Origin}
 use Rattle.frames.specs.declared.sender.Origin.TheVariants.{Ground, Payload}
 use Rattle.frames.specs.declared.sender.Sender.{Sender}
@@ -43,5 +43,5 @@ same_origin Payload Payload = true
 -- the serial that it has from an origin, one or none
 abbrev pub serial_from : Origin → About → List ℕ
 serial_from origin (a_tick shorts) = []
-serial_from origin (a_command sender command) = if same_origin origin sender.origin then sender.serial ∷ [] else []
+serial_from origin (a_command sender command) = when same_origin origin sender.origin then sender.serial ∷ [] else []
 serial_from origin neither = []

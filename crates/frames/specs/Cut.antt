@@ -1,7 +1,7 @@
 -- Cutting bytes into frames by kind.
 -- Assumes nothing.
 use Rattle.std.specs.Prelude.{ℕ, List, length, take, ◌==◌, nat_lt}
-use Rattle.basics.specs.Choice.{if◌then◌else◌}
+use Rattle.basics.specs.Choice.{when◌then◌else◌}
 use Rattle.frames.specs.Kind.{total_of}
 use Rattle.frames.specs.Reading.{byte_at}
 use Rattle.frames.specs.declared.cut.Front.{Front}
@@ -10,9 +10,9 @@ use Rattle.frames.specs.declared.cut.Front.TheVariants.{Frame, Short, Unknown, E
 -- the kind, the first byte, fixes how long the frame at the front is
 unfoldable pub cut_of : List ℕ → Front
 cut_of bytes =
-    if length bytes == 0 then Empty else
-    if total_of (byte_at 0 bytes) == 0 then Unknown else
-    if nat_lt (length bytes) (total_of (byte_at 0 bytes)) then Short else
+    when length bytes == 0 then Empty else
+    when total_of (byte_at 0 bytes) == 0 then Unknown else
+    when nat_lt (length bytes) (total_of (byte_at 0 bytes)) then Short else
     Frame (total_of (byte_at 0 bytes))
 
 -- how many of so many bytes are the frame's: where its kind is unknown, or it is cut off, all of them

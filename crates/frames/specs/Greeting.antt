@@ -1,7 +1,7 @@
 -- A greeting's text: up to 16 characters that keying takes, in sixteen bytes.
 -- Assumes nothing.
 use Rattle.std.specs.Prelude.{ℕ, Bool, true, ◌&&◌, List, [], ◌∷◌, length, take, drop, replicate, ◌==◌, nat_le}
-use Rattle.basics.specs.Choice.{if◌then◌else◌}
+use Rattle.basics.specs.Choice.{when◌then◌else◌}
 use Rattle.morse.specs.Texts.{is_keyable}
 use Rattle.frames.specs.Kind.{greeting_bytes}
 
@@ -27,4 +27,4 @@ is_greeting characters text =
 -- the text bytes of a frame that is as long as a greeting; beside any other, zeros
 unfoldable pub greeting_text : List ℕ → List ℕ
 greeting_text bytes =
-    if length bytes == greeting_bytes then drop text_place bytes else replicate longest_greeting 0
+    when length bytes == greeting_bytes then drop text_place bytes else replicate longest_greeting 0

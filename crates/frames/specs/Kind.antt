@@ -1,7 +1,7 @@
 -- The kinds of frames: their numbers, and their total lengths.
 -- Assumes nothing.
 use Rattle.std.specs.Prelude.{ℕ, ◌+◌, Bool, T, List, ◌==◌, slice_index}
-use Rattle.basics.specs.Choice.{if◌then◌else◌}
+use Rattle.basics.specs.Choice.{when◌then◌else◌}
 use Rattle.basics.specs.Tables.{all_below}
 
 -- 01 tick: mask of shorts seen in this second
@@ -47,13 +47,13 @@ report_bytes = 11
 -- the total of each kind that is read; an unknown kind has none
 unfoldable pub total_of : ℕ → ℕ
 total_of kind =
-    if kind == tick_kind then 2 else
-    if kind == battery_kind then 3 else
-    if kind == antennas_kind then 2 else
-    if kind == order_kind then 6 else
-    if kind == thresholds_kind then 8 else
-    if kind == timed_kind then 7 else
-    if kind == greeting_kind then greeting_bytes else 0
+    when kind == tick_kind then 2 else
+    when kind == battery_kind then 3 else
+    when kind == antennas_kind then 2 else
+    when kind == order_kind then 6 else
+    when kind == thresholds_kind then 8 else
+    when kind == timed_kind then 7 else
+    when kind == greeting_kind then greeting_bytes else 0
 
 -- the rule of the code's table at a number: it is that number's total
 abbrev pub is_total : List ℕ → ℕ → Bool

@@ -1,7 +1,7 @@
 -- Reading a frame: what the bytes of each kind say, and checks 3 to 7.
 -- Assumes nothing.
 use Rattle.std.specs.Prelude.{ℕ, ◌+◌, Bool, not, ◌&&◌, leb, List, length, ◌==◌, nat_le, slice_index}
-use Rattle.basics.specs.Choice.{if◌then◌else◌, within, word}
+use Rattle.basics.specs.Choice.{when◌then◌else◌, within, word}
 use Rattle.modules.specs.Groups.{payload_module, is_mission}
 use Rattle.frames.specs.Kind.{tick_kind, battery_kind, antennas_kind, order_kind, thresholds_kind, timed_kind}
 use Rattle.frames.specs.Kind.{total_of}
@@ -65,12 +65,12 @@ tick_fields bytes = Accepted (Tick (byte_at 1 bytes))
 -- a reading in range
 unfoldable pub battery_fields : List ℕ → Reading
 battery_fields bytes =
-    if is_reading (word_at 1 bytes) then Accepted (Battery (word_at 1 bytes)) else Refused BadField
+    when is_reading (word_at 1 bytes) then Accepted (Battery (word_at 1 bytes)) else Refused BadField
 
 -- 0 folded, 1 deployed
 unfoldable pub antennas_fields : List ℕ → Reading
 antennas_fields bytes =
-    if nat_le (byte_at 1 bytes) 1 then Accepted (Antennas (byte_at 1 bytes == 1)) else Refused BadField
+    when nat_le (byte_at 1 bytes) 1 then Accepted (Antennas (byte_at 1 bytes == 1)) else Refused BadField
 
 -- a command begins with origin, serial (2)
 abbrev pub sender_from : List ℕ → Sender
@@ -79,53 +79,53 @@ sender_from bytes = record { origin = origin_from (byte_at 1 bytes); serial = wo
 -- then module 0 to 7, wanted 0 off or 1 on
 unfoldable pub order_fields : List ℕ → Reading
 order_fields bytes =
-    if is_origin (byte_at 1 bytes) && nat_le (byte_at 4 bytes) last_module && leb (byte_at 5 bytes) 1 then
-    (if is_foreign (byte_at 1 bytes) (byte_at 4 bytes) then Refused NotPermitted else
+    when is_origin (byte_at 1 bytes) && nat_le (byte_at 4 bytes) last_module && leb (byte_at 5 bytes) 1 then
+    (when is_foreign (byte_at 1 bytes) (byte_at 4 bytes) then Refused NotPermitted else
     Accepted (Command (sender_from bytes) (Order (byte_at 4 bytes) (byte_at 5 bytes == 1))))
     else Refused BadField
 
 -- what is ground's alone: never from origin 2
 unfoldable pub of_ground : commands.Command → List ℕ → Reading
 of_ground command bytes =
-    if byte_at 1 bytes == payload_origin then Refused NotPermitted
+    when byte_at 1 bytes == payload_origin then Refused NotPermitted
     else Accepted (Command (sender_from bytes) command)
 
 -- then ascend (2), descend (2); ground's alone
 unfoldable pub thresholds_fields : List ℕ → Reading
 thresholds_fields bytes =
-    if is_origin (byte_at 1 bytes) && are_thresholds (word_at 4 bytes) (word_at 6 bytes) then
+    when is_origin (byte_at 1 bytes) && are_thresholds (word_at 4 bytes) (word_at 6 bytes) then
     of_ground (Thresholds (word_at 4 bytes) (word_at 6 bytes)) bytes
     else Refused BadField
 
 -- then one of the mission four, minutes (2)
 unfoldable pub timed_fields : List ℕ → Reading
 timed_fields bytes =
-    if is_origin (byte_at 1 bytes) && is_mission (byte_at 4 bytes) && are_minutes (word_at 5 bytes) then
-    (if is_foreign (byte_at 1 bytes) (byte_at 4 bytes) then Refused NotPermitted else
+    when is_origin (byte_at 1 bytes) && is_mission (byte_at 4 bytes) && are_minutes (word_at 5 bytes) then
+    (when is_foreign (byte_at 1 bytes) (byte_at 4 bytes) then Refused NotPermitted else
     Accepted (Command (sender_from bytes) (Timed (byte_at 4 bytes) (word_at 5 bytes))))
     else Refused BadField
 
 -- then repeats 0 to 255, length, sixteen text bytes; ground's alone
 unfoldable pub greeting_fields : List ℕ → Reading
 greeting_fields bytes =
-    if is_origin (byte_at 1 bytes) && is_greeting (byte_at 5 bytes) (greeting_text bytes) then
+    when is_origin (byte_at 1 bytes) && is_greeting (byte_at 5 bytes) (greeting_text bytes) then
     of_ground (Greeting (byte_at 4 bytes) (byte_at 5 bytes)) bytes
     else Refused BadField
 
 -- by kind, one of those that have a total
 abbrev pub fields_of : ℕ → List ℕ → Reading
 fields_of kind bytes =
-    if kind == tick_kind then tick_fields bytes else
-    if kind == battery_kind then battery_fields bytes else
-    if kind == antennas_kind then antennas_fields bytes else
-    if kind == order_kind then order_fields bytes else
-    if kind == thresholds_kind then thresholds_fields bytes else
-    if kind == timed_kind then timed_fields bytes else
+    when kind == tick_kind then tick_fields bytes else
+    when kind == battery_kind then battery_fields bytes else
+    when kind == antennas_kind then antennas_fields bytes else
+    when kind == order_kind then order_fields bytes else
+    when kind == thresholds_kind then thresholds_fields bytes else
+    when kind == timed_kind then timed_fields bytes else
     greeting_fields bytes
 
 -- no input bytes; kind not 01 to 07; input length not the kind's total; then the fields
 unfoldable pub read_frame : List ℕ → Reading
 read_frame bytes =
-    if length bytes == 0 then Refused NoInput else
-    if total_of (byte_at 0 bytes) == 0 then Refused UnknownKind else
-    if length bytes == total_of (byte_at 0 bytes) then fields_of (byte_at 0 bytes) bytes else Refused BadLength
+    when length bytes == 0 then Refused NoInput else
+    when total_of (byte_at 0 bytes) == 0 then Refused UnknownKind else
+    when length bytes == total_of (byte_at 0 bytes) then fields_of (byte_at 0 bytes) bytes else Refused BadLength

@@ -1,7 +1,7 @@
 -- Who sends a command: origin is 1 (ground, through MCS) or 2 (the payload).
 -- Assumes nothing.
 use Rattle.std.specs.Prelude.{ℕ, Bool, ◌==◌}
-use Rattle.basics.specs.Choice.{if◌then◌else◌, within}
+use Rattle.basics.specs.Choice.{when◌then◌else◌, within}
 use Rattle.frames.specs.declared.sender.Origin.{Origin}
 use Rattle.frames.specs.declared.sender.Origin.TheVariants.{Ground, Payload}
 
@@ -24,4 +24,4 @@ origin_number Payload = payload_origin
 
 -- and back
 abbrev pub origin_from : ℕ → Origin
-origin_from byte = if byte == ground_origin then Ground else Payload
+origin_from byte = when byte == ground_origin then Ground else Payload

@@ -1,7 +1,7 @@
 -- Serials, as in RFC 1982.
 -- Assumes nothing.
 use Rattle.std.specs.Prelude.{ℕ, ◌+◌, ◌-◌, ◌%◌, ◌==◌, nat_lt}
-use Rattle.basics.specs.Choice.{if◌then◌else◌}
+use Rattle.basics.specs.Choice.{when◌then◌else◌}
 use Rattle.frames.specs.declared.sender.Origin.{Origin}
 use Rattle.frames.specs.declared.sender.Origin.TheVariants.{Ground, Payload}
 use Rattle.frames.specs.declared.serial.Class.{Class}
@@ -23,8 +23,8 @@ distance serial last = (serial + serial_count - last) % serial_count
 -- distance 0 is a repeat, 1 to 32,767 is fresh, 32,768 to 65,535 is stale
 unfoldable pub class_of : (serial last : ℕ) → Class
 class_of serial last =
-    if distance serial last == 0 then Repeat else
-    if nat_lt (distance serial last) stale_from then Fresh else Stale
+    when distance serial last == 0 then Repeat else
+    when nat_lt (distance serial last) stale_from then Fresh else Stale
 
 -- the last serial of each origin
 abbrev pub both : (ground : ℕ) (payload : ℕ) → Serials

@@ -8,7 +8,7 @@ use mathlib.Core.List.{List, [], ◌∷◌, ◌++◌}
 use mathlib.Core.Option.{Option, none, some}
 use lib.Dec.{T, eqb, eqb→eq}
 use borrow.Author.Tests.{eqb-true, not-true, lt-leb, ne_eqb}
-use Rattle.basics.specs.Choice.{if◌then◌else◌, within}
+use Rattle.basics.specs.Choice.{when◌then◌else◌, within}
 use Rattle.basics.specs.Bytes.{space}
 use Rattle.basics.proofs.ChoiceLaws.{is_true, holds, and_left, and_right, within_low, within_high}
 use Rattle.morse.specs.Signs.{Mark, dot, dash, alphabet, sign_of, signed}
@@ -51,18 +51,18 @@ sign_numbered c s = by_sign (sign_of c) s (everywhere own_number alphabet tt (λ
 
 -- a text heard after a sign with this number
 abbrev spoken : ℕ → List ℕ → Option (List ℕ)
-spoken n t = if eqb (byte_of n) no_byte then none else some (byte_of n ∷ t)
+spoken n t = when eqb (byte_of n) no_byte then none else some (byte_of n ∷ t)
 
 -- the gap before a sign: a word is over, or only a sign
 abbrev gap_of : (word : Bool) → ℕ
-gap_of word = if word then between_words else between_signs
+gap_of word = when word then between_words else between_signs
 
 -- the text after such a gap
 abbrev with_space : (word : Bool) → List ℕ → List ℕ
-with_space word t = if word then space ∷ t else t
+with_space word t = when word then space ∷ t else t
 
 heard_if : (b : Bool) (told : Told) (rest : Ear → Option (List ℕ))
-    → heard_from (if b then Wrong else told) rest ≡ (if b then none else heard_from told rest)
+    → heard_from (when b then Wrong else told) rest ≡ (when b then none else heard_from told rest)
 heard_if true told rest = refl
 heard_if false told rest = refl
 
@@ -73,7 +73,7 @@ module _ (n : ℕ) (m : Mark) (short : T (may_grow n)) where
   after_mark_law = rw (lt-leb five_marks n (omega (arith, within_high 1 (five_marks - 1) n short))) (by_mark m)
     where
       by_mark : (m : Mark)
-          → (if eqb (span m) 1 then grown n dot else if eqb (span m) 3 then grown n dash else 0) ≡ grown n m
+          → (when eqb (span m) 1 then grown n dot else when eqb (span m) 3 then grown n dash else 0) ≡ grown n m
       by_mark dot = refl
       by_mark dash = refl
 

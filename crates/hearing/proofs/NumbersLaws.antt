@@ -10,7 +10,7 @@ use native.Mathlib.Omega.{arith}
 use lib.Dec.{T, eqb, leb, ltb, eqb→eq}
 use lib.ListN.{length, get_or, drop}
 use borrow.Author.Tests.{eqb-true, ltb-true, leb-false, le-ltb, ne_eqb, not-true}
-use Rattle.basics.specs.Choice.{if◌then◌else◌}
+use Rattle.basics.specs.Choice.{when◌then◌else◌}
 use Rattle.basics.specs.Tables.{first_of}
 use Rattle.basics.proofs.ChoiceLaws.{is_true, and_left, and_right}
 use Rattle.basics.proofs.TablesLaws.{upto, first_map, first_on, first_here}
@@ -64,7 +64,7 @@ module _ (n : ℕ) (table : List Entry) (i : ℕ) (h : i < length table) where
 
 -- the byte of a sign of five or six marks: a figure, or else punctuation
 abbrev pub long_by : ℕ → ℕ
-long_by n = if eqb (figure_by n) no_byte then byte_among n punctuation else figure_by n
+long_by n = when eqb (figure_by n) no_byte then byte_among n punctuation else figure_by n
 
 -- it is the byte whose sign has the number: a test over the signs of five and six marks
 pub long_heard : (n : ℕ) → four_marks ≤ n → n < six_marks → long_by n ≡ byte_of n
@@ -78,7 +78,7 @@ long_heard n low high =
 abbrev marks_to : (most number : ℕ) → List Mark
 marks_to zero number = []
 marks_to (suc most) number =
-    if ltb number 2 then [] else marks_to most (number / 2) ++ (mark_of (number % 2) ∷ [])
+    when ltb number 2 then [] else marks_to most (number / 2) ++ (mark_of (number % 2) ∷ [])
 
 -- the marks that lead to a number, which are six at most
 pub path : ℕ → List Mark

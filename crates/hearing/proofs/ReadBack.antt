@@ -8,7 +8,7 @@ use native.Mathlib.Omega.{arith}
 use lib.Dec.{ltb}
 use lib.ListN.{length, take, drop}
 use lib.Seq.{take-append_seam}
-use Rattle.basics.specs.Choice.{if◌then◌else◌}
+use Rattle.basics.specs.Choice.{when◌then◌else◌}
 use Rattle.basics.specs.Outcome.{Outcome, outcome, written}
 use Rattle.morse.specs.declared.keying.Keyed.{Keyed}
 use Rattle.morse.specs.declared.keying.Keyed.TheVariants.{Done, NoRoom}
@@ -30,7 +30,7 @@ key_done t room later n e = by_fault (fault_of t) refl e
     refused m z = omega (arith, ap (λ o. (key_reply o.result).number) z)
 
     written_count : (b : Bool)
-        → (if b then outcome NoRoom room else outcome (Done (length (units_of t))) (written (units_of t) room))
+        → (when b then outcome NoRoom room else outcome (Done (length (units_of t))) (written (units_of t) room))
         ≡ outcome (Done n) later
         → units_of t ≡ take n later
     written_count true z = absurd (refused refl z)

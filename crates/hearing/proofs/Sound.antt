@@ -9,7 +9,7 @@ use mathlib.Core.Option.{Option, none, some}
 use lib.Dec.{T, eqb}
 use lib.ListN.{length}
 use borrow.Author.Tests.{eqb-true, not-true}
-use Rattle.basics.specs.Choice.{if◌then◌else◌}
+use Rattle.basics.specs.Choice.{when◌then◌else◌}
 use Rattle.basics.specs.Bytes.{space}
 use Rattle.basics.proofs.ChoiceLaws.{is_true, and_left, and_right, and_both, decided}
 use Rattle.morse.specs.Signs.{Mark, alphabet, sign_of, signed}
@@ -96,7 +96,7 @@ last_right n d g p =
     Text = Rightly (so_far (ear n d g) ++ [])
 
     Last : (byte : ℕ) → Type 0
-    Last byte = Holds Text (if eqb byte no_byte then none else some (byte ∷ []))
+    Last byte = Holds Text (when eqb byte no_byte then none else some (byte ∷ []))
 
     last : eqb (byte_of (after_mark n d)) no_byte ≡ false
         → Rightly (so_far (ear n d 0) ++ []) (byte_of (after_mark n d) ∷ [])

@@ -2,7 +2,7 @@
 -- only what the decoding code does, so that two theorems can say that it is right. Assumes nothing.
 use Rattle.std.specs.Prelude.{ℕ, ◌+◌, ◌<◌, not, List, [], ◌∷◌, ◌++◌, eqb}
 use Rattle.std.proofs.Math.Option.{Option, none, some}
-use Rattle.basics.specs.Choice.{if◌then◌else◌}
+use Rattle.basics.specs.Choice.{when◌then◌else◌}
 use Rattle.basics.specs.Bytes.{space}
 use Rattle.morse.specs.Texts.{longest}
 use Rattle.morse.specs.Units.{inside_sign, between_signs, between_words, Stored}
@@ -22,23 +22,23 @@ begun = ear 1 1 0
 -- what a gap tells, once the key is down again, after marks with this number
 unfoldable pub after_gap : (number gap : ℕ) → Told
 after_gap number gap =
-    if eqb gap inside_sign then (if eqb number 0 then Wrong else On (ear number 1 0))
-    else if eqb (byte_of number) no_byte then Wrong
-    else if eqb gap between_signs then Sign (byte_of number)
-    else if eqb gap between_words then Word (byte_of number)
+    when eqb gap inside_sign then (when eqb number 0 then Wrong else On (ear number 1 0))
+    else when eqb (byte_of number) no_byte then Wrong
+    else when eqb gap between_signs then Sign (byte_of number)
+    else when eqb gap between_words then Word (byte_of number)
     else Wrong
 
 -- what one more unit tells
 unfoldable pub told_by : Ear → (unit : ℕ) → Told
 told_by e unit =
-    if eqb unit 0 then On (ear e.number e.down (e.up + 1))
-    else if not (eqb unit 1) then Wrong
-    else if eqb e.up 0 then On (ear e.number (e.down + 1) e.up)
+    when eqb unit 0 then On (ear e.number e.down (e.up + 1))
+    else when not (eqb unit 1) then Wrong
+    else when eqb e.up 0 then On (ear e.number (e.down + 1) e.up)
     else after_gap (after_mark e.number e.down) e.up
 
 -- the byte of a sign that nothing follows, or no byte
 unfoldable pub last_of : Ear → ℕ
-last_of e = if eqb e.up 0 then byte_of (after_mark e.number e.down) else no_byte
+last_of e = when eqb e.up 0 then byte_of (after_mark e.number e.down) else no_byte
 
 -- bytes, and the text that is heard after them
 abbrev pub after : List ℕ → Option (List ℕ) → Option (List ℕ)
@@ -54,7 +54,7 @@ heard_from Wrong rest = none
 
 -- the text that is heard of the units that are left, or none
 abbrev pub hear : Ear → List ℕ → Option (List ℕ)
-hear e [] = if eqb (last_of e) no_byte then none else some (last_of e ∷ [])
+hear e [] = when eqb (last_of e) no_byte then none else some (last_of e ∷ [])
 hear e (unit ∷ units) = heard_from (told_by e unit) (λ e. hear e units)
 
 -- the text that is heard of units; no units are the empty text

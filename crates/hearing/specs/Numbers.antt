@@ -1,7 +1,7 @@
 -- The numbers by which the decoder knows a sign: no promise speaks of them.
 -- Assumes nothing.
 use Rattle.std.specs.Prelude.{ℕ, zero, suc, ◌+◌, ◌-◌, ◌*◌, ◌%◌, Bool, List, [], ◌∷◌, eqb, leb, ltb, get_or}
-use Rattle.basics.specs.Choice.{if◌then◌else◌}
+use Rattle.basics.specs.Choice.{when◌then◌else◌}
 use Rattle.basics.specs.Tables.{first_of}
 use Rattle.morse.specs.Signs.{Mark, dot, dash, first_figure, Row, alphabet}
 use Rattle.morse.specs.Units.{span}
@@ -39,7 +39,7 @@ byte_among number = first_of (λ r. eqb (climb 1 r.sign) number) (λ r. r.byte) 
 
 -- the byte whose sign has this number, or no byte
 unfoldable pub byte_of : ℕ → ℕ
-byte_of number = if ltb number six_marks then byte_among number alphabet else no_byte
+byte_of number = when ltb number six_marks then byte_among number alphabet else no_byte
 
 -- the rule of the code's table of letters at entry k
 abbrev pub is_byte : List ℕ → ℕ → Bool
@@ -49,13 +49,13 @@ is_byte table k = eqb (get_or table k 0) (byte_of k)
 -- than so many; else no byte
 abbrev pub past_by : (turns first part : ℕ) → ℕ
 past_by zero first part = no_byte
-past_by (suc turns) first part = if eqb part four_marks then first else past_by turns (first + 1) (2 * part)
+past_by (suc turns) first part = when eqb part four_marks then first else past_by turns (first + 1) (2 * part)
 
 -- the figure whose sign has a number of five marks or more, by its last mark, or no byte
 abbrev pub figure_by : ℕ → ℕ
 figure_by number =
-    if leb five_marks number then no_byte
-    else if eqb (number % 2) 1 then past_by four_marks first_figure (number - (four_marks - 1))
+    when leb five_marks number then no_byte
+    else when eqb (number % 2) 1 then past_by four_marks first_figure (number - (four_marks - 1))
     else past_by four_marks (first_figure + 5) (five_marks - number)
 
 -- the entry of a row in the code's table of punctuation: its sign's number, and its byte
@@ -66,7 +66,7 @@ entry_of r = record { 0 = climb 1 r.sign; 1 = r.byte }
 -- sign has so many
 unfoldable pub after_mark : (number down : ℕ) → ℕ
 after_mark number down =
-    if leb five_marks number then 0
-    else if eqb down (span dot) then grown number dot
-    else if eqb down (span dash) then grown number dash
+    when leb five_marks number then 0
+    else when eqb down (span dot) then grown number dot
+    else when eqb down (span dash) then grown number dash
     else 0

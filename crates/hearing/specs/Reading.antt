@@ -1,7 +1,7 @@
 -- What reading answers and leaves in the room, whichever units it is given.
 -- Assumes nothing.
 use Rattle.std.specs.Prelude.{ℕ, ◌≡◌, List, ltb, length}
-use Rattle.basics.specs.Choice.{if◌then◌else◌}
+use Rattle.basics.specs.Choice.{when◌then◌else◌}
 use Rattle.basics.specs.Outcome.{Outcome, outcome, written, Reply, reply}
 use Rattle.hearing.specs.declared.reading.Heard.{Heard}
 use Rattle.hearing.specs.declared.reading.Heard.TheVariants.{Done, NotAKeying, NoRoom}
@@ -24,7 +24,7 @@ pub record Keys (text units : List ℕ) : Type 0 where
 -- a text into a room: 14 if it is shorter, else the text is written, and its length returned
 unfoldable pub read_text : (text room : List ℕ) → Outcome Heard
 read_text text room =
-    if ltb (length room) (length text) then outcome NoRoom room
+    when ltb (length room) (length text) then outcome NoRoom room
     else outcome (Done (length text)) (written text room)
 
 -- reading units into a room: the text of which they are the keying, or, where there is none, 15 and the room untouched

@@ -6,7 +6,7 @@ use mathlib.Core.Path.{◌≡◌, refl, sym, ap, ◌∙◌}
 use mathlib.Core.Bool.{Bool, true, false, not, ◌&&◌, true≢false}
 use lib.Dec.{T, eqb, leb, ltb, lit<, leb→le, le→leb}
 use borrow.Author.Tests.{eqb-true, ne_eqb, ltb-true, ltb-false}
-use Rattle.basics.specs.Choice.{if◌then◌else◌, bit}
+use Rattle.basics.specs.Choice.{when◌then◌else◌, bit}
 use Rattle.basics.proofs.BitLaws.{bit_past}
 use Rattle.basics.proofs.ChoiceLaws.{agreed, and_left, and_right, and_both, either}
 use Rattle.basics.proofs.TablesLaws.{upto}
@@ -36,11 +36,11 @@ by_place P adcs payload sband1 sband2 nowhere i =
     by false false false false e f g h = nowhere i (e, f, g, h)
 
 abbrev one_of_four : ℕ → Bool
-one_of_four i = if eqb i adcs_module then true else if eqb i payload_module then true else if eqb i sband1_module then true else eqb i sband2_module
+one_of_four i = when eqb i adcs_module then true else when eqb i payload_module then true else when eqb i sband1_module then true else eqb i sband2_module
 
 mission_four_law : (i : ℕ) → i < module_count → is_mission i ≡ one_of_four i
 mission_four_law i low =
-    agreed (is_mission i) (one_of_four i) (upto (λ k. if is_mission k then one_of_four k else not (one_of_four k)) module_count tt i low)
+    agreed (is_mission i) (one_of_four i) (upto (λ k. when is_mission k then one_of_four k else not (one_of_four k)) module_count tt i low)
 
 -- a module that is none of the four is not of the mission: of the eight by one test, and no mask has a module from 8 on
 outside : (i : ℕ) → Nowhere i → is_mission i ≡ false
@@ -89,14 +89,14 @@ others_at i which seconds ends =
 
 -- the mask of four tests, and the test of module i among them
 abbrev four_bits : (a b c d : Bool) → ℕ
-four_bits a b c d = (if a then 8 else 0) + (if b then 16 else 0) + (if c then 64 else 0) + (if d then 128 else 0)
+four_bits a b c d = (when a then 8 else 0) + (when b then 16 else 0) + (when c then 64 else 0) + (when d then 128 else 0)
 
 abbrev test_of : ℕ → (a b c d : Bool) → Bool
-test_of i a b c d = if eqb i adcs_module then a else if eqb i payload_module then b else if eqb i sband1_module then c else if eqb i sband2_module then d else false
+test_of i a b c d = when eqb i adcs_module then a else when eqb i payload_module then b else when eqb i sband1_module then c else when eqb i sband2_module then d else false
 
 -- they agree: one test over the eight modules and the sixteen masks
 abbrev agrees : (i : ℕ) (a b c d : Bool) → Bool
-agrees i a b c d = if bit i (four_bits a b c d) then test_of i a b c d else not (test_of i a b c d)
+agrees i a b c d = when bit i (four_bits a b c d) then test_of i a b c d else not (test_of i a b c d)
 
 abbrev in_both : (Bool → Bool) → Bool
 in_both f = f true && f false
@@ -130,7 +130,7 @@ pub over_mission : (i : ℕ) (ends : Ends) → bit i (ends_over ends) ≡ true �
 unfolding ends_over
 over_mission i ends over = by (is_mission i) (ltb i module_count) refl refl
   where
-    small : (t : Bool) (n : ℕ) → (if t then n else 0) ≤ n
+    small : (t : Bool) (n : ℕ) → (when t then n else 0) ≤ n
     small t n = either (λ k. k ≤ n) t (omega arith) (omega arith)
 
     few : ends_over ends < 256
@@ -164,5 +164,5 @@ pub set_in_range : (which seconds : ℕ) (ends : Ends) → seconds ≤ longest_e
 unfolding ends_in_range with_end
 set_in_range which seconds ends low h =
     let p : T (short seconds) = le→leb seconds longest_end low in
-    let kept : (k end : ℕ) → T (short end) → T (short (if eqb which k then seconds else end)) = λ k end q. either (λ n. T (short n)) (eqb which k) p q in
+    let kept : (k end : ℕ) → T (short end) → T (short (when eqb which k then seconds else end)) = λ k end q. either (λ n. T (short n)) (eqb which k) p q in
     search (h, kept, and_left, and_right, and_both)

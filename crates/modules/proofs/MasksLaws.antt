@@ -14,7 +14,7 @@ use lib.ListN.{length, drop, take, get_or, length-drop}
 use lib.Pow.{pow-lt, pow_mono, shr-shr}
 use lib.Seq.{take-suc, length-take-le}
 use borrow.Author.Tests.{eqb-true, eqb-false, ltb-true, ltb-false, ne_eqb, eq-eqb}
-use Rattle.basics.specs.Choice.{if◌then◌else◌, bit}
+use Rattle.basics.specs.Choice.{when◌then◌else◌, bit}
 use Rattle.basics.specs.Each.{each, each_from}
 use Rattle.basics.proofs.BitLaws.{bit_past, bit_half, bit_power, bit_and_law}
 use Rattle.basics.proofs.ChoiceLaws.{and_left, and_right, and_both}
@@ -201,21 +201,21 @@ packed_agree ms masks eight r o f =
 -- ---- requests set in the masks
 
 -- one digit of it
-digit_on : (d x : ℕ) (set : Bool) → d < 2 → below (if eqb d 1 then true else set) x ≡ x * 2 + max (below set 0) d
+digit_on : (d x : ℕ) (set : Bool) → d < 2 → below (when eqb d 1 then true else set) x ≡ x * 2 + max (below set 0) d
 digit_on zero x true h = omega arith
 digit_on zero x false h = omega arith
 digit_on (suc zero) x true h = omega arith
 digit_on (suc zero) x false h = omega arith
 digit_on (suc (suc d)) x set h = absurd (omega arith)
 
-digit_off : (d x a : ℕ) (set : Bool) → d < 2 → a ≤ x → below (if eqb d 1 then false else set) (x - a) ≡ below set x - (a * 2 + min (below set 0) d)
+digit_off : (d x a : ℕ) (set : Bool) → d < 2 → a ≤ x → below (when eqb d 1 then false else set) (x - a) ≡ below set x - (a * 2 + min (below set 0) d)
 digit_off zero x a true h l = omega arith
 digit_off zero x a false h l = omega arith
 digit_off (suc zero) x a true h l = omega arith
 digit_off (suc zero) x a false h l = omega arith
 digit_off (suc (suc d)) x a set h l = absurd (omega arith)
 
-digit_set : (q kept : ℕ) (on set : Bool) → below (if eqb (q % 2) 1 then on else set) (bits_set (q / 2) on kept) ≡ bits_set q on (below set kept)
+digit_set : (q kept : ℕ) (on set : Bool) → below (when eqb (q % 2) 1 then on else set) (bits_set (q / 2) on kept) ≡ bits_set q on (below set kept)
 digit_set q kept true set =
     digit_on (q % 2) (bit_or kept (q / 2)) set (omega arith)
     ∙ sym (rw (below_half set kept, below_digit set kept) at (or_step (below set kept) q))
@@ -235,7 +235,7 @@ module _ (mask : ℕ) (on : Bool) where
   asked_from k (m ∷ ms) h =
       let halved : mask / 2 ^ suc k ≡ mask / 2 ^ k / 2 = ap (λ (n : ℕ). mask / 2 ^ n) (omega arith) ∙ sym (shr-shr mask k 1) in
       let fewer : mask / 2 ^ suc k < 2 ^ length ms = omega (arith, halved, h, pow-suc 2 (length ms)) in
-      ap (below (if bit k mask then on else m.requested)) (asked_from (suc k) ms fewer ∙ ap (λ (q : ℕ). bits_set q on (mask_of is_asked ms)) halved)
+      ap (below (when bit k mask then on else m.requested)) (asked_from (suc k) ms fewer ∙ ap (λ (q : ℕ). bits_set q on (mask_of is_asked ms)) halved)
       ∙ digit_set (mask / 2 ^ k) (mask_of is_asked ms) on m.requested
 
 -- a rule that keeps what a test asks keeps its mask
@@ -262,7 +262,7 @@ pub requested_off : (mask : ℕ) (ms : List Module) → requested_by (bit_and (m
 unfolding requested_by
 requested_off mask ms = each_at (module_requested (bit_and (masks_of ms).requested mask) false) (module_requested mask false) ms no_module off
   where
-    cut : (asked here : Bool) → (if asked && here then false else asked) ≡ (if here then false else asked)
+    cut : (asked here : Bool) → (when asked && here then false else asked) ≡ (when here then false else asked)
     cut true here = refl
     cut false true = refl
     cut false false = refl
@@ -270,7 +270,7 @@ requested_off mask ms = each_at (module_requested (bit_and (masks_of ms).request
     off : (i : ℕ) → i < length ms → module_requested (bit_and (masks_of ms).requested mask) false i (get_or ms i no_module) ≡ module_requested mask false i (get_or ms i no_module)
     off i h =
         let m : Module = get_or ms i no_module in
-        ap (λ (t : Bool). with_request (if t then false else m.requested) m) (bit_and_law i (masks_of ms).requested mask ∙ ap (λ (t : Bool). t && bit i mask) (requested_bit i ms))
+        ap (λ (t : Bool). with_request (when t then false else m.requested) m) (bit_and_law i (masks_of ms).requested mask ∙ ap (λ (t : Bool). t && bit i mask) (requested_bit i ms))
         ∙ ap (λ (t : Bool). with_request t m) (cut m.requested (bit i mask))
 
 -- one module's request is that of the mask of it alone
@@ -281,14 +281,14 @@ requested_one_law which on ms eight = by (ltb which module_count) refl
     asked : (i : ℕ) (m : Module) → module_asked which on i m ≡ module_requested (2 ^ which) on i m
     asked i m = rw (bit_power i which)
 
-    by : (few : Bool) → ltb which module_count ≡ few → requested_one which on ms ≡ requested_by (if few then 2 ^ which else 0) on ms
+    by : (few : Bool) → ltb which module_count ≡ few → requested_one which on ms ≡ requested_by (when few then 2 ^ which else 0) on ms
     by true e = each_at (module_asked which on) (module_requested (2 ^ which) on) ms no_module (λ i h. asked i (get_or ms i no_module))
     by false e = sym (request_past which on ms no_module (omega (arith, ltb-false which module_count e, eight))) ∙ sym (requested_none on ms)
 
 one_bit_small : (which : ℕ) → one_bit which < 256
 one_bit_small which = by (ltb which module_count) refl
   where
-    by : (few : Bool) → ltb which module_count ≡ few → (if few then 2 ^ which else 0) < 256
+    by : (few : Bool) → ltb which module_count ≡ few → (when few then 2 ^ which else 0) < 256
     by true e = pow-lt {j = 8} (ltb-true which module_count e)
     by false e = lit< tt
 
@@ -298,10 +298,10 @@ masks_asked_one which on ms masks eight own =
 
 -- ---- the ones of a mask
 
-below_ones : (set : Bool) (mask : ℕ) → ones (below set mask) ≡ (if set then 1 else 0) + ones mask
+below_ones : (set : Bool) (mask : ℕ) → ones (below set mask) ≡ (when set then 1 else 0) + ones mask
 below_ones set mask = ones_step (below set mask) ∙ rw (below_half set mask, below_digit set mask) (low set)
   where
-    low : (set : Bool) → below set 0 + ones mask ≡ (if set then 1 else 0) + ones mask
+    low : (set : Bool) → below set 0 + ones mask ≡ (when set then 1 else 0) + ones mask
     low true = refl
     low false = refl
 
@@ -312,7 +312,7 @@ ones_none = refl
 pub ones_on : (ms : List Module) → ones (masks_of ms).on ≡ count_on ms
 unfolding masks_of mask_of count_on
 ones_on [] = ones_none
-ones_on (m ∷ ms) = below_ones (is_on m.power) (mask_of is_powered ms) ∙ ap (λ (n : ℕ). (if is_on m.power then 1 else 0) + n) (ones_on ms)
+ones_on (m ∷ ms) = below_ones (is_on m.power) (mask_of is_powered ms) ∙ ap (λ (n : ℕ). (when is_on m.power then 1 else 0) + n) (ones_on ms)
 
 -- ---- the masks that the stage makes as it goes
 

@@ -6,7 +6,7 @@ use mathlib.Core.Path.{◌≡◌, refl}
 use mathlib.Core.Bool.{Bool, true, false, not, ◌&&◌, true≢false}
 use lib.Dec.{T, eqb, ltb, leb→le, le→leb, ltb→lt, lt→ltb, lit<}
 use borrow.Author.Tests.{eqb-true, eqb-false, eq-eqb, ltb-true}
-use Rattle.basics.specs.Choice.{if◌then◌else◌, within}
+use Rattle.basics.specs.Choice.{when◌then◌else◌, within}
 use Rattle.basics.proofs.ChoiceLaws.{is_true, holds, and_left, and_right, and_both, decided, either, within_low, within_high, within_of}
 use Rattle.modules.specs.Power.{one_try_fewer, stayed_on, attempted, switched, power_in_range, full_tries, retry_seconds, clean_seconds, is_on, is_failed, tries_left}
 use Rattle.modules.specs.declared.power.Power.{Power}
@@ -60,7 +60,7 @@ stayed_least least tries seconds full h =
 
 pub switched_least :
     (least : ℕ) (wanted short : Bool) (p : Power) → least ≤ full_tries → least ≤ tries_left p →
-    least ≤ tries_left (switched wanted short p) + (if short then 1 else 0)
+    least ≤ tries_left (switched wanted short p) + (when short then 1 else 0)
 unfolding switched
 switched_least least wanted true (On tries seconds) full h = fewer_least least tries h
 switched_least least false false (On tries seconds) full h = omega arith

@@ -1,7 +1,7 @@
 -- The ends of the mission four: seconds until a timed order's request goes off, 0 where none is running.
 -- Assumes nothing.
 use Rattle.std.specs.Prelude.{ℕ, ◌+◌, ◌-◌, ◌^◌, Bool, ◌&&◌, eqb, leb}
-use Rattle.basics.specs.Choice.{if◌then◌else◌}
+use Rattle.basics.specs.Choice.{when◌then◌else◌}
 use Rattle.modules.specs.Groups.{adcs_module, payload_module, sband1_module, sband2_module}
 use Rattle.modules.specs.declared.ends.Ends.{Ends}
 
@@ -16,10 +16,10 @@ no_ends = record { adcs = 0; payload = 0; sband1 = 0; sband2 = 0 }
 -- the end of module i; a core module has none
 unfoldable pub end_of : ℕ → Ends → ℕ
 end_of i ends =
-    if eqb i adcs_module then ends.adcs else
-    if eqb i payload_module then ends.payload else
-    if eqb i sband1_module then ends.sband1 else
-    if eqb i sband2_module then ends.sband2 else 0
+    when eqb i adcs_module then ends.adcs else
+    when eqb i payload_module then ends.payload else
+    when eqb i sband1_module then ends.sband1 else
+    when eqb i sband2_module then ends.sband2 else 0
 
 -- each tick takes one off a running end
 unfoldable pub ends_fallen : Ends → Ends
@@ -33,7 +33,7 @@ ends_fallen ends =
 
 -- the bit of module i, if its end is in its last second
 abbrev pub last_bit : ℕ → (end : ℕ) → ℕ
-last_bit i end = if eqb end 1 then 2 ^ i else 0
+last_bit i end = when eqb end 1 then 2 ^ i else 0
 
 -- the mask of the modules whose end reaches zero in the next second
 unfoldable pub ends_over : Ends → ℕ
@@ -45,10 +45,10 @@ ends_over ends =
 unfoldable pub with_end : (which seconds : ℕ) → Ends → Ends
 with_end which seconds ends =
     record {
-      adcs = if eqb which adcs_module then seconds else ends.adcs;
-      payload = if eqb which payload_module then seconds else ends.payload;
-      sband1 = if eqb which sband1_module then seconds else ends.sband1;
-      sband2 = if eqb which sband2_module then seconds else ends.sband2;
+      adcs = when eqb which adcs_module then seconds else ends.adcs;
+      payload = when eqb which payload_module then seconds else ends.payload;
+      sband1 = when eqb which sband1_module then seconds else ends.sband1;
+      sband2 = when eqb which sband2_module then seconds else ends.sband2;
     }
 
 -- 0 (no end) to 86,400 seconds for each

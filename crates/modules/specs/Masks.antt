@@ -2,7 +2,7 @@
 -- Assumes nothing.
 use Rattle.std.specs.Prelude.{ℕ, ◌+◌, ◌-◌, ◌*◌, ◌^◌, Bool, true, false, ◌&&◌, List, [], ◌∷◌, eqb, ltb}
 use Rattle.std.specs.Int.Bits.{bit_and, bit_or}
-use Rattle.basics.specs.Choice.{if◌then◌else◌}
+use Rattle.basics.specs.Choice.{when◌then◌else◌}
 use Rattle.modules.specs.Groups.{module_count}
 use Rattle.modules.specs.Power.{is_on, is_failed}
 use Rattle.modules.specs.declared.power.Module.{Module}
@@ -45,11 +45,11 @@ packed_masks masks = masks.requested + masks.on * 256 + masks.failed * 65536
 -- how many modules are on
 unfoldable pub count_on : List Module → ℕ
 count_on [] = 0
-count_on (m ∷ ms) = (if is_on m.power then 1 else 0) + count_on ms
+count_on (m ∷ ms) = (when is_on m.power then 1 else 0) + count_on ms
 
 -- the bit of one module; there is no module from 8 on
 abbrev pub one_bit : (which : ℕ) → ℕ
-one_bit which = if ltb which module_count then 2 ^ which else 0
+one_bit which = when ltb which module_count then 2 ^ which else 0
 
 -- the bits of a mask set in another, or cleared
 abbrev pub bits_set : (mask : ℕ) (on : Bool) → ℕ → ℕ

@@ -1,7 +1,7 @@
 -- One module in one second: on with tries and seconds, off with tries left, or failed with seconds left.
 -- Assumes nothing.
 use Rattle.std.specs.Prelude.{ℕ, ◌+◌, ◌-◌, Bool, true, false, ◌&&◌, ltb, leb, eqb}
-use Rattle.basics.specs.Choice.{if◌then◌else◌, within}
+use Rattle.basics.specs.Choice.{when◌then◌else◌, within}
 use Rattle.modules.specs.declared.power.Power.{Power}
 use Rattle.modules.specs.declared.power.Power.TheVariants.{On, Off, Failed}
 use Rattle.modules.specs.declared.power.Module.{Module}
@@ -20,7 +20,7 @@ clean_seconds = 60
 
 -- a short takes one try: off with one fewer; at none, failed with 600 left
 abbrev pub one_try_fewer : (tries : ℕ) → Power
-one_try_fewer tries = if eqb (tries - 1) 0 then Failed retry_seconds else Off (tries - 1)
+one_try_fewer tries = when eqb (tries - 1) 0 then Failed retry_seconds else Off (tries - 1)
 
 -- a module keeps its tries when it starts; the tick that starts it is not counted
 abbrev pub started : (tries : ℕ) → Power
@@ -29,8 +29,8 @@ started tries = On tries 0
 -- with 5 tries it stays as it is; else the seconds grow by 1, and at 60 the tries are 5 and the seconds 0
 abbrev pub stayed_on : (tries seconds : ℕ) → Power
 stayed_on tries seconds =
-    if eqb tries full_tries then On tries seconds else
-    if ltb (seconds + 1) clean_seconds then On tries (seconds + 1) else started full_tries
+    when eqb tries full_tries then On tries seconds else
+    when ltb (seconds + 1) clean_seconds then On tries (seconds + 1) else started full_tries
 
 -- on, short: one try fewer. On, no short, not wanted: off with the tries it has. Else it stays on
 abbrev pub on_switched : (wanted short : Bool) (tries seconds : ℕ) → Power
@@ -52,7 +52,7 @@ attempted true true = Failed retry_seconds
 
 -- failed, left above 0: left falls by 1, no attempt in this tick
 abbrev pub failed_switched : (wanted short : Bool) (left : ℕ) → Power
-failed_switched wanted short left = if ltb 0 left then Failed (left - 1) else attempted wanted short
+failed_switched wanted short left = when ltb 0 left then Failed (left - 1) else attempted wanted short
 
 -- one second, by what the module is
 unfoldable pub switched : (wanted short : Bool) → Power → Power
@@ -64,7 +64,7 @@ switched wanted short (Failed left) = failed_switched wanted short left
 -- seconds left (0 to 600)
 abbrev pub power_in_range : Power → Bool
 power_in_range (On tries seconds) =
-    if eqb tries full_tries then eqb seconds 0 else within 1 full_tries tries && ltb seconds clean_seconds
+    when eqb tries full_tries then eqb seconds 0 else within 1 full_tries tries && ltb seconds clean_seconds
 power_in_range (Off tries) = within 1 full_tries tries
 power_in_range (Failed left) = leb left retry_seconds
 

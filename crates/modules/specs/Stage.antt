@@ -1,7 +1,7 @@
 -- All eight modules by their numbers: the module stage, requests set by a mask or a number, the ranges of check 1.
 -- Assumes nothing.
 use Rattle.std.specs.Prelude.{ℕ, Bool, true, ◌&&◌, List, [], ◌∷◌, eqb}
-use Rattle.basics.specs.Choice.{if◌then◌else◌, bit}
+use Rattle.basics.specs.Choice.{when◌then◌else◌, bit}
 use Rattle.basics.specs.Each.{each}
 use Rattle.modules.specs.Power.{switched, power_in_range, with_power, with_request}
 use Rattle.modules.specs.declared.power.Module.{Module}
@@ -28,7 +28,7 @@ switched_by wanted shorts modules = each (module_switched wanted shorts) modules
 
 -- the modules of a mask are requested on, or off; the others keep their request
 abbrev pub module_requested : (mask : ℕ) (on : Bool) → ℕ → Module → Module
-module_requested mask on i m = with_request (if bit i mask then on else m.requested) m
+module_requested mask on i m = with_request (when bit i mask then on else m.requested) m
 
 -- all eight
 unfoldable pub requested_by : (mask : ℕ) (on : Bool) → List Module → List Module
@@ -36,7 +36,7 @@ requested_by mask on modules = each (module_requested mask on) modules
 
 -- one module, by its number, is requested on or off; the others keep their request
 abbrev pub module_asked : (which : ℕ) (on : Bool) → ℕ → Module → Module
-module_asked which on i m = with_request (if eqb i which then on else m.requested) m
+module_asked which on i m = with_request (when eqb i which then on else m.requested) m
 
 -- all eight; no module has a number from 8 on
 unfoldable pub requested_one : (which : ℕ) (on : Bool) → List Module → List Module

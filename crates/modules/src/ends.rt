@@ -1,6 +1,6 @@
 // The ends of the mission four: how long each stays requested. A core module has none: there is no place for one.
 ghost use Rattle.std.specs.Prelude.{◌≡◌, ◌-◌, eqb};
-ghost use Rattle.basics.specs.Choice.{if◌then◌else◌};
+ghost use Rattle.basics.specs.Choice.{when◌then◌else◌};
 ghost use Rattle.modules.specs.Ends.{no_ends, ends_fallen, ends_over, with_end, ends_in_range};
 
 use crate::groups::{ADCS, PAYLOAD, SBAND1, SBAND2};
@@ -38,7 +38,7 @@ fn fallen(end: u32) -> u32
 
 // A bit, if an end is in its last second.
 fn last_bit(end: u32, bit: u8) -> u8
-    ensures { result ≡ (if eqb end 1 then bit else 0) }
+    ensures { result ≡ (when eqb end 1 then bit else 0) }
 {
     if end == 1 { bit } else { 0 }
 }

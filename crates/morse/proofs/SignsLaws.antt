@@ -7,7 +7,7 @@ use Prim.Native.Nat.{ℕ, ◌+◌, ◌-◌, ◌*◌, ◌/◌, ◌%◌, ◌^◌, 
 use native.Mathlib.Omega.{arith}
 use lib.Dec.{T, eqb, ltb}
 use lib.ListN.{length, get_or}
-use Rattle.basics.specs.Choice.{if◌then◌else◌, within}
+use Rattle.basics.specs.Choice.{when◌then◌else◌, within}
 use Rattle.basics.proofs.ChoiceLaws.{holds, and_left, or_right, within_low, within_high}
 use Rattle.basics.proofs.TablesLaws.{upto}
 use Rattle.morse.specs.declared.signs.Sign.{Sign}
@@ -43,7 +43,7 @@ figure_right digit h = same_marks_eq _ _ (upto is_figure_sign figure_count tt di
 
 -- the bits by which the code works a figure out
 abbrev pub figure_bits : ℕ → ℕ
-figure_bits digit = if ltb digit 5 then 31 * 2 ^ digit % 256 else 31 / 2 ^ (10 - digit)
+figure_bits digit = when ltb digit 5 then 31 * 2 ^ digit % 256 else 31 / 2 ^ (10 - digit)
 
 -- they are its marks: a test over the figures
 pub figure_bits_law : (digit : ℕ) → digit < figure_count → unpack 5 (figure_bits digit) ≡ figure_marks digit

@@ -11,7 +11,7 @@ use lib.ListN.{length, get_or, drop, replicate, length-append, length-replicate}
 use lib.Seq.{drop-cons, get_or-append-add}
 use lib.Dec.{T, ltb, eqb→eq}
 use borrow.Author.Tests.{lt-ltb, le-ltb, ltb-false, ne_eqb}
-use Rattle.basics.specs.Choice.{if◌then◌else◌}
+use Rattle.basics.specs.Choice.{when◌then◌else◌}
 use Rattle.basics.specs.Bytes.{space}
 use Rattle.basics.proofs.ChoiceLaws.{is_true, holds, and_left, and_right, neither_left, neither_right}
 use Rattle.morse.specs.declared.signs.Sign.{Sign}
@@ -61,7 +61,7 @@ other_doubled d before b h = rw (ne_eqb b space h, and-false (is_space before)) 
 -- where the first two refusals do not apply, the spacing decides
 module _ (t : List ℕ) (seen : Seen) (e : seen ≡ seen_in t)
     (short : length t ≤ longest) (k : seen.known ≡ true) (bad : Bool) where
-  pub fault_spacing : badly_spaced t ≡ bad → (if bad then BadSpace else Nothing) ≡ fault_of t
+  pub fault_spacing : badly_spaced t ≡ bad → (when bad then BadSpace else Nothing) ≡ fault_of t
   unfolding fault_of
   fault_spacing b =
       let known : all_known t ≡ true = sym (ap (λ s. s.known) e) ∙ k in
@@ -71,7 +71,7 @@ module _ (t : List ℕ) (seen : Seen) (e : seen ≡ seen_in t)
   abbrev bad_by : Bool → Bool
   bad_by double = is_space (get_or t 0 0) || is_space (get_or t (length t - 1) 0) || double
 
-  pub fault_seen : bad_by seen.doubled ≡ bad → (if bad then BadSpace else Nothing) ≡ fault_of t
+  pub fault_seen : bad_by seen.doubled ≡ bad → (when bad then BadSpace else Nothing) ≡ fault_of t
   fault_seen b = fault_spacing (ap (λ s. bad_by s.doubled) (sym e) ∙ b)
 
 pub empty_spaced : (t : List ℕ) → length t ≡ 0 → badly_spaced t ≡ false
@@ -90,7 +90,7 @@ fair t e = by_tests (ltb longest (length t)) refl (all_known t) refl (badly_spac
   where
     by_tests : (a : Bool) → ltb longest (length t) ≡ a → (b : Bool) → all_known t ≡ b
         → (c : Bool) → badly_spaced t ≡ c
-        → (if a then TextTooLong else if not b then NotKeyable else if c then BadSpace else Nothing) ≡ Nothing
+        → (when a then TextTooLong else when not b then NotKeyable else when c then BadSpace else Nothing) ≡ Nothing
         → Fair t
     by_tests true p b q c r z = absurd (omega (arith, ap fault_number z))
     by_tests false p false q c r z = absurd (omega (arith, ap fault_number z))

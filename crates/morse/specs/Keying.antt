@@ -1,7 +1,7 @@
 -- What keying a text answers, and what it leaves in the room.
 -- Assumes nothing.
 use Rattle.std.specs.Prelude.{ℕ, List, ltb, length}
-use Rattle.basics.specs.Choice.{if◌then◌else◌}
+use Rattle.basics.specs.Choice.{when◌then◌else◌}
 use Rattle.basics.specs.Outcome.{Outcome, outcome, written, Reply, reply}
 use Rattle.morse.specs.declared.keying.Keyed.{Keyed}
 use Rattle.morse.specs.declared.keying.Keyed.TheVariants as keyed
@@ -22,7 +22,7 @@ key_reply keyed.NoRoom = reply no_room 0
 -- units into a room: 14 if it is shorter, else they are written and counted
 unfoldable pub key_units : (units room : List ℕ) → Outcome Keyed
 key_units units room =
-    if ltb (length room) (length units) then outcome keyed.NoRoom room
+    when ltb (length room) (length units) then outcome keyed.NoRoom room
     else outcome (keyed.Done (length units)) (written units room)
 
 -- 11 to 13 come first; a refusal leaves the room untouched

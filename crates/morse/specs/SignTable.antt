@@ -3,7 +3,7 @@
 -- Assumes nothing.
 use Rattle.std.specs.Prelude.{ℕ, zero, suc, ◌+◌, ◌-◌, ◌*◌, ◌/◌, ◌%◌, Bool, true, false, ◌&&◌, List, [], ◌∷◌, ◌++◌, T, eqb, length, get_or, replicate}
 use Rattle.std.specs.Int.Count.{ones_in}
-use Rattle.basics.specs.Choice.{if◌then◌else◌, within}
+use Rattle.basics.specs.Choice.{when◌then◌else◌, within}
 use Rattle.basics.specs.Tables.{all_below}
 use Rattle.morse.specs.declared.signs.Sign.{Sign}
 use Rattle.morse.specs.Signs.{Mark, dot, dash, first_figure, sign_of}
@@ -82,8 +82,8 @@ to_five n first rest = replicate n first ++ replicate (5 - n) rest
 -- 0 is five dashes
 abbrev pub figure_marks : ℕ → List Mark
 figure_marks digit =
-    if within 1 5 digit then to_five digit dot dash
-    else if within 6 9 digit then to_five (digit - 5) dash dot
+    when within 1 5 digit then to_five digit dot dash
+    else when within 6 9 digit then to_five (digit - 5) dash dot
     else to_five 5 dash dot
 
 -- the rule gives a figure its sign

@@ -1,7 +1,7 @@
 -- Which texts may be keyed: up to 64 bytes of the alphabet and single inner spaces.
 -- Assumes nothing.
 use Rattle.std.specs.Prelude.{ℕ, ◌-◌, Bool, true, false, not, ◌&&◌, ◌||◌, List, [], ◌∷◌, eqb, ltb, length, get_or}
-use Rattle.basics.specs.Choice.{if◌then◌else◌}
+use Rattle.basics.specs.Choice.{when◌then◌else◌}
 use Rattle.basics.specs.Bytes.{space}
 use Rattle.morse.specs.Answers.{done, text_too_long, not_keyable, bad_space}
 use Rattle.morse.specs.Signs.{sign_of, signed}
@@ -38,9 +38,9 @@ badly_spaced t = is_space (get_or t 0 0) || is_space (get_or t (length t - 1) 0)
 -- why a text may not be keyed: the first that applies
 unfoldable pub fault_of : List ℕ → Fault
 fault_of t =
-    if ltb longest (length t) then TextTooLong
-    else if not (all_known t) then NotKeyable
-    else if badly_spaced t then BadSpace
+    when ltb longest (length t) then TextTooLong
+    else when not (all_known t) then NotKeyable
+    else when badly_spaced t then BadSpace
     else Nothing
 
 -- the page's number of a fault

@@ -2,7 +2,7 @@
 -- Assumes nothing.
 use Rattle.std.specs.Prelude.{ℕ, ◌+◌, ◌-◌, ◌*◌, ◌≡◌, List, [], ◌∷◌, ◌++◌, length, replicate}
 use Rattle.std.proofs.lemmas.List.Edits.{sets}
-use Rattle.basics.specs.Choice.{if◌then◌else◌}
+use Rattle.basics.specs.Choice.{when◌then◌else◌}
 use Rattle.morse.specs.Signs.{Mark, dot, dash, sign_of}
 use Rattle.morse.specs.Texts.{is_space}
 
@@ -38,7 +38,7 @@ sign_units gap (m ∷ ms) = up gap ++ (down (span m) ++ sign_units inside_sign m
 
 -- the gap before the next sign, after a byte
 abbrev pub gap_after : ℕ → ℕ
-gap_after c = if is_space c then between_words else between_signs
+gap_after c = when is_space c then between_words else between_signs
 
 -- the units of a text, its first sign after a gap; a space has no sign
 abbrev pub units_after : (gap : ℕ) → List ℕ → List ℕ

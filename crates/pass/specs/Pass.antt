@@ -1,7 +1,7 @@
 -- A pass: frames end to end, each taken as a single call would, until one gets no report.
 -- Assumes nothing.
 use Rattle.std.specs.Prelude.{ℕ, zero, suc, ◌+◌, ◌*◌, List, [], ◌∷◌, ◌++◌, length, take, drop}
-use Rattle.basics.specs.Choice.{if◌then◌else◌}
+use Rattle.basics.specs.Choice.{when◌then◌else◌}
 use Rattle.basics.specs.Outcome.{Outcome, outcome}
 use Rattle.frames.specs.Answer.{is_reported}
 use Rattle.frames.specs.Cut.{front_of}
@@ -42,7 +42,7 @@ ahead reports room rest =
 -- a frame that gets a report is followed by the rest of the pass; before any other it stops
 abbrev pub continued : Outcome Stepped → (rest : Outcome Passed) → Outcome Passed
 continued after rest =
-    if is_reported after.result.answer then ahead 1 after.room rest
+    when is_reported after.result.answer then ahead 1 after.room rest
     else stopped after.result.state after.result.answer after.room
 
 -- single calls in order, each with the room that is left: where no frame is left, the answer is 0
@@ -54,7 +54,7 @@ in_order s (frame ∷ frames) room =
 
 -- a state out of range is refused before all, also where there are no frames
 unfoldable pub pass_of : State → (input room : List ℕ) → Outcome Passed
-pass_of s input room = if in_range s then in_order s (frames_in input) room else stopped s BadState room
+pass_of s input room = when in_range s then in_order s (frames_in input) room else stopped s BadState room
 
 -- one frame: that at the front of what is left
 unfoldable pub work_of : State → (rest room : List ℕ) → Outcome Worked

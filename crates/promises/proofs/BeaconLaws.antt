@@ -7,7 +7,7 @@ use mathlib.Core.Bool.{Bool, true, false, not, ◌||◌, true≢false, false≢t
 use lib.Dec.{T, eqb}
 use lib.ListN.{get_or}
 use borrow.Author.Tests.{eqb-true}
-use Rattle.basics.specs.Choice.{if◌then◌else◌}
+use Rattle.basics.specs.Choice.{when◌then◌else◌}
 use Rattle.basics.proofs.ChoiceLaws.{either}
 use Rattle.frames.specs.declared.frame.Frame.TheVariants as frame
 use Rattle.supervisor.specs.State.{in_deploy_wait, is_safe}
@@ -78,12 +78,12 @@ module _ (s : State) (c : Call) (silent : beacon_due s c ≡ false) where
       let e : byte ≡ 0 = eqb-true byte 0 (not_false (eqb byte 0) (rw w.tick at silent)) in
       rw (w.leaves, report_due (frame.Tick shorts) (ticked shorts s) c.room) at e
 
-  pub call_count : in_deploy_wait s ≡ false → Turn s c → (called s c).result.state.watch.beacon ≡ s.watch.beacon + (if done_tick s c then 1 else 0)
+  pub call_count : in_deploy_wait s ≡ false → Turn s c → (called s c).result.state.watch.beacon ≡ s.watch.beacon + (when done_tick s c then 1 else 0)
   call_count out (moves shorts w) = rw (w.tick, w.leaves) (tick_count shorts s (ticks shorts s) out (silent_tick shorts w))
   call_count out (still e) = rw (e, only_ticks.watch s c e) (omega arith)
 
   pub call_sixty :
       (T (done_tick s c) → is_safe (called s c).result.state.watch.mode ≡ true) → Turn s c →
-      (called s c).result.state.watch.beacon % complete_ticks ≡ s.watch.beacon % complete_ticks + (if done_tick s c then 1 else 0)
+      (called s c).result.state.watch.beacon % complete_ticks ≡ s.watch.beacon % complete_ticks + (when done_tick s c then 1 else 0)
   call_sixty safe (moves shorts w) = rw (w.tick, w.leaves) (tick_sixty shorts s (ticks shorts s) (rw w.leaves at (safe (rw w.tick tt))) (silent_tick shorts w))
   call_sixty safe (still e) = rw (e, only_ticks.watch s c e) (omega arith)

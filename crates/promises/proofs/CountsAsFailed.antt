@@ -6,7 +6,7 @@ use mathlib.Core.Path.{◌≡◌, refl, sym, ap, ◌∙◌}
 use mathlib.Core.Bool.{Bool, true, false, not}
 use mathlib.Core.List.{List, [], ◌∷◌}
 use lib.Dec.{T}
-use Rattle.basics.specs.Choice.{if◌then◌else◌}
+use Rattle.basics.specs.Choice.{when◌then◌else◌}
 use Rattle.basics.proofs.ChoiceLaws.{is_true, holds, and_left, and_right, agreed}
 use Rattle.modules.specs.Power.{switched, is_on}
 use Rattle.modules.specs.declared.power.Power.{Power}
@@ -32,7 +32,7 @@ turns zero p = p
 turns (suc n) p = turns n (started_or_shorted p)
 
 -- one call, and n ticks after it
-turns_after : (tick : Bool) (n : ℕ) (p : Power) → turns n (turns (if tick then 1 else 0) p) ≡ turns ((if tick then 1 else 0) + n) p
+turns_after : (tick : Bool) (n : ℕ) (p : Power) → turns n (turns (when tick then 1 else 0) p) ≡ turns ((when tick then 1 else 0) + n) p
 unfolding turns
 turns_after true n p = let more : suc n ≡ 1 + n = omega arith in ap (λ (k : ℕ). turns k p) more
 turns_after false n p = let same : n ≡ 0 + n = omega arith in ap (λ (k : ℕ). turns k p) same
@@ -43,20 +43,20 @@ module _ (i : ℕ) where
 
   -- what is asked of a call
   abbrev asked : State → Call → Bool
-  asked s c = if done_tick s c then starts_or_shorts i s c else true
+  asked s c = when done_tick s c then starts_or_shorts i s c else true
 
   one_tick : (s : State) (c : Call) → T (deployed s) → T (done_tick s c) → T (starts_or_shorts i s c) → power_in (called s c).result.state ≡ started_or_shorted (power_in s)
   one_tick s c out d a =
       let p : Power = power_in s in
       let w : Bool = wanted_in (called s c).result.state i in
       let short : Bool = shorted i (about_of c) in
-      let wanted : w ≡ true = is_true w (and_left w (if is_on p then short else not short) a) in
-      let found : is_on p ≡ short = agreed (is_on p) short (and_right w (if is_on p then short else not short) a) in
+      let wanted : w ≡ true = is_true w (and_left w (when is_on p then short else not short) a) in
+      let found : is_on p ≡ short = agreed (is_on p) short (and_right w (when is_on p then short else not short) a) in
       second i s c d out ∙ ap (λ b. switched b short p) wanted ∙ ap (λ b. switched true b p) (sym found)
 
   one_call :
       (s : State) (c : Call) → T (deployed s) → T (asked s c) → (tick : Bool) → done_tick s c ≡ tick →
-      power_in (called s c).result.state ≡ turns (if done_tick s c then 1 else 0) (power_in s)
+      power_in (called s c).result.state ≡ turns (when done_tick s c then 1 else 0) (power_in s)
   unfolding turns
   one_call s c out a true e = rw e (one_tick s c out (holds (done_tick s c) e) (rw e at a))
   one_call s c out a false e = rw e (only_ticks.power i s c e)

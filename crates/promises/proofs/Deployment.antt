@@ -7,7 +7,7 @@ use mathlib.Core.Bool.{Bool, true, false, ◌||◌, true≢false}
 use mathlib.Core.List.{List, [], ◌∷◌}
 use lib.Dec.{T, eqb, ltb→lt}
 use borrow.Author.Tests.{not-true}
-use Rattle.basics.specs.Choice.{if◌then◌else◌}
+use Rattle.basics.specs.Choice.{when◌then◌else◌}
 use Rattle.basics.proofs.ChoiceLaws.{is_true, holds, and_left, either, within_low, within_high}
 use Rattle.supervisor.specs.Range.{in_range, watch_in_range, phase_in_range, wait_seconds, settle_seconds}
 use Rattle.supervisor.specs.Tick.{ticked}
@@ -63,7 +63,7 @@ ticked_left shorts s h (waits phase e w) =
 ticked_left shorts s h (runs e w) = omega (arith, none_left (ticked shorts s).state.watch.mode (ticked_flies shorts s e))
 
 -- a call takes off as many seconds as it is done ticks
-left_after_law : (s : State) (c : Call) → Turn s c → seconds_left (called s c).result.state.watch.mode ≤ seconds_left s.watch.mode - (if done_tick s c then 1 else 0)
+left_after_law : (s : State) (c : Call) → Turn s c → seconds_left (called s c).result.state.watch.mode ≤ seconds_left s.watch.mode - (when done_tick s c then 1 else 0)
 left_after_law s c (moves shorts w) = rw (w.tick, w.leaves) (ticked_left shorts s w.valid (ticks shorts s))
 left_after_law s c (still e) = rw (e, only_ticks.watch s c e) (omega arith)
 

@@ -8,7 +8,7 @@ use mathlib.Core.List.{List, [], ◌∷◌, ◌++◌}
 use lib.Dec.{eqb, ltb}
 use lib.ListN.{get_or}
 use borrow.Author.Tests.{eqb-true, ne_eqb, ltb-true, ltb-false}
-use Rattle.basics.specs.Choice.{if◌then◌else◌}
+use Rattle.basics.specs.Choice.{when◌then◌else◌}
 use Rattle.basics.proofs.ChoiceLaws.{decided, within_low}
 use Rattle.frames.specs.Answer.{answer_number}
 use Rattle.frames.specs.Greeting.{greeting_text}
@@ -65,7 +65,7 @@ abbrev Sends : Message → Due → Type 0
 Sends m d = Falls 2 (left m) d (left (with_left (repeats_after d m.repeats) m))
 
 sends_by :
-    (m : Message) (kept more : Bool) → ltb 0 m.length ≡ kept → ltb 0 m.repeats ≡ more → Sends m (if kept && more then Extended else Complete)
+    (m : Message) (kept more : Bool) → ltb 0 m.length ≡ kept → ltb 0 m.repeats ≡ more → Sends m (when kept && more then Extended else Complete)
 sends_by m true true k r =
     rw (ne_eqb m.length 0 (omega (arith, ltb-true 0 m.length k)))
     (some refl (rw (ne_eqb m.repeats 0 (omega (arith, ltb-true 0 m.repeats r)))) refl)
@@ -103,7 +103,7 @@ module _ (s : State) (c : Call) (bs : List Beacon) where
   next = (called s c).result.state
 
   abbrev All : (before : ℕ) → Type 0
-  All before = AsAsked in_safe before ((if beacon_due s c then told s c ∷ [] else []) ++ bs)
+  All before = AsAsked in_safe before ((when beacon_due s c then told s c ∷ [] else []) ++ bs)
 
   module _ (shorts : ℕ) (w : Works s c (frame.Tick shorts) (ticked shorts s)) where
     due_byte : get_or (called s c).room beacon_byte 0 ≡ due_number (ticked shorts s).due
@@ -137,7 +137,7 @@ left_asked repeats length text = by (eqb length 0) (eqb repeats 0) refl refl
   where
     by :
         (a b : Bool) → eqb length 0 ≡ a → eqb repeats 0 ≡ b →
-        left (if a || b then no_message else record { repeats = repeats; length = length; text = text }) ≡ (if a then 0 else repeats)
+        left (when a || b then no_message else record { repeats = repeats; length = length; text = text }) ≡ (when a then 0 else repeats)
     by true b p q = refl
     by false true p q = sym (eqb-true repeats 0 q)
     by false false p q = rw p

@@ -7,7 +7,7 @@ use mathlib.Core.Bool.{Bool, true, false, not, ◌&&◌, true≢false}
 use mathlib.Core.List.{List, [], ◌∷◌}
 use lib.Dec.{T, eqb}
 use borrow.Author.Tests.{lt-ltb, le-ltb, not-true}
-use Rattle.basics.specs.Choice.{if◌then◌else◌}
+use Rattle.basics.specs.Choice.{when◌then◌else◌}
 use Rattle.basics.proofs.ChoiceLaws.{is_true, holds, and_left, and_right, not_both, decided}
 use Rattle.modules.specs.Groups.{is_mission, module_count}
 use Rattle.modules.specs.Power.{is_on}
@@ -38,10 +38,10 @@ module _ (which minutes : ℕ) where
   no_order (a_command sender (Greeting repeats length)) word e = refl
   no_order neither word e = refl
 
-  later_timed : (s : State) (c : Call) (ticks : ℕ) → later s c (timed minutes ticks) ≡ timed minutes (ticks + (if running_tick s c then 1 else 0))
+  later_timed : (s : State) (c : Call) (ticks : ℕ) → later s c (timed minutes ticks) ≡ timed minutes (ticks + (when running_tick s c then 1 else 0))
   later_timed s c ticks = by (running_tick s c)
     where
-      by : (tick : Bool) → (if tick then timed minutes (ticks + 1) else timed minutes ticks) ≡ timed minutes (ticks + (if tick then 1 else 0))
+      by : (tick : Bool) → (when tick then timed minutes (ticks + 1) else timed minutes ticks) ≡ timed minutes (ticks + (when tick then 1 else 0))
       by true = refl
       by false = ap (timed minutes) (omega arith)
 
@@ -49,7 +49,7 @@ module _ (which minutes : ℕ) where
     -- so a call that leaves it alone ages its word at most
     alone_said :
         (s : State) (c : Call) (ticks : ℕ) → T (not (done_order (eqb which) s c)) → T (not (crosses_down s c)) →
-        said crossing which s c (timed minutes ticks) ≡ timed minutes (ticks + (if running_tick s c then 1 else 0))
+        said crossing which s c (timed minutes ticks) ≡ timed minutes (ticks + (when running_tick s c then 1 else 0))
     alone_said s c ticks silent level =
         let word : Word = later s c (timed minutes ticks) in
         let same : ordered which s c word ≡ word =
@@ -72,7 +72,7 @@ module _ (which minutes : ℕ) where
     alone_word [] s ticks t = ap (timed minutes) (omega arith)
     alone_word (c ∷ cs) s ticks t =
         let (silent, (level, rest)) = alone s c cs t in
-        let more : ℕ = if running_tick s c then 1 else 0 in
+        let more : ℕ = when running_tick s c then 1 else 0 in
         ap (λ (w : Word). last_word crossing which w (called s c).result.state cs) (alone_said s c ticks silent level)
         ∙ alone_word cs (called s c).result.state (ticks + more) rest ∙ ap (timed minutes) (omega arith)
 
@@ -85,10 +85,10 @@ module _ (which minutes : ℕ) where
 
     off_by :
         (s : State) (c : Call) (ticks : ℕ) (tick : Bool) → done_tick s c ≡ tick → Dark which s →
-        Held which (called s c).result.state (timed minutes (ticks + (if tick && deployed s then 1 else 0))) → (60 * minutes ≤ ticks → Off s) →
-        60 * minutes ≤ ticks + (if tick && deployed s then 1 else 0) → Off (called s c).result.state
+        Held which (called s c).result.state (timed minutes (ticks + (when tick && deployed s then 1 else 0))) → (60 * minutes ≤ ticks → Off s) →
+        60 * minutes ≤ ticks + (when tick && deployed s then 1 else 0) → Off (called s c).result.state
     off_by s c ticks true d dark held p h =
-        called_off which s c dark (holds (done_tick s c) d) (held.requested ∙ le-ltb (ticks + (if deployed s then 1 else 0)) (60 * minutes) h)
+        called_off which s c dark (holds (done_tick s c) d) (held.requested ∙ le-ltb (ticks + (when deployed s then 1 else 0)) (60 * minutes) h)
     off_by s c ticks false d dark held p h = rw (only_ticks.power which s c d) (p (omega arith))
 
     over_off :
@@ -97,7 +97,7 @@ module _ (which minutes : ℕ) where
     over_off [] s ticks t n dark held p h = p (omega arith)
     over_off (c ∷ cs) s ticks t n dark held p h =
         let (silent, (level, rest)) = alone s c cs t in
-        let more : ℕ = if running_tick s c then 1 else 0 in
+        let more : ℕ = when running_tick s c then 1 else 0 in
         let next : Held which (called s c).result.state (timed minutes (ticks + more)) =
         rw (alone_said s c ticks silent level) at (called_held which low s n (timed minutes ticks) held c) in
         over_off cs (called s c).result.state (ticks + more) rest (called_eight s c n) (after_dark which (c ∷ []) s dark) next

@@ -7,7 +7,7 @@ use mathlib.Core.Bool.{Bool, true, false}
 use mathlib.Core.List.{List, [], ◌∷◌}
 use lib.Dec.{T, eqb}
 use borrow.Author.Tests.{eqb-true, ne_eqb}
-use Rattle.basics.specs.Choice.{if◌then◌else◌, within}
+use Rattle.basics.specs.Choice.{when◌then◌else◌, within}
 use Rattle.basics.proofs.ChoiceLaws.{is_true, within_low, within_high}
 use Rattle.frames.specs.Greeting.{greeting_text}
 use Rattle.frames.specs.Answer.{answer_number}
@@ -117,7 +117,7 @@ module _ (origin : Origin) where
       (w.valid, view_last f s c acted serial b t w (view origin f s acted (act_answers f (greeting_text c.input) s)))
 
 -- the verdict is not "neither": 8 or 9
-eight_or_nine : (n : ℕ) (r q : Bool) → eqb n 8 ≡ r → eqb n 9 ≡ q → ((if r then Repeat else if q then Stale else Fresh) ≡ Fresh → ⊥) → T (within 8 9 n)
+eight_or_nine : (n : ℕ) (r q : Bool) → eqb n 8 ≡ r → eqb n 9 ≡ q → ((when r then Repeat else when q then Stale else Fresh) ≡ Fresh → ⊥) → T (within 8 9 n)
 eight_or_nine n true q e f h = rw (eqb-true n 8 e) tt
 eight_or_nine n false true e f h = rw (eqb-true n 9 f) tt
 eight_or_nine n false false e f h = absurd (h refl)

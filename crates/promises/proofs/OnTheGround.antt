@@ -8,7 +8,7 @@ use mathlib.Core.List.{List}
 use lib.Dec.{ltb, eqb, lit≤}
 use lib.ListN.{length, get_or, take, drop}
 use borrow.Author.Tests.{le-ltb, lt-ltb, ltb-true, ltb-false}
-use Rattle.basics.specs.Choice.{if◌then◌else◌}
+use Rattle.basics.specs.Choice.{when◌then◌else◌}
 use Rattle.basics.specs.Bytes.{hex_digit}
 use Rattle.basics.proofs.ChoiceLaws.{is_true, decided}
 use Rattle.modules.specs.Masks.{mask_of, masks_of}
@@ -59,7 +59,7 @@ module _ (form : Form) (bytes : ℕ) (enough : (n : ℕ) → n ≤ longest_greet
 
 -- back from a letter to its mode, from a hex digit to its number
 mode_of : ℕ → ℕ
-mode_of letter = if eqb letter 68 then 0 else if eqb letter 82 then 1 else 2
+mode_of letter = when eqb letter 68 then 0 else when eqb letter 82 then 1 else 2
 
 mode_letter_law : (m : Mode) → mode_of (mode_letter m) ≡ mode_number m
 unfolding mode_of
@@ -68,7 +68,7 @@ mode_letter_law Recovery = refl
 mode_letter_law Safe = refl
 
 number_of : ℕ → ℕ
-number_of digit = if ltb digit 65 then digit - 48 else digit - 55
+number_of digit = when ltb digit 65 then digit - 48 else digit - 55
 
 hex_digit_law : (n : ℕ) → n < 16 → number_of (hex_digit n) ≡ n
 unfolding number_of

@@ -8,7 +8,7 @@ use mathlib.Core.List.{List, [], ◌∷◌, ◌++◌}
 use lib.Dec.{T}
 use lib.ListN.{length, take, drop, length-drop}
 use lib.Seq.{take_all}
-use Rattle.basics.specs.Choice.{if◌then◌else◌}
+use Rattle.basics.specs.Choice.{when◌then◌else◌}
 use Rattle.basics.specs.Outcome.{Outcome}
 use Rattle.basics.proofs.ChoiceLaws.{is_true}
 use Rattle.frames.specs.Answer.{is_reported}
@@ -36,7 +36,7 @@ use Rattle.promises.proofs.TwoCraft.{take_paired, two_craft}
 -- how many calls bring a frame that is accepted, before the first that does not
 abbrev accepted_in : List Call → ℕ
 accepted_in [] = 0
-accepted_in (c ∷ cs) = if is_accepted (read_frame c.input) then 1 + accepted_in cs else 0
+accepted_in (c ∷ cs) = when is_accepted (read_frame c.input) then 1 + accepted_in cs else 0
 
 -- as many on both craft
 good_accepted : {x y : List ℕ} → AsGood in_reach x y → is_accepted (read_frame x) ≡ is_accepted (read_frame y)
@@ -50,7 +50,7 @@ paired_accepted (next good p) = rw (good_accepted good, paired_accepted p)
 -- with room, on a state in range, these get a report, and no others
 continued_reported :
     (t : Bool) (one : Outcome Stepped) (rest : Outcome Passed) (n : ℕ) → is_reported one.result.answer ≡ t → rest.result.reported ≡ n →
-    (continued one rest).result.reported ≡ (if t then 1 + n else 0)
+    (continued one rest).result.reported ≡ (when t then 1 + n else 0)
 continued_reported true one rest n e h = rw (e, h)
 continued_reported false one rest n e h = rw e
 

@@ -6,7 +6,7 @@ use mathlib.Core.Path.{◌≡◌, refl, ◌∙◌}
 use mathlib.Core.Bool.{Bool, true, false, not, true≢false}
 use mathlib.Core.List.{List, [], ◌∷◌}
 use lib.Dec.{T, eqb}
-use Rattle.basics.specs.Choice.{if◌then◌else◌}
+use Rattle.basics.specs.Choice.{when◌then◌else◌}
 use Rattle.basics.proofs.ChoiceLaws.{holds, either, decided, and_left, and_right, not_both}
 use Rattle.modules.specs.Groups.{is_mission, module_count}
 use Rattle.modules.specs.Power.{is_on}
@@ -27,7 +27,7 @@ use Rattle.promises.proofs.Requests.{Held, called_held}
 use Rattle.promises.proofs.AsTold.{Dark, after_dark, called_off, fresh_dark, fresh_held}
 
 -- an "off" says so whatever was said before
-off_new : (here : Bool) (ordered word : Word) → says (if here then ordered else plain true) ≡ false → says (if here then ordered else word) ≡ false
+off_new : (here : Bool) (ordered word : Word) → says (when here then ordered else plain true) ≡ false → says (when here then ordered else word) ≡ false
 off_new true ordered word e = e
 off_new false ordered word e = absurd (true≢false e)
 
@@ -40,7 +40,7 @@ off_says i (a_command sender (Greeting repeats length)) word e = absurd (true≢
 off_says i neither word e = absurd (true≢false e)
 
 -- what is said after an "off" does not hang on how that was said
-same_new : (here : Bool) (ordered word : Word) → says word ≡ false → says (if here then ordered else word) ≡ says (if here then ordered else plain false)
+same_new : (here : Bool) (ordered word : Word) → says word ≡ false → says (when here then ordered else word) ≡ says (when here then ordered else plain false)
 same_new true ordered word e = refl
 same_new false ordered word e = e
 
@@ -75,7 +75,7 @@ module _ (which : ℕ) (low : which < module_count) where
 
   off_by :
       (s : State) (c : Call) → Dark which s → (module_at which (called s c).result.state).requested ≡ false → (tick : Bool) → done_tick s c ≡ tick → (d : ℕ) → (1 ≤ d → Off s) →
-      1 ≤ d + (if tick then 1 else 0) → Off (called s c).result.state
+      1 ≤ d + (when tick then 1 else 0) → Off (called s c).result.state
   off_by s c dark q true e d p h = called_off which s c dark (holds (done_tick s c) e) q
   off_by s c dark q false e d p h = rw (only_ticks.power which s c e) (p (omega arith))
 
@@ -90,7 +90,7 @@ module _ (which : ℕ) (low : which < module_count) where
       let (requested, power) =
       still rest next (called_eight s c n) (after_dark which (c ∷ []) s dark) (said crossing which s c word) holds quiet
       (and_right (not (done_on which s c)) (no_on which next rest) none)
-      (d + (if done_tick s c then 1 else 0)) (off_by s c dark (holds.requested ∙ quiet) (done_tick s c) refl d p) in
+      (d + (when done_tick s c then 1 else 0)) (off_by s c dark (holds.requested ∙ quiet) (done_tick s c) refl d p) in
       (requested, λ h. power (omega arith))
 
 pub quiet : Quiet

@@ -7,7 +7,7 @@ use mathlib.Core.Path.{◌≡◌, refl, sym, ap, ◌∙◌}
 use mathlib.Core.Bool.{Bool, true, false, true≢false}
 use lib.Dec.{eqb}
 use borrow.Author.Tests.{eqb-true, eqb-false, ne_eqb, lt-ltb}
-use Rattle.basics.specs.Choice.{if◌then◌else◌}
+use Rattle.basics.specs.Choice.{when◌then◌else◌}
 use Rattle.basics.proofs.ChoiceLaws.{is_true, either, within_low}
 use Rattle.modules.specs.Groups.{mission_four, is_mission, module_count}
 use Rattle.modules.proofs.EndsLaws.{core_none, none_at}
@@ -71,7 +71,7 @@ module _ (i : ℕ) (low : i < module_count) where
   order_held :
       (which : ℕ) (on : Bool) (end : ℕ) (word before : Word) → says word ≡ on → left_of word ≡ end → (is_mission which ≡ false → end ≡ 0) →
       (t : State) → Eight t → Held i t before → (here : Bool) → eqb i which ≡ here →
-      Held i (request_set which on end t) (if here then word else before)
+      Held i (request_set which on end t) (when here then word else before)
   order_held which on end word before e f core t n h true here = own_held which on end word e f core t n here
   order_held which on end word before e f core t n h false here =
       record {
@@ -81,7 +81,7 @@ module _ (i : ℕ) (low : i < module_count) where
 
   -- a frame other than a tick: the word that it orders, if it is done
   abbrev Told : Frame → Word → Acted → Type 0
-  Told f word a = Held i a.state (if is_done (answer_number a.answer) then orders i (about (Accepted f)) word else word)
+  Told f word a = Held i a.state (when is_done (answer_number a.answer) then orders i (about (Accepted f)) word else word)
 
   -- a command that is taken
   taken_told :
@@ -143,7 +143,7 @@ module _ (i : ℕ) (low : i < module_count) where
     tick_held :
         (shorts : ℕ) → Ticks shorts s →
         Held i (ticked shorts s).state
-        (crossing (is_mission i) s.watch.mode (ticked shorts s).state.watch.mode (if deployed s then aged word else word))
+        (crossing (is_mission i) s.watch.mode (ticked shorts s).state.watch.mode (when deployed s then aged word else word))
     unfolding beacon_stage module_stage
     tick_held shorts (waits phase m w) = rw (w, m, from_deploy (is_mission i) phase (phase_ticked s.antennas phase) word) held
     tick_held shorts (runs m w) = rw (w, m, at_stage (before_modules s) i shorts) (before_held word s eight held)
@@ -155,7 +155,7 @@ module _ (i : ℕ) (low : i < module_count) where
     by_comes c (ticking shorts w) = rw (w.tick, w.leaves, w.read, ticked_done shorts s) (tick_held shorts (ticks shorts s))
     by_comes c (other f t w) =
         rw (w.tick, t, w.leaves, w.read, watch_still f (greeting_text c.input) w.fits t s)
-        (rw (no_crossing (is_mission i) s.watch.mode (if is_done (answer_number (act_of f (greeting_text c.input) s).answer) then orders i (about (Accepted f)) word else word))
+        (rw (no_crossing (is_mission i) s.watch.mode (when is_done (answer_number (act_of f (greeting_text c.input) s).answer) then orders i (about (Accepted f)) word else word))
         (act_told f (greeting_text c.input) w.fits t word s eight held))
 
     -- what a call says is held after it

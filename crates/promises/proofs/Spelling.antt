@@ -8,7 +8,7 @@ use mathlib.Core.Logic.{◌⊎◌, inl, inr}
 use lib.Dec.{T, eqb}
 use lib.ListN.{length}
 use borrow.Author.Tests.{eqb-true, eq-eqb, le-ltb}
-use Rattle.basics.specs.Choice.{if◌then◌else◌}
+use Rattle.basics.specs.Choice.{when◌then◌else◌}
 use Rattle.basics.specs.Bytes.{space}
 use Rattle.basics.proofs.ChoiceLaws.{is_true, is_false, holds, and_left, and_right, and_both, or_right, decided}
 use Rattle.morse.specs.Signs.{Mark, Row, alphabet, sign_among, sign_of, signed}
@@ -40,7 +40,7 @@ signed_has [] c t = absurd t
 signed_has (r ∷ rs) c t = by_byte (λ u. signed_has rs c u) (eqb c r.byte) refl t
   where
     by_byte : (T (signed (sign_among c rs)) → Has rs c) → (b : Bool) → eqb c r.byte ≡ b
-        → T (signed (if b then r.sign else sign_among c rs)) → Has (r ∷ rs) c
+        → T (signed (when b then r.sign else sign_among c rs)) → Has (r ∷ rs) c
     by_byte rest true e t = inl (eqb-true c r.byte e)
     by_byte rest false e t = inr (rest t)
 

@@ -9,7 +9,7 @@ use mathlib.Core.List.{List, [], ◌∷◌}
 use mathlib.Core.Logic.{◌⊎◌, ⊎_elim}
 use lib.Dec.{T, eqb, leb, ltb}
 use borrow.Author.Tests.{eqb-true, ltb-false, leb-false}
-use Rattle.basics.specs.Choice.{if◌then◌else◌}
+use Rattle.basics.specs.Choice.{when◌then◌else◌}
 use Rattle.basics.proofs.ChoiceLaws.{is_true, holds, and_left, and_right, neither_left, neither_right, decided}
 use Rattle.modules.specs.Power.{switched, one_try_fewer, is_on, tries_left, full_tries, clean_seconds}
 use Rattle.modules.specs.declared.power.Power.{Power}
@@ -50,7 +50,7 @@ fewer_counts tries row more = decided (Counts (tries - 1) row) (eqb (tries - 1) 
 
 -- the clean seconds in a row, one second later
 abbrev next_row : (before after : Power) → (row : ℕ) → ℕ
-next_row before after row = if is_on before && is_on after then row + 1 else 0
+next_row before after row = when is_on before && is_on after then row + 1 else 0
 
 module _ (tries row : ℕ) where
   -- what a second leaves, as long as 60 in a row are not reached
@@ -73,7 +73,7 @@ module _ (tries row : ℕ) where
 
 -- how many tries it costs
 abbrev cost : Bool → ℕ
-cost dear = if dear then 1 else 0
+cost dear = when dear then 1 else 0
 
 second_counts :
     (tries row : ℕ) (w short : Bool) (p : Power) → Counts tries row p → (dear : Bool) → short && costs w p ≡ dear → cost dear < tries →

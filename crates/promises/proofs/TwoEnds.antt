@@ -4,7 +4,7 @@ use Prim.Native.Nat.{ℕ, ◌-◌, ◌<◌}
 use mathlib.Core.Path.{◌≡◌, ap}
 use mathlib.Core.Bool.{Bool, true, false}
 use lib.Dec.{T, eqb}
-use Rattle.basics.specs.Choice.{if◌then◌else◌}
+use Rattle.basics.specs.Choice.{when◌then◌else◌}
 use Rattle.modules.specs.Groups.{is_mission, module_count}
 use Rattle.supervisor.specs.State.{module_at, end_at}
 use Rattle.supervisor.specs.Tick.{before_modules}
@@ -14,15 +14,15 @@ use Rattle.supervisor.proofs.ModuleLaws.{ended_eight, at_ended, ended_end, missi
 use Rattle.promises.proofs.TwoControl.{Asked, Beside, controlled_beside}
 
 -- what is requested after the end stage was so before it; and on the second craft, if its end is the same
-not_over : (over r : Bool) → T (if over then false else r) → T r
+not_over : (over r : Bool) → T (when over then false else r) → T r
 not_over true r t = absurd t
 not_over false r t = t
 
-kept_grows : (over r r' : Bool) → (T r → T r') → T (if over then false else r) → T (if over then false else r')
+kept_grows : (over r r' : Bool) → (T r → T r') → T (when over then false else r) → T (when over then false else r')
 kept_grows true r r' grows t = t
 kept_grows false r r' grows t = grows t
 
-over_grows : (e e' : ℕ) (r r' : Bool) → (T r → e ≡ e') → (T r → T r') → T (if eqb e 1 then false else r) → T (if eqb e' 1 then false else r')
+over_grows : (e e' : ℕ) (r r' : Bool) → (T r → e ≡ e') → (T r → T r') → T (when eqb e 1 then false else r) → T (when eqb e' 1 then false else r')
 over_grows e e' r r' same grows t = rw (← same (not_over (eqb e 1) r t)) (kept_grows (eqb e 1) r r' grows t)
 
 -- ends: where they are equal, they are over together

@@ -7,7 +7,7 @@ use mathlib.Core.Path.{◌≡◌, refl, sym, ap, ◌∙◌}
 use mathlib.Core.Bool.{Bool, true, false, not, ◌&&◌, true≢false, false≢true}
 use lib.Dec.{T, eqb, leb, leb→le}
 use borrow.Author.Tests.{eqb-true, eqb-false}
-use Rattle.basics.specs.Choice.{if◌then◌else◌}
+use Rattle.basics.specs.Choice.{when◌then◌else◌}
 use Rattle.basics.proofs.ChoiceLaws.{and_right, sooner}
 use Rattle.modules.specs.Groups.{is_mission}
 use Rattle.frames.specs.Serial.{class_of, last_of, moved_to}
@@ -46,14 +46,14 @@ not_safe true false safe e t = false≢true e
 not_safe false m safe e t = false≢true e
 
 -- a request that an order sets: quiet outside SAFE, and grown on the second craft
-quiet_order : (here on m safe r : Bool) → (here ≡ true → m ≡ true) → on && m && not safe ≡ false → (T r → T safe) → T (if here then on else r) → T safe
+quiet_order : (here on m safe r : Bool) → (here ≡ true → m ≡ true) → on && m && not safe ≡ false → (T r → T safe) → T (when here then on else r) → T safe
 quiet_order true true true true r f e q x = tt
 quiet_order true true true false r f e q x = absurd (true≢false e)
 quiet_order true true false safe r f e q x = absurd (false≢true (f refl))
 quiet_order true false m safe r f e q x = absurd x
 quiet_order false on m safe r f e q x = q x
 
-grows_order : (here on r r' : Bool) → (T r → T r') → T (if here then on else r) → T (if here then on else r')
+grows_order : (here on r r' : Bool) → (T r → T r') → T (when here then on else r) → T (when here then on else r')
 grows_order true on r r' g x = x
 grows_order false on r r' g x = g x
 
@@ -61,7 +61,7 @@ module _ (i : ℕ) (mission : is_mission i ≡ true) where
   -- the end that an order sets is the same on both; one for another module leaves both
   ends_order :
       (which : ℕ) (on : Bool) (end : ℕ) (a b : State) (r : Bool) → (T r → end_at i a ≡ end_at i b) → (here : Bool) → eqb i which ≡ here →
-      T (if here then on else r) → end_at i (request_set which on end a) ≡ end_at i (request_set which on end b)
+      T (when here then on else r) → end_at i (request_set which on end a) ≡ end_at i (request_set which on end b)
   ends_order which on end a b r same true e t =
       rw (← eqb-true i which e) (asked_end i on end a mission ∙ sym (asked_end i on end b mission))
   ends_order which on end a b r same false e t =

@@ -5,7 +5,7 @@ use native.Mathlib.Omega.{arith}
 use mathlib.Core.Path.{◌≡◌, refl}
 use mathlib.Core.Bool.{Bool, true, false}
 use lib.Dec.{T, ltb, ltb→lt, lt→ltb}
-use Rattle.basics.specs.Choice.{if◌then◌else◌}
+use Rattle.basics.specs.Choice.{when◌then◌else◌}
 use Rattle.supervisor.specs.State.{mode_number, is_safe}
 use Rattle.supervisor.specs.Control.{crossing_of}
 use Rattle.supervisor.specs.declared.control.Crossing.{Crossing}
@@ -40,8 +40,8 @@ pub data Cross : Mode → Mode → Crossing → Crossing → Type 0 where
 -- by whether each tension is above ascend, and behind descend
 judged : Mode → (above beneath : Bool) → Crossing
 judged (DeployWait phase) above beneath = Level
-judged Recovery above beneath = if above then Upward else Level
-judged Safe above beneath = if beneath then Downward else Level
+judged Recovery above beneath = when above then Upward else Level
+judged Safe above beneath = when beneath then Downward else Level
 
 crossing_judged : (m : Mode) (b : Battery) → crossing_of m b ≡ judged m (ltb b.ascend b.tension) (ltb b.tension b.descend)
 unfolding judged

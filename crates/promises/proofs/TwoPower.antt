@@ -6,7 +6,7 @@ use mathlib.Core.List.{List}
 use mathlib.Core.Path.{◌≡◌, refl}
 use mathlib.Core.Bool.{Bool, true, false, ◌&&◌}
 use lib.Dec.{T, leb, leb→le, le→leb}
-use Rattle.basics.specs.Choice.{if◌then◌else◌, bit}
+use Rattle.basics.specs.Choice.{when◌then◌else◌, bit}
 use Rattle.basics.proofs.ChoiceLaws.{and_left, and_right}
 use Rattle.modules.specs.Power.{switched, is_on, is_failed, tries_left, full_tries}
 use Rattle.modules.specs.Groups.{is_mission, module_count}
@@ -49,7 +49,7 @@ sturdy_sound n (Failed left) few h = absurd (omega (arith, leb→le full_tries (
 
 -- one short more
 abbrev pub one_more : Bool → ℕ
-one_more short = if short then 1 else 0
+one_more short = when short then 1 else 0
 
 sturdy_later : (n m : ℕ) → n ≤ m → (p : Power) → Sturdy n p → Sturdy m p
 sturdy_later n m more p h = omega (arith, leb→le, le→leb)

@@ -6,7 +6,7 @@ use mathlib.Core.Path.{◌≡◌, refl, sym}
 use mathlib.Core.Bool.{Bool, true, false, ◌&&◌}
 use lib.Dec.{eqb, ltb}
 use borrow.Author.Tests.{eqb-true, eqb-false, ltb-true, ltb-false, lt-ltb, le-ltb}
-use Rattle.basics.specs.Choice.{if◌then◌else◌}
+use Rattle.basics.specs.Choice.{when◌then◌else◌}
 use Rattle.basics.proofs.ChoiceLaws.{decided, either}
 use Rattle.supervisor.specs.State.{is_recovery, is_safe}
 use Rattle.supervisor.specs.declared.state.Phase.{Phase}
@@ -25,7 +25,7 @@ one_more_law ticks n true e h = sym (lt-ltb (ticks + 1) n (omega (arith, ltb-tru
 one_more_law ticks n false e h = sym (le-ltb (ticks + 1) n (omega (arith, ltb-false ticks n e)))
 
 -- a word is "on" a tick later, unless that was its last
-pub aged_says : (word : Word) → (if eqb (left_of word) 1 then false else says word) ≡ says (aged word)
+pub aged_says : (word : Word) → (when eqb (left_of word) 1 then false else says word) ≡ says (aged word)
 aged_says (plain on) = refl
 aged_says (timed minutes ticks) =
     let n : ℕ = 60 * minutes in

@@ -1,7 +1,7 @@
 -- As told: a module is requested on or off as the last word on it was, and none runs that nobody asked for.
 -- Assumes nothing.
 use Rattle.std.specs.Prelude.{ℕ, ◌+◌, ◌*◌, ◌<◌, ◌≡◌, Bool, true, false, not, ◌&&◌, List, [], ◌∷◌, ◌++◌, T, eqb, ltb}
-use Rattle.basics.specs.Choice.{if◌then◌else◌}
+use Rattle.basics.specs.Choice.{when◌then◌else◌}
 use Rattle.modules.specs.Groups.{module_count, is_core, is_mission}
 use Rattle.modules.specs.Power.{is_on}
 use Rattle.frames.specs.About.{About, a_tick, a_command, neither}
@@ -29,8 +29,8 @@ says (timed minutes ticks) = ltb ticks (60 * minutes)
 -- an order for module i says "on" or "off", a timed order "on" for its minutes; any other command leaves the word
 -- before
 abbrev pub commands : ℕ → Command → (word : Word) → Word
-commands i (Order which on) word = if eqb i which then plain on else word
-commands i (Timed which minutes) word = if eqb i which then timed minutes 0 else word
+commands i (Order which on) word = when eqb i which then plain on else word
+commands i (Timed which minutes) word = when eqb i which then timed minutes 0 else word
 commands i (Thresholds ascend descend) word = word
 commands i (Greeting repeats length) word = word
 
@@ -50,7 +50,7 @@ SaysOff i frame = says (orders i frame (plain true)) ≡ false
 
 -- what a call orders, if it is done
 abbrev pub ordered : ℕ → State → Call → (word : Word) → Word
-ordered i s c word = if is_done (answered s c) then orders i (about_of c) word else word
+ordered i s c word = when is_done (answered s c) then orders i (about_of c) word else word
 
 -- a word a tick later
 abbrev pub aged : (word : Word) → Word
@@ -63,7 +63,7 @@ running_tick s c = done_tick s c && deployed s
 
 -- a word after a call that says nothing: a tick later, if the call is such a tick
 abbrev pub later : State → Call → (word : Word) → Word
-later s c word = if running_tick s c then aged word else word
+later s c word = when running_tick s c then aged word else word
 
 -- what a change of the mode says to a mission module, and to a core module, given the word before
 abbrev pub Saying : Type 0
@@ -72,7 +72,7 @@ Saying = (mission : Bool) → (before after : Mode) → (word : Word) → Word
 -- a crossing down, SAFE before and RECOVERY after, says "off" to a mission module; a crossing up says nothing, and
 -- neither says anything to a core module
 abbrev pub crossing : Saying
-crossing true before after word = if is_safe before && is_recovery after then plain false else word
+crossing true before after word = when is_safe before && is_recovery after then plain false else word
 crossing false before after word = word
 
 -- what a call says to module i

@@ -2,7 +2,7 @@
 -- is failed, however often it came up cleanly in between; unless it was on for 60 ticks in a row.
 -- Assumes nothing.
 use Rattle.std.specs.Prelude.{ℕ, ◌+◌, ◌-◌, ◌<◌, ◌≡◌, Bool, true, false, not, ◌&&◌, ◌||◌, List, [], ◌∷◌, ◌⊎◌, T, leb}
-use Rattle.basics.specs.Choice.{if◌then◌else◌}
+use Rattle.basics.specs.Choice.{when◌then◌else◌}
 use Rattle.modules.specs.Power.{is_on, tries_left}
 use Rattle.modules.specs.declared.power.Power.{Power}
 use Rattle.modules.specs.declared.power.Power.TheVariants.{On, Off, Failed}
@@ -27,7 +27,7 @@ costly i s c =
 -- how many there were in a history
 abbrev pub costly_shorts : ℕ → State → List Call → ℕ
 costly_shorts i s [] = 0
-costly_shorts i s (c ∷ cs) = (if costly i s c then 1 else 0) + costly_shorts i (called s c).result.state cs
+costly_shorts i s (c ∷ cs) = (when costly i s c then 1 else 0) + costly_shorts i (called s c).result.state cs
 
 -- a clean tick: module i is on before it and after it
 abbrev pub is_clean : ℕ → State → Call → Bool
@@ -35,7 +35,7 @@ is_clean i s c = is_on (module_at i s).power && is_on (module_at i (called s c).
 
 -- the clean ticks in a row, a call later: a done tick that is not clean ends the row, and other calls leave it
 abbrev pub row_after : ℕ → State → Call → (row : ℕ) → ℕ
-row_after i s c row = if done_tick s c then (if is_clean i s c then row + 1 else 0) else row
+row_after i s c row = when done_tick s c then (when is_clean i s c then row + 1 else 0) else row
 
 -- somewhere in a history, at its end too, there are so many in a row; `row` of them came before it
 abbrev pub has_row : (many i : ℕ) → State → List Call → (row : ℕ) → Bool
@@ -66,13 +66,13 @@ FailsWith many left =
 abbrev pub starts_or_shorts : ℕ → State → Call → Bool
 starts_or_shorts i s c =
     wanted_in (called s c).result.state i
-    && (if is_on (module_at i s).power then shorted i (about_of c) else not (shorted i (about_of c)))
+    && (when is_on (module_at i s).power then shorted i (about_of c) else not (shorted i (about_of c)))
 
 -- so it goes in every done tick of a history
 abbrev pub starts_and_shorts : ℕ → State → List Call → Bool
 starts_and_shorts i s [] = true
 starts_and_shorts i s (c ∷ cs) =
-    (if done_tick s c then starts_or_shorts i s c else true) && starts_and_shorts i (called s c).result.state cs
+    (when done_tick s c then starts_or_shorts i s c else true) && starts_and_shorts i (called s c).result.state cs
 
 -- such a module comes from one power to another in so many ticks
 abbrev pub ComesTo : (ticks : ℕ) → (from to : Power) → Type 0

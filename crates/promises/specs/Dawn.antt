@@ -2,7 +2,7 @@
 -- heard before or not; so what was ordered off for the night stays off, whatever "on" comes late.
 -- Assumes nothing.
 use Rattle.std.specs.Prelude.{ℕ, ◌+◌, ◌%◌, ◌≤◌, ◌<◌, ◌≡◌, Bool, List, [], ◌∷◌, ◌++◌, T}
-use Rattle.basics.specs.Choice.{if◌then◌else◌, within}
+use Rattle.basics.specs.Choice.{when◌then◌else◌, within}
 use Rattle.frames.specs.Serial.{serial_count, distance, last_of}
 use Rattle.modules.specs.Groups.{module_count}
 use Rattle.frames.specs.About.{serial_from}
@@ -16,7 +16,7 @@ use Rattle.promises.specs.Quiet.{StillOff}
 -- how far one frame moves an origin on: its distance, if it is the origin's and taken
 abbrev pub stride : (taken : Bool) → (serials : List ℕ) → (last : ℕ) → ℕ
 stride taken [] last = 0
-stride taken (serial ∷ serials) last = if taken then distance serial last else 0
+stride taken (serial ∷ serials) last = when taken then distance serial last else 0
 
 -- how far a history moves an origin on, in all
 abbrev pub moved_on : Origin → State → List Call → ℕ

@@ -2,7 +2,7 @@
 -- asked for, from the first one on, and then no more; those of RECOVERY use up nothing.
 -- Assumes nothing.
 use Rattle.std.specs.Prelude.{ℕ, ◌+◌, ◌-◌, ◌≡◌, Bool, false, List, [], ◌∷◌, ◌++◌, eqb, get_or}
-use Rattle.basics.specs.Choice.{if◌then◌else◌}
+use Rattle.basics.specs.Choice.{when◌then◌else◌}
 use Rattle.frames.specs.About.{a_command}
 use Rattle.frames.specs.declared.sender.Sender.{Sender}
 use Rattle.frames.specs.declared.command.Command.TheVariants.{Greeting}
@@ -24,7 +24,7 @@ told s c = record { mode = get_or (called s c).room mode_byte 0; number = get_or
 -- all that fall due in a history, in their order
 abbrev pub beacons : State → List Call → List Beacon
 beacons s [] = []
-beacons s (c ∷ cs) = (if beacon_due s c then told s c ∷ [] else []) ++ beacons (called s c).result.state cs
+beacons s (c ∷ cs) = (when beacon_due s c then told s c ∷ [] else []) ++ beacons (called s c).result.state cs
 
 -- SAFE's number in a report
 abbrev pub safe_mode : ℕ
@@ -32,11 +32,11 @@ safe_mode = 2
 
 -- which beacon is due, with so many greetings left: in SAFE 3 if there are any, else 2; in RECOVERY 1
 abbrev pub number_with : (left mode : ℕ) → ℕ
-number_with left mode = if eqb mode safe_mode then (if eqb left 0 then 2 else 3) else 1
+number_with left mode = when eqb mode safe_mode then (when eqb left 0 then 2 else 3) else 1
 
 -- how many are left after it, if a beacon in a mode that passes a test uses one up
 abbrev pub left_after : (uses : ℕ → Bool) (left mode : ℕ) → ℕ
-left_after uses left mode = if uses mode then left - 1 else left
+left_after uses left mode = when uses mode then left - 1 else left
 
 -- every beacon of a list is the one that is due
 abbrev pub AsAsked : (uses : ℕ → Bool) (left : ℕ) → List Beacon → Type 0
@@ -57,7 +57,7 @@ Ungreeted s (c ∷ cs) = (done_greeting s c ≡ false) × Ungreeted (called s c)
 
 -- how often it asks to be sent: a greeting of no characters, not at all
 abbrev pub asked_for : (repeats length : ℕ) → ℕ
-asked_for repeats length = if eqb length 0 then 0 else repeats
+asked_for repeats length = when eqb length 0 then 0 else repeats
 
 -- from any state, after a done greeting and until the next: it is sent as often as it asked for, and so much more
 abbrev pub GreetedBy : (uses : ℕ → Bool) (more : ℕ) → Type 0

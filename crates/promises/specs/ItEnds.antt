@@ -2,7 +2,7 @@
 -- is neither requested nor on.
 -- Assumes nothing.
 use Rattle.std.specs.Prelude.{ℕ, ◌+◌, ◌*◌, ◌≤◌, ◌<◌, ◌≡◌, Bool, true, false, not, ◌&&◌, List, [], ◌∷◌, T, eqb, length}
-use Rattle.basics.specs.Choice.{if◌then◌else◌}
+use Rattle.basics.specs.Choice.{when◌then◌else◌}
 use Rattle.modules.specs.Power.{is_on}
 use Rattle.frames.specs.About.{a_command}
 use Rattle.frames.specs.declared.command.Command.TheVariants.{Timed}
@@ -34,7 +34,7 @@ left_alone i s (c ∷ cs) =
 -- how many calls of a history were done ticks outside DEPLOY_WAIT
 abbrev pub running_ticks : State → List Call → ℕ
 running_ticks s [] = 0
-running_ticks s (c ∷ cs) = (if running_tick s c then 1 else 0) + running_ticks (called s c).result.state cs
+running_ticks s (c ∷ cs) = (when running_tick s c then 1 else 0) + running_ticks (called s c).result.state cs
 
 -- a module was ordered on for so many minutes, that was done, and it was left alone since
 pub record Runs (which minutes : ℕ) (s : State) (c : Call) (since : List Call) : Type 0 where

@@ -2,7 +2,7 @@
 -- earlier frames only.
 -- Assumes nothing.
 use Rattle.std.specs.Prelude.{ℕ, ◌≡◌, Bool, ◌||◌, List, [], ◌∷◌, ◌++◌, T, eqb}
-use Rattle.basics.specs.Choice.{if◌then◌else◌, within}
+use Rattle.basics.specs.Choice.{when◌then◌else◌, within}
 use Rattle.frames.specs.About.{serial_from}
 use Rattle.frames.specs.declared.sender.Origin.{Origin}
 use Rattle.frames.specs.declared.serial.Class.{Class}
@@ -17,7 +17,7 @@ serials_of origin (c ∷ cs) = serial_from origin (about_of c) ++ serials_of ori
 
 -- what an answer says of the serial, if its serial was judged at all
 abbrev pub verdict : (answer : ℕ) → Class
-verdict answer = if eqb answer 8 then Repeat else if eqb answer 9 then Stale else Fresh
+verdict answer = when eqb answer 8 then Repeat else when eqb answer 9 then Stale else Fresh
 
 -- the answers to a frame whose serial was judged
 abbrev pub is_judged : (answer : ℕ) → Bool

@@ -2,7 +2,7 @@
 -- is as good or better.
 -- Assumes nothing.
 use Rattle.std.specs.Prelude.{ℕ, ◌+◌, ◌≤◌, ◌<◌, ◌≡◌, Bool, true, false, List, [], ◌∷◌, take, T}
-use Rattle.basics.specs.Choice.{if◌then◌else◌, within, word, bit}
+use Rattle.basics.specs.Choice.{when◌then◌else◌, within, word, bit}
 use Rattle.modules.specs.Power.{is_on}
 use Rattle.modules.specs.Groups.{module_count, is_core}
 use Rattle.frames.specs.Kind.{battery_kind}
@@ -36,7 +36,7 @@ shorted i neither = false
 -- in how many calls of a history it is
 abbrev pub shorts_of : ℕ → List Call → ℕ
 shorts_of i [] = 0
-shorts_of i (c ∷ cs) = (if shorted i (about_of c) then 1 else 0) + shorts_of i cs
+shorts_of i (c ∷ cs) = (when shorted i (about_of c) then 1 else 0) + shorts_of i cs
 
 -- the second state is as good as the first or better, after the same calls
 pub record Better (modules : ℕ → Bool) (shorts : ℕ) (cs : List Call) (a b : State) : Type 0 where

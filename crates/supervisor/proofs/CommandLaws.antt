@@ -7,7 +7,7 @@ use mathlib.Core.Bool.{Bool, true, false, ◌||◌}
 use mathlib.Core.List.{List, [], ◌∷◌}
 use mathlib.Core.Logic.{◌⊎◌, inl, inr, ⊎_elim}
 use lib.Dec.{T, eqb, eqb→eq}
-use Rattle.basics.specs.Choice.{if◌then◌else◌, within}
+use Rattle.basics.specs.Choice.{when◌then◌else◌, within}
 use Rattle.basics.proofs.ChoiceLaws.{either}
 use Rattle.frames.specs.Answer.{answer_number}
 use Rattle.frames.specs.Serial.{moved_to}
@@ -73,7 +73,7 @@ pub data Answers (f : Frame) (s : State) (a : Acted) : Type 0 where
   news : ((origin : Origin) → serial_from origin (about (Accepted f)) ≡ []) → a.answer ≡ answer.Done → a.state.serials ≡ s.serials → Answers f s a
   judged :
       (sender : Sender) →
-      ((origin : Origin) → serial_from origin (about (Accepted f)) ≡ (if same_origin origin sender.origin then sender.serial ∷ [] else [])) →
+      ((origin : Origin) → serial_from origin (about (Accepted f)) ≡ (when same_origin origin sender.origin then sender.serial ∷ [] else [])) →
       Judged (class_in s sender) sender s a → Answers f s a
 
 not_ten : ◌≡◌ {A = ℕ} 0 10 → ⊥

@@ -4,7 +4,7 @@ use Prim.Native.Nat.{ℕ, ◌<◌}
 use mathlib.Core.Path.{◌≡◌, refl}
 use mathlib.Core.Bool.{true, false, not}
 use lib.Dec.{T}
-use Rattle.basics.specs.Choice.{if◌then◌else◌}
+use Rattle.basics.specs.Choice.{when◌then◌else◌}
 use Rattle.basics.specs.Each.{each, each_from}
 use Rattle.basics.proofs.ChoiceLaws.{agreed}
 use Rattle.basics.proofs.TablesLaws.{upto}
@@ -33,10 +33,10 @@ module _ (i : ℕ) (low : i < module_count) where
   unfolding fresh_state requested_by each each_from
   fresh_requested =
       agreed (module_at i fresh_state).requested (not (is_mission i))
-      (upto (λ k. if (module_at k fresh_state).requested then not (is_mission k) else not (not (is_mission k))) module_count tt i low)
+      (upto (λ k. when (module_at k fresh_state).requested then not (is_mission k) else not (not (is_mission k))) module_count tt i low)
 
   pub fresh_off : is_on (module_at i fresh_state).power ≡ false
   unfolding fresh_state requested_by each each_from
   fresh_off =
       agreed (is_on (module_at i fresh_state).power) false
-      (upto (λ k. if is_on (module_at k fresh_state).power then false else true) module_count tt i low)
+      (upto (λ k. when is_on (module_at k fresh_state).power then false else true) module_count tt i low)

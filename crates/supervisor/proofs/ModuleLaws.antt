@@ -8,7 +8,7 @@ use mathlib.Core.Bool.{Bool, true, false, not, true≢false}
 use lib.ListN.{length}
 use lib.Dec.{lit<, leb, eqb}
 use borrow.Author.Tests.{leb-true, leb-false, not-true}
-use Rattle.basics.specs.Choice.{if◌then◌else◌, bit}
+use Rattle.basics.specs.Choice.{when◌then◌else◌, bit}
 use Rattle.basics.proofs.ChoiceLaws.{is_true, agreed, either}
 use Rattle.basics.proofs.EachLaws.{at_each, at_any, part_any, length_each}
 use Rattle.basics.proofs.BitLaws.{bit_past}
@@ -68,7 +68,7 @@ module _ (s : State) (i : ℕ) where
 
   -- one that is not in the mask stays as it is
   pub not_unasked : (mask : ℕ) → bit i mask ≡ false → module_at i (without_requests mask s) ≡ module_at i s
-  not_unasked mask out = at_unasked mask ∙ ap (λ (t : Bool). with_request (if t then false else (module_at i s).requested) (module_at i s)) out
+  not_unasked mask out = at_unasked mask ∙ ap (λ (t : Bool). with_request (when t then false else (module_at i s).requested) (module_at i s)) out
 
   -- after an order: its power, which no request changes
   pub asked_power : (which : ℕ) (on : Bool) (end : ℕ) → (module_at i (request_set which on end s)).power ≡ (module_at i s).power
@@ -76,11 +76,11 @@ module _ (s : State) (i : ℕ) where
   asked_power which on end = part_any (module_asked which on) off_module (λ (m : Module). m.power) (λ k m. refl) s.modules i
 
   -- one of the eight after the end stage: as its end reaches zero, its request goes off
-  pub at_ended : i < module_count → module_at i (ended s) ≡ with_request (if eqb (end_at i s) 1 then false else (module_at i s).requested) (module_at i s)
+  pub at_ended : i < module_count → module_at i (ended s) ≡ with_request (when eqb (end_at i s) 1 then false else (module_at i s).requested) (module_at i s)
   unfolding ended
   at_ended low =
       at_unasked (ends_over s.ends)
-      ∙ ap (λ (t : Bool). with_request (if t then false else (module_at i s).requested) (module_at i s)) (over_at i low s.ends)
+      ∙ ap (λ (t : Bool). with_request (when t then false else (module_at i s).requested) (module_at i s)) (over_at i low s.ends)
 
 -- the end of module i after the end stage, and after an order for it and for another
 pub ended_end : (i : ℕ) (s : State) → end_at i (ended s) ≡ end_at i s - 1
@@ -114,13 +114,13 @@ module _ (i : ℕ) (low : i < module_count) where
   pub core_or_mission : is_core i ≡ not (is_mission i)
   core_or_mission =
       agreed (is_core i) (not (is_mission i))
-      (upto (λ k. if is_core k then not (is_mission k) else not (not (is_mission k))) module_count tt i low)
+      (upto (λ k. when is_core k then not (is_mission k) else not (not (is_mission k))) module_count tt i low)
 
   all_allowed : bit i (core_four + mission_four) ≡ true
   all_allowed = is_true (bit i (core_four + mission_four)) (upto (λ k. bit k (core_four + mission_four)) module_count tt i low)
 
   none_allowed : bit i 0 ≡ false
-  none_allowed = agreed (bit i 0) false (upto (λ k. if bit k 0 then false else true) module_count tt i low)
+  none_allowed = agreed (bit i 0) false (upto (λ k. when bit k 0 then false else true) module_count tt i low)
 
   -- mission modules are allowed in SAFE only
   pub mission_allowed : is_mission i ≡ true → (m : Mode) → bit i (allowed_in m) ≡ is_safe m

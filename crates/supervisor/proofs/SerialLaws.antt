@@ -3,7 +3,7 @@
 use Prim.Native.Nat.{ℕ}
 use mathlib.Core.Path.{◌≡◌, refl, ap, ◌∙◌}
 use mathlib.Core.List.{[], ◌∷◌}
-use Rattle.basics.specs.Choice.{if◌then◌else◌}
+use Rattle.basics.specs.Choice.{when◌then◌else◌}
 use Rattle.frames.specs.Serial.{last_of, moved_to}
 use Rattle.frames.specs.About.{about, same_origin, serial_from}
 use Rattle.frames.specs.declared.sender.Origin.{Origin}
@@ -38,7 +38,7 @@ other_last Fresh origin sender s a e d = ap (last_of origin) d.serials ∙ e
 
 by_origin :
     (origin by : Origin) (serial : ℕ) (f : Frame) (s : State) (a : Acted) →
-    serial_from origin (about (Accepted f)) ≡ (if same_origin origin by then serial ∷ [] else []) →
+    serial_from origin (about (Accepted f)) ≡ (when same_origin origin by then serial ∷ [] else []) →
     Judged (class_in s (from by serial)) (from by serial) s a → View origin f s a
 by_origin Ground Ground serial f s a b d = own serial b d
 by_origin Payload Payload serial f s a b d = own serial b d

@@ -6,7 +6,7 @@ use mathlib.Core.Path.{◌≡◌, refl, sym, ap, ◌∙◌}
 use mathlib.Core.Bool.{Bool, true, false, ◌&&◌, not, true≢false}
 use mathlib.Core.List.{List, [], ◌∷◌, ◌++◌}
 use lib.ListN.{get_or, drop, replicate}
-use Rattle.basics.specs.Choice.{if◌then◌else◌}
+use Rattle.basics.specs.Choice.{when◌then◌else◌}
 use Rattle.basics.specs.Outcome.{Outcome, outcome}
 use Rattle.modules.specs.Power.{is_on}
 use Rattle.modules.specs.declared.power.Power.TheVariants.{On}
@@ -40,18 +40,18 @@ ShutOut wrong = ((s : State) (input room : List ℕ) → wrong s input room ≡ 
 abbrev pub constant_report : List ℕ → Supervisor
 constant_report report s input room =
     outcome (step_of s input room).result
-    (if is_reported (step_of s input room).result.answer then report ++ drop report_bytes room else room)
+    (when is_reported (step_of s input room).result.answer then report ++ drop report_bytes room else room)
 
 -- it works the frames of states that pass a test, such as the fresh one, and then only reports
 abbrev pub only_reports : (works_in : State → Bool) → Supervisor
 only_reports works_in s input room =
-    if works_in s then step_of s input room
+    when works_in s then step_of s input room
     else outcome (record { answer = (step_of s input room).result.answer; state = s }) (step_of s input room).room
 
 -- it leaves another state after a done tick from a state that passes a test
 abbrev pub ticked_otherwise : (leaves : (shorts : ℕ) → State → State) → About → (here : Bool) → State → Outcome Stepped → Outcome Stepped
 ticked_otherwise leaves (a_tick shorts) here s right =
-    if here then outcome (record { answer = right.result.answer; state = leaves shorts s }) right.room else right
+    when here then outcome (record { answer = right.result.answer; state = leaves shorts s }) right.room else right
 ticked_otherwise leaves (a_command sender command) here s right = right
 ticked_otherwise leaves neither here s right = right
 

@@ -1,7 +1,7 @@
 -- Commands: their serials, judged once for all, and what each does once it is taken.
 -- Assumes nothing.
 use Rattle.std.specs.Prelude.{ℕ, ◌*◌, Bool, true, not, ◌&&◌, List}
-use Rattle.basics.specs.Choice.{if◌then◌else◌}
+use Rattle.basics.specs.Choice.{when◌then◌else◌}
 use Rattle.modules.specs.Groups.{is_mission}
 use Rattle.modules.specs.Ends.{with_end}
 use Rattle.modules.specs.Stage.{requested_one}
@@ -31,7 +31,7 @@ request_set which on end s =
 -- an order: ill-timed, or done
 abbrev pub order_taken : (which : ℕ) (on : Bool) (end : ℕ) → State → Acted
 order_taken which on end s =
-    if is_ill_timed which on s.watch.mode then silent answer.NotNow s else done (request_set which on end s)
+    when is_ill_timed which on s.watch.mode then silent answer.NotNow s else done (request_set which on end s)
 
 -- the seconds of a minute
 abbrev pub minute_seconds : ℕ

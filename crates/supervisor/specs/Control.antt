@@ -1,7 +1,7 @@
 -- The control stage of a tick.
 -- Assumes nothing.
 use Rattle.std.specs.Prelude.{ℕ, ◌+◌, ltb, eqb}
-use Rattle.basics.specs.Choice.{if◌then◌else◌}
+use Rattle.basics.specs.Choice.{when◌then◌else◌}
 use Rattle.modules.specs.Groups.{mission_four}
 use Rattle.modules.specs.Ends.{no_ends}
 use Rattle.supervisor.specs.State.{with_mode, with_control, with_ends, without_requests}
@@ -17,8 +17,8 @@ use Rattle.supervisor.specs.declared.control.Crossing.TheVariants.{Level, Upward
 -- equality crosses nothing
 abbrev pub crossing_of : Mode → Battery → Crossing
 crossing_of (DeployWait phase) battery = Level
-crossing_of Recovery battery = if ltb battery.ascend battery.tension then Upward else Level
-crossing_of Safe battery = if ltb battery.tension battery.descend then Downward else Level
+crossing_of Recovery battery = when ltb battery.ascend battery.tension then Upward else Level
+crossing_of Safe battery = when ltb battery.tension battery.descend then Downward else Level
 
 -- upward: SAFE, and nothing is requested; downward: RECOVERY, the mission four are requested off, and their ends are
 -- dropped
@@ -30,7 +30,7 @@ crossed Downward s = with_mode Recovery (without_requests mission_four (with_end
 -- at 30 the count returns to 0 and the mode is judged
 abbrev pub controlled_at : ℕ → State → State
 controlled_at count s =
-    if eqb count judge_ticks
+    when eqb count judge_ticks
     then crossed (crossing_of s.watch.mode s.battery) (with_control 0 s)
     else with_control count s
 

@@ -1,7 +1,7 @@
 -- The beacon stage of a tick.
 -- Assumes nothing.
 use Rattle.std.specs.Prelude.{ℕ, ◌+◌, ◌-◌, ◌%◌, Bool, eqb}
-use Rattle.basics.specs.Choice.{if◌then◌else◌}
+use Rattle.basics.specs.Choice.{when◌then◌else◌}
 use Rattle.supervisor.specs.State.{with_beacon, with_repeats}
 use Rattle.supervisor.specs.Message.{is_to_be_sent}
 use Rattle.supervisor.specs.Range.{basic_ticks, complete_ticks}
@@ -17,9 +17,9 @@ use Rattle.supervisor.specs.declared.acted.Acted.{Acted}
 -- in RECOVERY a basic one if the count is 300
 abbrev pub due_at : Mode → (greets : Bool) (count : ℕ) → Due
 due_at (DeployWait phase) greets count = Nothing
-due_at Recovery greets count = if eqb count basic_ticks then Basic else Nothing
+due_at Recovery greets count = when eqb count basic_ticks then Basic else Nothing
 due_at Safe greets count =
-    if eqb (count % complete_ticks) 0 then (if greets then Extended else Complete) else Nothing
+    when eqb (count % complete_ticks) 0 then (when greets then Extended else Complete) else Nothing
 
 -- the count returns to 0 where one is due
 abbrev pub count_after : Due → ℕ → ℕ

@@ -1,7 +1,7 @@
 -- A flight: calls of `step` in a row, each with its input bytes and its reply room.
 -- Assumes nothing.
 use Rattle.std.specs.Prelude.{ℕ, ◌+◌, ◌≤◌, Bool, ◌&&◌, ◌||◌, List, [], ◌∷◌, eqb, length}
-use Rattle.basics.specs.Choice.{if◌then◌else◌}
+use Rattle.basics.specs.Choice.{when◌then◌else◌}
 use Rattle.basics.specs.Outcome.{Outcome}
 use Rattle.frames.specs.Answer.{answer_number}
 use Rattle.frames.specs.Kind.{report_bytes}
@@ -58,4 +58,4 @@ done_tick s c = is_tick (about_of c) && is_done (answered s c)
 -- how many calls of a history were done ticks
 abbrev pub done_ticks : State → List Call → ℕ
 done_ticks s [] = 0
-done_ticks s (c ∷ cs) = (if done_tick s c then 1 else 0) + done_ticks (called s c).result.state cs
+done_ticks s (c ∷ cs) = (when done_tick s c then 1 else 0) + done_ticks (called s c).result.state cs

@@ -1,14 +1,14 @@
 -- The message on the beacon.
 -- Assumes nothing.
 use Rattle.std.specs.Prelude.{ℕ, Bool, ◌&&◌, ◌||◌, List, eqb, ltb}
-use Rattle.basics.specs.Choice.{if◌then◌else◌}
+use Rattle.basics.specs.Choice.{when◌then◌else◌}
 use Rattle.supervisor.specs.State.{no_message}
 use Rattle.supervisor.specs.declared.state.Message.{Message}
 
 -- a new message replaces the old; length 0 or repeats 0 clears it to all zeros
 abbrev pub message_from : (repeats length : ℕ) (text : List ℕ) → Message
 message_from repeats length text =
-    if eqb length 0 || eqb repeats 0 then no_message
+    when eqb length 0 || eqb repeats 0 then no_message
     else record { repeats = repeats; length = length; text = text }
 
 -- a message is kept: its length is above 0

@@ -1,7 +1,7 @@
 -- The whole call: the answer, the next state, and the later content of the reply room.
 -- Assumes nothing.
 use Rattle.std.specs.Prelude.{ℕ, List, ◌++◌, leb, length, drop}
-use Rattle.basics.specs.Choice.{if◌then◌else◌}
+use Rattle.basics.specs.Choice.{when◌then◌else◌}
 use Rattle.basics.specs.Outcome.{Outcome, outcome}
 use Rattle.frames.specs.Kind.{report_bytes}
 use Rattle.frames.specs.Greeting.{greeting_text}
@@ -35,7 +35,7 @@ step_read (Accepted frame) text s room = reported frame (act_of frame text s) ro
 -- check 1: the state outside its ranges; check 2: fewer than 11 bytes of reply room
 unfoldable pub step_of : State → (input room : List ℕ) → Outcome Stepped
 step_of s input room =
-    if in_range s then
-    (if leb report_bytes (length room) then step_read (read_frame input) (greeting_text input) s room
+    when in_range s then
+    (when leb report_bytes (length room) then step_read (read_frame input) (greeting_text input) s room
     else refused ShortRoom s room)
     else refused BadState s room

@@ -7,7 +7,7 @@ use mathlib.Core.Bool.{Bool, true, false}
 use lib.Dec.{leb, ltb}
 use lib.IntN.{pos}
 use borrow.Author.Tests.{le-leb, lt-ltb, le-ltb, ltb-false, leb-true, leb-false}
-use Rattle.basics.specs.Choice.{if◌then◌else◌}
+use Rattle.basics.specs.Choice.{when◌then◌else◌}
 use Rattle.tracker.specs.Tracker.{most_millivolts, power, done, headed, stopped, moved, track_of}
 use Rattle.tracker.specs.Range.{RangeTo}
 use Rattle.tracker.specs.Walk.{Curve, ReadAt, Place, size_of, Called, Calls, none, then_call}
@@ -25,7 +25,7 @@ at point = record { was = point - 100; point = point; step = pos 100 }
 
 -- 4,099 mA up to the peak at 4,000 mV, and then a slow fall: 4,099 mV at 3,999 mA is as much as 3,999 mV at 4,099 mA
 steep : Curve
-steep = record { parts = 1; some = omega arith; at = λ v. if ltb v 4000 then 4099 * v else 16396000 - v }
+steep = record { parts = 1; some = omega arith; at = λ v. when ltb v 4000 then 4099 * v else 16396000 - v }
 
 steep_peaked : Peaked Lower steep 4000
 unfolding steep
@@ -34,7 +34,7 @@ steep_peaked = record { low = omega arith; rises = rises; falls = falls }
     rises : (a b : ℕ) → a < b → b ≤ 4000 → steep.at a < steep.at b
     rises a b h k = simp (lt-ltb a 4000 (omega arith)) (by (ltb b 4000) refl)
       where
-        by : (low : Bool) → ltb b 4000 ≡ low → 4099 * a < (if low then 4099 * b else 16396000 - b)
+        by : (low : Bool) → ltb b 4000 ≡ low → 4099 * a < (when low then 4099 * b else 16396000 - b)
         by true e = omega arith
         by false e = omega (arith, ltb-false b 4000 e)
 
@@ -90,7 +90,7 @@ NoHigher a b = a ≤ b
 
 -- a flat top from 4,000 to 4,200 mV: 861, 840 and 820 mA at its three readings
 flat : Curve
-flat = record { parts = 1; some = omega arith; at = λ v. if ltb v 4000 then 861 * v else if leb v 4200 then 3444000 else 3448200 - v }
+flat = record { parts = 1; some = omega arith; at = λ v. when ltb v 4000 then 861 * v else when leb v 4200 then 3444000 else 3448200 - v }
 
 flat_peaked : Peaked NoHigher flat 4000
 unfolding flat
@@ -99,14 +99,14 @@ flat_peaked = record { low = omega arith; rises = rises; falls = falls }
     rises : (a b : ℕ) → a < b → b ≤ 4000 → flat.at a < flat.at b
     rises a b h k = simp (lt-ltb a 4000 (omega arith), le-leb b 4200 (omega arith)) (by (ltb b 4000) refl)
       where
-        by : (low : Bool) → ltb b 4000 ≡ low → 861 * a < (if low then 861 * b else 3444000)
+        by : (low : Bool) → ltb b 4000 ≡ low → 861 * a < (when low then 861 * b else 3444000)
         by true e = omega arith
         by false e = omega arith
 
     falls : (a b : ℕ) → 4000 ≤ a → a < b → b ≤ most_millivolts → flat.at b ≤ flat.at a
     falls a b h k l = simp (le-ltb a 4000 h, le-ltb b 4000 (omega arith)) (by (leb a 4200) (leb b 4200) refl refl)
       where
-        by : (x y : Bool) → leb a 4200 ≡ x → leb b 4200 ≡ y → (if y then 3444000 else 3448200 - b) ≤ (if x then 3444000 else 3448200 - a)
+        by : (x y : Bool) → leb a 4200 ≡ x → leb b 4200 ≡ y → (when y then 3444000 else 3448200 - b) ≤ (when x then 3444000 else 3448200 - a)
         by true true e f = omega arith
         by true false e f = omega (arith, leb-false b 4200 f)
         by false true e f = omega (arith, leb-false a 4200 e, leb-true b 4200 f)

@@ -8,7 +8,7 @@ use lib.Dec.{T, leb, leb→le}
 use lib.IntN.{ℤ, pos, neg_ℤ, nat_abs, ◌+ℤ◌}
 use lib.Signed.{lt_z}
 use borrow.Author.Tests.{le-leb, lt-leb}
-use Rattle.basics.specs.Choice.{if◌then◌else◌, within}
+use Rattle.basics.specs.Choice.{when◌then◌else◌, within}
 use Rattle.basics.proofs.ChoiceLaws.{holds, and_left, and_right}
 use Rattle.tracker.specs.Tracker.{most_millivolts, most_milliamperes, longest_step, track_number, is_reading, is_step, power, headed, done, stopped, moved, in_range, track_of}
 use Rattle.tracker.specs.declared.Answer.TheVariants.{Done, OutOfRange}
@@ -32,7 +32,7 @@ module _ (before after : Reading) (step : ℤ) where
   unfolding headed
   headed_size = by (leb (power before) (power after))
     where
-      by : (kept : Bool) → nat_abs (if kept then step else neg_ℤ step) ≡ nat_abs step
+      by : (kept : Bool) → nat_abs (when kept then step else neg_ℤ step) ≡ nat_abs step
       by true = refl
       by false = nat_abs_neg step
 

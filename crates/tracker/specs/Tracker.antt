@@ -2,7 +2,7 @@
 -- Assumes nothing.
 use Rattle.std.specs.Prelude.{ℕ, ◌*◌, Bool, ◌&&◌, leb, ℤ, pos, neg_ℤ, nat_abs, ◌+ℤ◌}
 use Rattle.std.specs.Int.Signed.{lt_z}
-use Rattle.basics.specs.Choice.{if◌then◌else◌, within}
+use Rattle.basics.specs.Choice.{when◌then◌else◌, within}
 use Rattle.tracker.specs.declared.Answer.{Answer}
 use Rattle.tracker.specs.declared.Answer.TheVariants.{Done, OutOfRange}
 use Rattle.tracker.specs.declared.Reading.{Reading}
@@ -39,7 +39,7 @@ power r = r.millivolts * r.milliamperes
 
 -- the step keeps its sign if power after the move is at least the power before, else it turns
 unfoldable pub headed : (before after : Reading) → ℤ → ℤ
-headed before after step = if leb (power before) (power after) then step else neg_ℤ step
+headed before after step = when leb (power before) (power after) then step else neg_ℤ step
 
 -- a call that is done hands back a set point and a step
 abbrev pub done : (point : ℕ) (step : ℤ) → Tracked
@@ -48,8 +48,8 @@ done point step = record { answer = Done; point = point; step = step }
 -- a move that leads so far, within 0 to 20,000: past an end it stops there, and the step handed back is turned
 unfoldable pub stopped : (to step : ℤ) → Tracked
 stopped to step =
-    if lt_z (pos most_millivolts) to then done most_millivolts (neg_ℤ step)
-    else if lt_z to (pos 0) then done 0 (neg_ℤ step)
+    when lt_z (pos most_millivolts) to then done most_millivolts (neg_ℤ step)
+    else when lt_z to (pos 0) then done 0 (neg_ℤ step)
     else done (nat_abs to) step
 
 -- the set point moves by the step
@@ -64,5 +64,5 @@ in_range before after point step =
 -- one call; 16 for a reading, set point or step out of range, with nothing moved
 unfoldable pub track_of : (before after : Reading) (point : ℕ) (step : ℤ) → Tracked
 track_of before after point step =
-    if in_range before after point step then moved point (headed before after step)
+    when in_range before after point step then moved point (headed before after step)
     else record { answer = OutOfRange; point = point; step = step }

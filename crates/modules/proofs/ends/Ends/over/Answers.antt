@@ -4,13 +4,13 @@ use native.Mathlib.Omega.{arith}
 use mathlib.Core.Path.{◌≡◌}
 use mathlib.Core.Bool.{Bool}
 use lib.Dec.{eqb}
-use Rattle.basics.specs.Choice.{if◌then◌else◌}
+use Rattle.basics.specs.Choice.{when◌then◌else◌}
 use Rattle.basics.proofs.ChoiceLaws.{either}
 use Rattle.modules.specs.Ends.{ends_over}
 use Rattle.modules.proofs.ends.Ends.over.Goals as goal
 
 -- a bit that is set or not is at most itself
-small : (r bit : ℕ) (test : Bool) → r ≡ (if test then bit else 0) → r ≤ bit
+small : (r bit : ℕ) (test : Bool) → r ≡ (when test then bit else 0) → r ≤ bit
 small r bit test e = rw e (either (λ n. n ≤ bit) test (omega arith) (omega arith))
 
 pub overflow_add-result : goal.overflow_add-result
