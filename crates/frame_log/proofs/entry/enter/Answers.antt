@@ -1,5 +1,5 @@
--- `log::entry::enter` meets its contract: each case of the cut is a case of the definition.
-use Rattle.std.proofs.Common.{◌∙◌, rules, le-leb}
+-- `frame_log::entry::enter` meets its contract: each case of the cut is a case of the definition.
+use Rattle.std.proofs.Common.{◌∙◌, le-leb}
 use borrow.Author.Tests.{lt-leb}
 use Rattle.frame_log.specs.Entry.{enter_of}
 use Rattle.frame_log.proofs.EntryLaws.{frame_within, enter_frame}

@@ -1,5 +1,4 @@
--- `log::entry::fresh` meets its contract.
-use Rattle.std.proofs.Common.{rules}
+-- `frame_log::entry::fresh` meets its contract.
 use Rattle.frame_log.specs.Entry.{fresh_log}
 use Rattle.frame_log.proofs.entry.fresh.Goals as goal
 

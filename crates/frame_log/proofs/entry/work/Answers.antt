@@ -1,5 +1,5 @@
--- `log::entry::work` meets its contract: what the step leaves is printed.
-use Rattle.std.proofs.Common.{rules}
+-- `frame_log::entry::work` meets its contract: what the step leaves is printed.
+use Rattle.std.proofs.Common.{refl}
 use Rattle.frame_log.specs.Entry.{worked}
 use Rattle.frame_log.proofs.EntryLaws.{printed_line, printed_refusal}
 use Rattle.frame_log.proofs.entry.work.Goals as goal
@@ -10,9 +10,9 @@ returns-then-is_reported c =
     let step = c.step-stepped in
     let a = c.args in
     rw (← step.ensures)
-    (printed_line step.result.answer step.result.state step.new.1.1.0 a.log a.frame.now a.room.now _ _ _
+    (printed_line step.result.answer step.result.state step.new.room a.log a.frame.now a.room.now _ _ _
     (rw c.is_reported.ensures at c.if-is_reported.true)
-    c.line.ensures c.wrapping_add_u64.ensures)
+    c.line.ensures refl)
 
 pub returns : goal.returns
 unfolding worked
@@ -20,5 +20,5 @@ returns c =
     let step = c.step-stepped in
     let a = c.args in
     rw (← step.ensures)
-    (printed_refusal step.result.answer step.result.state step.new.1.1.0 a.log a.frame.now a.room.now _ _
+    (printed_refusal step.result.answer step.result.state step.new.room a.log a.frame.now a.room.now _ _
     (rw c.is_reported.ensures at c.if-is_reported.false) c.refused.ensures)

@@ -1,5 +1,5 @@
--- `log::line::line` meets its contract: one part after the other.
-use Rattle.std.proofs.Common.{arith, rules}
+-- `frame_log::line::line` meets its contract: one part after the other.
+use Rattle.std.proofs.Common.{arith}
 use Rattle.frame_log.specs.Line.{line_of}
 use Rattle.frame_log.proofs.TextLaws.{put_length, put_both, put_one}
 use Rattle.frame_log.proofs.LineLaws.{placed_text, placed_short}

@@ -1,5 +1,4 @@
--- `log::line::put_answer` meets its contract: one word after the other.
-use Rattle.std.proofs.Common.{rules}
+-- `frame_log::line::put_answer` meets its contract: one word after the other.
 use Rattle.frame_log.proofs.TextLaws.{put_both, put_none}
 use Rattle.frame_log.proofs.line.put_answer.Goals as goal
 

@@ -1,5 +1,5 @@
--- `log::line::refused` meets its contract: one part after the other.
-use Rattle.std.proofs.Common.{arith, rules}
+-- `frame_log::line::refused` meets its contract: one part after the other.
+use Rattle.std.proofs.Common.{arith}
 use Rattle.frame_log.specs.Text.{spaced}
 use Rattle.frame_log.specs.Line.{refused_line}
 use Rattle.frame_log.proofs.TextLaws.{put_length, put_both, put_one}
