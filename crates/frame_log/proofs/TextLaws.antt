@@ -1,26 +1,49 @@
 -- Laws of text: how many digits a number has, and texts stored one after the other.
 -- Assumes nothing.
-use Rattle.std.proofs.Common.{◌≡◌, ℕ, zero, suc, ◌+◌, ◌-◌, ◌/◌, ◌^◌, ◌<◌, ◌≤◌, ltb, List, [], ◌∷◌, ◌++◌, length, take, drop, set, sym, refl, ap, ◌∙◌, append_assoc, le_refl, not-suc-le-zero, div-lt_iff_lt-mul, pow-suc, le-div_iff_mul-le, add-one, arith, length-append, drop-drop, ltb-false, ltb-true}
-use lib.Seq.{sets-eq, length-sets, take-length}
+use Rattle.std.proofs.Common.{◌≡◌, ℕ, zero, suc, ◌+◌, ◌-◌, ◌/◌, ◌%◌, ◌<◌, ◌≤◌, ltb, List, [], ◌∷◌, ◌++◌, length, take, drop, set, sym, refl, ap, ◌∙◌, append_assoc, le_refl, not-suc-le-zero, add-one, arith, length-append, drop-drop, lt-ltb, le-ltb, length-take-le}
+use Rattle.std.proofs.lemmas.List.{drop-set}
+use lib.Seq.{sets-eq, length-sets, take-length, take-set-lt}
 use Rattle.basics.specs.Bytes.{space}
-use Rattle.basics.proofs.ChoiceLaws.{either, decided}
+use Rattle.basics.proofs.ChoiceLaws.{either}
 use Rattle.basics.proofs.Stores.{sets_append}
 use Rattle.basics.proofs.PartLaws.{part_from, lent_back, part_from_law, lent_back_law}
-use Rattle.frame_log.specs.Text.{most_digits, digit_count_up_to, decimal, hex, spaced, Put}
-use Rattle.io.specs.Digits.{last_digits, IsDigitCount}
+use Rattle.frame_log.specs.Text.{most_digits, digit_count_up_to, last_digits, decimal, hex, spaced, Put}
 
-length_digits : (b k n : ℕ) → length (last_digits b k n) ≡ k
-length_digits b zero n = refl
-length_digits b (suc k) n = rw (length-append, length_digits b k (n / b)) (omega arith)
+length_digits : (count n : ℕ) → length (last_digits count n) ≡ count
+unfolding last_digits
+length_digits zero n = refl
+length_digits (suc count) n = rw (length-append, length_digits count (n / 10)) (omega arith)
 
-count_most : (more n : ℕ) → digit_count_up_to more n ≤ suc more
+pub count_most : (more n : ℕ) → digit_count_up_to more n ≤ suc more
 unfolding digit_count_up_to
 count_most zero n = omega arith
 count_most (suc more) n = either (λ (k : ℕ). k ≤ suc (suc more)) (ltb n 10) (omega arith) (omega (arith, count_most more (n / 10)))
 
 pub length_decimal : (n : ℕ) → length (decimal n) ≤ most_digits
 unfolding decimal
-length_decimal n = rw (length_digits 10 (digit_count_up_to 19 n) n) (count_most 19 n)
+length_decimal n = rw (length_digits (digit_count_up_to 19 n) n) (count_most 19 n)
+
+-- a number below 10 has one digit; any other has one more than its tenth
+pub one_digit : (more n : ℕ) → n < 10 → digit_count_up_to more n ≡ 1
+unfolding digit_count_up_to
+one_digit zero n h = refl
+one_digit (suc more) n h = simp (lt-ltb n 10 h)
+
+pub more_digits : (more n : ℕ) → 10 ≤ n → digit_count_up_to (suc more) n ≡ digit_count_up_to more (n / 10) + 1
+unfolding digit_count_up_to
+more_digits more n h = simp (le-ltb n 10 h) (omega arith)
+
+-- the last digit goes to the front of those that are written already, which stand from its place on
+pub digit_stored :
+    (count place n digit : ℕ) (digits : List ℕ) → 0 < place → place ≤ count → count ≤ length digits → digit ≡ 48 + n % 10 →
+    last_digits (place - 1) (n / 10) ++ drop (place - 1) (take count (set digits (place - 1) digit)) ≡ last_digits place n ++ drop place (take count digits)
+unfolding last_digits
+digit_stored count zero n digit digits some h room e = absurd (not-suc-le-zero some)
+digit_stored count (suc i) n digit digits some h room e =
+    let left : suc i - 1 ≡ i = omega arith in
+    let within : i < length (take count digits) = rw (length-take-le count digits room) h in
+    rw (left, take-set-lt count digits i digit h, drop-set (take count digits) i digit within, add-one, e)
+    (sym (append_assoc (last_digits i (n / 10)) ((48 + n % 10) ∷ []) (drop (suc i) (take count digits))))
 
 pub length_hex : (byte : ℕ) → length (hex byte) ≡ 2
 unfolding hex
@@ -29,44 +52,6 @@ length_hex byte = refl
 pub length_spaced : (word : List ℕ) → length (spaced word) ≡ suc (length word)
 unfolding spaced
 length_spaced word = refl
-
--- The kit's "fewest digits that hold n" are as many as n has.
-
-tens : (j : ℕ) → 0 < 10 ^ j
-tens zero = omega arith
-tens (suc j) = rw (pow-suc 10 j) (omega (arith, tens j))
-
-one_digit : (n k : ℕ) → n < 10 → IsDigitCount 10 1 n k → k ≡ 1
-one_digit n zero h f = absurd (not-suc-le-zero f.0)
-one_digit n (suc zero) h f = refl
-one_digit n (suc (suc j)) h f = let e : suc (suc j) - 1 ≡ suc j = omega arith in let g = rw e at (f.2 (omega arith)) in omega (arith, pow-suc 10 j, tens j)
-
-tenth : (n j : ℕ) → IsDigitCount 10 1 n (suc (suc j)) → IsDigitCount 10 1 (n / 10) (suc j)
-tenth n j f =
-    let e : suc (suc j) - 1 ≡ suc j = omega arith in
-    let d : suc j - 1 ≡ j = omega arith in (
-      omega arith,
-      (div-lt_iff_lt-mul {k = 10} (omega arith)).1 (rw (← pow-suc 10 (suc j)) f.1),
-      (λ h. (le-div_iff_mul-le {k = 10} (omega arith)).1 (rw (d, ← pow-suc 10 j) (rw e at (f.2 (omega arith))))),
-    )
-
-the_count : (more n k : ℕ) → n < 10 ^ suc more → IsDigitCount 10 1 n k → k ≡ digit_count_up_to more n
-unfolding digit_count_up_to
-the_count zero n k h f = one_digit n k h f
-the_count (suc more) n zero h f = absurd (not-suc-le-zero f.0)
-the_count (suc more) n (suc zero) h f =
-    decided (λ (k : ℕ). 1 ≡ k) (ltb n 10) (λ t. refl) (λ t. omega (arith, f.1, ltb-false n 10 t))
-the_count (suc more) n (suc (suc j)) h f =
-    decided (λ (k : ℕ). suc (suc j) ≡ k) (ltb n 10)
-    (λ t. one_digit n (suc (suc j)) (ltb-true n 10 t) f)
-    (λ t. ap suc (the_count more (n / 10) (suc j) ((div-lt_iff_lt-mul {k = 10} (omega arith)).1 (rw (← pow-suc 10 (suc more)) h)) (tenth n j f)))
-
-pub decimal_fewest : (n k : ℕ) → n < 10 ^ 20 → IsDigitCount 10 1 n k → last_digits 10 k n ≡ decimal n
-unfolding decimal
-decimal_fewest n k h f = ap (λ (d : ℕ). last_digits 10 d n) (the_count 19 n k h f)
-
-pub fewest_most : (n k : ℕ) → n < 10 ^ 20 → IsDigitCount 10 1 n k → k ≤ most_digits
-fewest_most n k h f = rw (the_count 19 n k h f) (count_most 19 n)
 
 -- Texts stored one after the other
 

@@ -1,10 +1,9 @@
 -- Numbers as text, in ASCII, and text stored in a room.
 -- Assumes nothing.
-use Rattle.std.specs.Prelude.{◌≡◌, ℕ, zero, suc, ◌+◌, ◌/◌, ◌≤◌, List, ◌∷◌, length, nat_lt}
+use Rattle.std.specs.Prelude.{◌≡◌, ℕ, zero, suc, ◌+◌, ◌/◌, ◌%◌, ◌≤◌, List, [], ◌∷◌, ◌++◌, length, nat_lt}
 use Rattle.std.proofs.lemmas.List.Edits.{sets}
 use Rattle.basics.specs.Bytes.{two_hex, space}
 use Rattle.basics.specs.Choice.{when◌then◌else◌}
-use Rattle.io.specs.Digits.{last_digits}
 
 -- the decimal digits of the largest number of 64 bits
 abbrev pub most_digits : ℕ
@@ -15,9 +14,14 @@ unfoldable pub digit_count_up_to : (more : ℕ) → ℕ → ℕ
 digit_count_up_to zero n = 1
 digit_count_up_to (suc more) n = when nat_lt n 10 then 1 else suc (digit_count_up_to more (n / 10))
 
+-- the last so many decimal digits of a number, the most significant first
+unfoldable pub last_digits : (count : ℕ) → ℕ → List ℕ
+last_digits zero n = []
+last_digits (suc count) n = last_digits count (n / 10) ++ ((48 + n % 10) ∷ [])
+
 -- a number of 64 bits in decimal, without leading zeros
 unfoldable pub decimal : ℕ → List ℕ
-decimal n = last_digits 10 (digit_count_up_to 19 n) n
+decimal n = last_digits (digit_count_up_to 19 n) n
 
 -- a byte as two upper-case hex digits
 unfoldable pub hex : ℕ → List ℕ

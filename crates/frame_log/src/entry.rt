@@ -62,7 +62,7 @@ fn work(log: Log, frame: &[u8], room: &mut [u8]) -> Entered
             },
             log: Log {
                 state,
-                n: std::num::wrapping_add_u64(log.n, 1),
+                n: log.n.wrapping_add(1),
             },
         };
     }

@@ -1,8 +1,8 @@
 // The parts of a line, each stored in a room from a place on. Each call gives the place after what it stored.
-ghost use Rattle.std.specs.Prelude.{◌≡◌, ◌+◌, ◌<◌, ◌≤◌, length};
+ghost use Rattle.std.specs.Prelude.{◌≡◌, ◌+◌, ◌<◌, ◌≤◌, length, take};
 ghost use Rattle.basics.specs.Choice.{word};
 ghost use Rattle.basics.specs.Bytes.{hex_digit};
-ghost use Rattle.frame_log.specs.Text.{most_digits, decimal, hex, spaced, most_decimal, most_hex, Put, PutText};
+ghost use Rattle.frame_log.specs.Text.{most_digits, digit_count_up_to, decimal, hex, spaced, most_decimal, most_hex, Put, PutText};
 
 // The decimal digits of the largest number of 64 bits.
 pub(crate) const MOST_DIGITS: usize = 20;
@@ -21,13 +21,43 @@ pub(crate) fn put_bytes(room: &mut [u8], at: usize, text: &[u8]) -> usize
     at + basics::copy(text, &mut room[at..])
 }
 
+// How many decimal digits a number has.
+fn digit_count(n: u64) -> usize
+    ensures { result ≡ digit_count_up_to 19 n }
+{
+    let mut rest = n;
+    for count in 1..MOST_DIGITS {
+        if rest < 10 {
+            return count;
+        }
+        rest /= 10;
+    }
+    MOST_DIGITS
+}
+
+// Puts the decimal digits of a number at the front, and gives how many they are.
+fn decimal(n: u64, digits: &mut [u8; MOST_DIGITS]) -> usize
+    ensures within { result ≤ most_digits }
+    ensures text { take result digits.new ≡ decimal n }
+{
+    let count = digit_count(n);
+    let mut rest = n;
+    let mut i = count;
+    while 0 < i {
+        i -= 1;
+        digits[i] = b'0' + (rest % 10) as u8;
+        rest /= 10;
+    }
+    count
+}
+
 // A number in decimal.
 pub(crate) fn put_decimal(room: &mut [u8], at: usize, n: u64) -> usize
     requires { at + most_digits ≤ length room.old }
     ensures { Put (decimal n) most_digits at room.old result room.new }
 {
     let mut digits = [0u8; MOST_DIGITS];
-    let k = io::decimal(n, &mut digits);
+    let k = decimal(n, &mut digits);
     put_bytes(room, at, &digits[0..k])
 }
 

@@ -2,6 +2,8 @@
 // gave its log too.
 #![tactic(auto)]
 
-fn main() {
-    stream::print_log(libc::STDIN_FILENO, libc::STDOUT_FILENO);
+use std::io;
+
+fn main(rt: HostRuntime) -> io::Result<()> {
+    stream::print_log(&mut rt.stdin(), &mut rt.stdout())
 }

@@ -5,8 +5,8 @@
 use frames::answer::Answer;
 use frames::kind::{ANTENNAS, BATTERY, ORDER, REPORT_BYTES, TICK};
 use frames::sender::Origin;
-use libc::STDOUT_FILENO;
 use morse::{Keyed, MOST_UNITS};
+use std::io;
 use supervisor::fresh::fresh;
 use supervisor::state::{Mode, State};
 use supervisor::step::step;
@@ -26,16 +26,6 @@ const ASCEND: u16 = 7400;
 // The number of the module COMM2.
 const COMM2: u8 = 2;
 
-// Writes a text.
-fn say(text: &[u8]) {
-    io::write_all(STDOUT_FILENO, text);
-}
-
-// Writes a number.
-fn say_number(n: u64) {
-    io::print_decimal(STDOUT_FILENO, n);
-}
-
 // A reading of the battery, as a frame.
 fn battery(millivolts: u16) -> [u8; 3] {
     [BATTERY, (millivolts / 256) as u8, (millivolts % 256) as u8]
@@ -44,12 +34,9 @@ fn battery(millivolts: u16) -> [u8; 3] {
 // The state after a frame, worked a number of times.
 fn after(mut state: State, frame: &[u8], times: u32) -> State {
     let mut report = [0u8; REPORT_BYTES];
-    let mut i = 0;
-    while i < times {
+    for _ in 0..times {
         let stepped = step(state, frame, &mut report);
-        let next = stepped.state;
-        state = next;
-        i += 1;
+        state = stepped.state;
     }
     state
 }
@@ -90,108 +77,95 @@ fn in_recovery(state: State) -> bool {
 
 // The ticks that it takes from a state to RECOVERY; 0 where `MOST_TICKS` are not enough.
 fn ticks_to_recovery(mut state: State) -> u64 {
-    let mut ticks = 0;
-    while ticks < MOST_TICKS {
-        let next = after_ticks(state, 1);
-        state = next;
-        ticks += 1;
+    for ticks in 0..MOST_TICKS {
+        state = after_ticks(state, 1);
         if in_recovery(state) {
-            return ticks;
+            return ticks + 1;
         }
     }
     0
 }
 
 // Writes the tick after which the mode is RECOVERY.
-fn say_recovery(state: State) {
-    say(b"RECOVERY after tick ");
-    say_number(ticks_to_recovery(state));
-    say(b"\n");
+fn say_recovery(rt: &impl Print, state: State) -> io::Result<()> {
+    let ticks = ticks_to_recovery(state);
+    println!(rt; "RECOVERY after tick {ticks}")
 }
 
 // Writes the answer to a reading of the battery.
-fn say_battery(millivolts: u16) {
+fn say_battery(rt: &impl Print, millivolts: u16) -> io::Result<()> {
     let frame = battery(millivolts);
     let mut report = [0u8; REPORT_BYTES];
     let stepped = step(fresh(), &frame, &mut report);
-    let answer = stepped.answer;
-    say(b"battery ");
-    say_number(millivolts as u64);
-    match answer {
-        Answer::Done => say(b": done\n"),
-        _ => {
-            say(b": refusal ");
-            say_number(answer.number() as u64);
-            say(b"\n");
-        }
+    match stepped.answer {
+        Answer::Done => println!(rt; "battery {millivolts}: done"),
+        answer => println!(rt; "battery {millivolts}: refusal {}", answer.number()),
     }
 }
 
 // Writes how many units a text has.
-fn say_units(text: &[u8]) {
+fn say_units(rt: &impl Print, text: &str) -> io::Result<()> {
     let mut units = [0u8; MOST_UNITS];
-    say(text);
-    match morse::key(text, &mut units) {
-        Keyed::Done(count) => {
-            say(b": ");
-            say_number(count as u64);
-            say(b" units\n");
-        }
-        _ => say(b": refused\n"),
+    match morse::key(text.as_bytes(), &mut units) {
+        Keyed::Done(count) => println!(rt; "{text}: {count} units"),
+        _ => println!(rt; "{text}: refused"),
     }
 }
 
 // Writes whether COMM2 is on.
-fn say_comm2(state: State) {
+fn say_comm2(rt: &impl Print, state: State) -> io::Result<()> {
     let on = state.masks.on;
     if (on >> COMM2) % 2 == 1 {
-        say(b"on");
+        print!(rt; "on")
     } else {
-        say(b"off");
+        print!(rt; "off")
     }
 }
 
 // Writes it of both craft.
-fn say_both(weaker: State, stronger: State) {
-    say(b": weaker ");
-    say_comm2(weaker);
-    say(b", stronger ");
-    say_comm2(stronger);
-    say(b"\n");
+fn say_both(rt: &impl Print, weaker: State, stronger: State) -> io::Result<()> {
+    print!(rt; ": weaker ")?;
+    say_comm2(rt, weaker)?;
+    print!(rt; ", stronger ")?;
+    say_comm2(rt, stronger)?;
+    println!(rt)
 }
 
 // Two craft with the same frames but for one reading, at ascend on the weaker and above it on the stronger.
-fn say_two_craft() {
+fn say_two_craft(rt: &impl Print) -> io::Result<()> {
     let settled = after_ticks(after_deployed(fresh()), TICKS_TO_RECOVERY);
     let mut weaker = after_ticks(after_reading(settled, ASCEND), JUDGE_TICKS);
     let mut stronger = after_ticks(after_reading(settled, ASCEND + 1), JUDGE_TICKS);
-    say(b"COMM2 at 7400 mV and 7401 mV");
-    say_both(weaker, stronger);
+    print!(rt; "COMM2 at 7400 mV and 7401 mV")?;
+    say_both(rt, weaker, stronger)?;
     weaker = after_comm2(weaker, 1, 0);
     stronger = after_comm2(stronger, 1, 0);
-    say(b"COMM2 ordered off");
-    say_both(weaker, stronger);
+    print!(rt; "COMM2 ordered off")?;
+    say_both(rt, weaker, stronger)?;
     weaker = after_ticks(after_reading(weaker, ASCEND + 1), JUDGE_TICKS - 1);
     stronger = after_ticks(after_reading(stronger, ASCEND + 1), JUDGE_TICKS - 1);
-    say(b"COMM2 after the weaker's own upward crossing");
-    say_both(weaker, stronger);
+    print!(rt; "COMM2 after the weaker's own upward crossing")?;
+    say_both(rt, weaker, stronger)?;
     weaker = after_comm2(weaker, 2, 1);
     stronger = after_comm2(stronger, 2, 1);
-    say(b"COMM2 ordered on");
-    say_both(weaker, stronger);
+    print!(rt; "COMM2 ordered on")?;
+    say_both(rt, weaker, stronger)
 }
 
 // Writes each of them on a line.
-fn main() {
-    say(b"deployed reported before the first tick: ");
-    say_recovery(after_deployed(fresh()));
-    say(b"deployed never reported: ");
-    say_recovery(fresh());
-    say_battery(4999);
-    say_battery(5000);
-    say_battery(9000);
-    say_battery(9001);
-    say_units(b"EMS R 7000");
-    say_units(b"0000000000000000000000000000000000000000000000000000000000000000");
-    say_two_craft();
+fn main(rt: HostRuntime) -> io::Result<()> {
+    print!(rt; "deployed reported before the first tick: ")?;
+    say_recovery(&rt, after_deployed(fresh()))?;
+    print!(rt; "deployed never reported: ")?;
+    say_recovery(&rt, fresh())?;
+    say_battery(&rt, 4999)?;
+    say_battery(&rt, 5000)?;
+    say_battery(&rt, 9000)?;
+    say_battery(&rt, 9001)?;
+    say_units(&rt, "EMS R 7000")?;
+    say_units(
+        &rt,
+        "0000000000000000000000000000000000000000000000000000000000000000",
+    )?;
+    say_two_craft(&rt)
 }

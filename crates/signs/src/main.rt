@@ -3,97 +3,87 @@
 #![tactic(auto)]
 
 use hearing::Heard;
-use libc::STDOUT_FILENO;
 use morse::Keyed;
 use morse::texts::LONGEST;
+use std::io;
 
 // Room for the units of any sign: they are 19 at most.
 const SIGN_ROOM: usize = 32;
 
 // Bytes to standard output.
-fn say(text: &[u8]) {
-    io::write_all(STDOUT_FILENO, text);
+fn say(rt: &impl Print, text: &[u8]) -> io::Result<()> {
+    rt.write_all(text)
 }
 
 // A mark, by the units for which the key is down.
-fn say_mark(down: usize) {
+fn say_mark(rt: &impl Print, down: usize) -> io::Result<()> {
     match down {
-        0 => (),
-        1 => say(b"."),
-        3 => say(b"-"),
-        _ => say(b"!"),
+        0 => Ok(()),
+        1 => say(rt, b"."),
+        3 => say(rt, b"-"),
+        _ => say(rt, b"!"),
     }
 }
 
 // The marks that units have.
-fn say_marks(units: &[u8]) {
+fn say_marks(rt: &impl Print, units: &[u8]) -> io::Result<()> {
     let mut down = 0;
-    let mut i = 0;
-    while i < units.len() {
-        if units[i] == 1 {
+    for unit in units {
+        if *unit == 1 {
             down += 1;
         } else {
-            say_mark(down);
+            say_mark(rt, down)?;
             down = 0;
         }
-        i += 1;
     }
-    say_mark(down);
+    say_mark(rt, down)
 }
 
 // What reading units gives.
-fn say_heard(units: &[u8]) {
+fn say_heard(rt: &impl Print, units: &[u8]) -> io::Result<()> {
     let mut text = [0u8; LONGEST];
     match hearing::read(units, &mut text) {
-        Heard::Done(n) => {
-            if n <= LONGEST {
-                say(&text[0..n]);
-            }
-        }
-        _ => say(b"!"),
+        Heard::Done(n) if n <= LONGEST => say(rt, &text[0..n]),
+        Heard::Done(_) => Ok(()),
+        _ => say(rt, b"!"),
     }
 }
 
 // The marks of a keying, and what reading it gives.
-fn say_keyed(units: &[u8]) {
-    say_marks(units);
-    say(b" ");
-    say_heard(units);
-    say(b"\n");
+fn say_keyed(rt: &impl Print, units: &[u8]) -> io::Result<()> {
+    say_marks(rt, units)?;
+    say(rt, b" ")?;
+    say_heard(rt, units)?;
+    say(rt, b"\n")
 }
 
 // A byte, its sign, and what reading that gives.
-fn say_sign(byte: u8) {
+fn say_sign(rt: &impl Print, byte: u8) -> io::Result<()> {
     let text = [byte];
     let mut units = [0u8; SIGN_ROOM];
-    say(&text);
-    say(b" ");
+    say(rt, &text)?;
+    say(rt, b" ")?;
     match morse::key(&text, &mut units) {
-        Keyed::Done(n) => {
-            if n <= SIGN_ROOM {
-                say_keyed(&units[0..n]);
-            }
-        }
-        _ => say(b"!\n"),
+        Keyed::Done(n) if n <= SIGN_ROOM => say_keyed(rt, &units[0..n]),
+        Keyed::Done(_) => Ok(()),
+        _ => say(rt, b"!\n"),
     }
 }
 
 // The signs of the bytes from one to another.
-fn say_signs(first: u8, last: u8) {
-    let mut byte = first;
-    while byte < last {
-        say_sign(byte);
-        byte += 1;
+fn say_signs(rt: &impl Print, first: u8, last: u8) -> io::Result<()> {
+    for byte in first..=last {
+        say_sign(rt, byte)?;
     }
-    say_sign(last);
+    Ok(())
 }
 
 // The letters, the figures, then the full stop, the comma, the question mark and the slash.
-fn main() {
-    say_signs(b'A', b'Z');
-    say_signs(b'0', b'9');
-    say_sign(b'.');
-    say_sign(b',');
-    say_sign(b'?');
-    say_sign(b'/');
+fn main(rt: HostRuntime) -> io::Result<()> {
+    say_signs(&rt, b'A', b'Z')?;
+    say_signs(&rt, b'0', b'9')?;
+    say_sign(&rt, b'.')?;
+    say_sign(&rt, b',')?;
+    say_sign(&rt, b'?')?;
+    say_sign(&rt, b'/')
 }

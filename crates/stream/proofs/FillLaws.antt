@@ -3,12 +3,10 @@
 use Prim.Native.Nat.{ℕ, zero, suc, ◌+◌, ◌-◌, ◌<◌, ◌≤◌}
 use mathlib.Core.Path.{◌≡◌, refl, ap, sym, ◌∙◌}
 use mathlib.Core.Bool.{Bool}
-use mathlib.Core.Logic.{◌⊎◌, inl, inr, ⊎_elim}
-use mathlib.Core.List.{List, [], ◌∷◌, ◌++◌, append_assoc}
+use mathlib.Core.Logic.{◌⊎◌, inl, inr}
+use mathlib.Core.List.{List, ◌++◌, append_assoc}
 use native.Mathlib.Nat.{zero-add, add-zero, add_assoc}
 use native.Mathlib.Omega.{arith}
-use types.Run.{OneOf}
-use denote.Enum.Declared.{tag_of}
 use lib.ListN.{length, take, drop, length-append, length-drop}
 use lib.Seq.{length-take-le, take-append-add, drop-append-add, drop-drop}
 use Rattle.basics.specs.Outcome.{Outcome, outcome}
@@ -18,7 +16,6 @@ use Rattle.frame_log.specs.declared.entry.Entered.{Entered}
 use Rattle.frame_log.specs.declared.entry.Entry.{Entry}
 use Rattle.frame_log.specs.declared.entry.Entry.TheVariants.{Line, Last, More, Full}
 use Rattle.frame_log.specs.declared.entry.Log.{Log}
-use Rattle.frame_log.specs.contracts.entry.Entry.{the_type}
 use Rattle.frame_log.proofs.EntryLaws.{Within, enter_within, enter_length, line_within}
 use Rattle.stream.specs.Piece.{ending, following, continued, fill_up_to, fill_of}
 use Rattle.stream.specs.declared.piece.Filled.{Filled}
@@ -51,11 +48,11 @@ module _ (entries : ℕ) (log : Log) (bytes : List ℕ) (ended : Bool) (room : L
   up_to_stop (inr e) = rw (k, e)
 
 -- the entries that are no line
-stops : (e : Entry) → OneOf (2 ∷ 3 ∷ []) (tag_of the_type e) → (e ≡ More) ⊎ (e ≡ Full)
-stops More t = inl refl
-stops Full t = inr refl
-stops (Line frame line) t = absurd (⊎_elim (λ h. omega arith) (λ h. omega arith) t)
-stops (Last line) t = absurd (⊎_elim (λ h. omega arith) (λ h. omega arith) t)
+stops : (e : Entry) → ((frame line : ℕ) → e ≡ Line frame line → ⊥) → ((line : ℕ) → e ≡ Last line → ⊥) → (e ≡ More) ⊎ (e ≡ Full)
+stops More no_line no_last = inl refl
+stops Full no_line no_last = inr refl
+stops (Line frame line) no_line no_last = absurd (no_line frame line refl)
+stops (Last line) no_line no_last = absurd (no_last line refl)
 
 -- where the turns of a piece stand: what is used and what the lines have lie within, and what is left makes up the whole
 pub record Underway (log₀ : Log) (bytes : List ℕ) (ended : Bool) (room₀ : List ℕ) (log : Log) (room : List ℕ) (used lines : ℕ) : Type 0 where
@@ -125,9 +122,9 @@ module _ {log₀ : Log} {bytes : List ℕ} {ended : Bool} {room₀ : List ℕ} {
 
   -- no line: the piece ends there
   pub underway_stop :
-      OneOf (2 ∷ 3 ∷ []) (tag_of the_type entered.entry) →
+      ((frame line : ℕ) → entered.entry ≡ Line frame line → ⊥) → ((line : ℕ) → entered.entry ≡ Last line → ⊥) →
       outcome (record { entry = entered.entry; log = entered.log; used = used; lines = lines }) (lent_back room lines later) ≡ fill_of log₀ bytes ended room₀
-  underway_stop t = rw room_after (simp (up_to_stop u.entries log (drop used bytes) ended (drop lines room) entry_left (stops entered.entry t), add-zero) at u.rest)
+  underway_stop no_line no_last = rw room_after (simp (up_to_stop u.entries log (drop used bytes) ended (drop lines room) entry_left (stops entered.entry no_line no_last), add-zero) at u.rest)
 
 -- what is used and what the lines have lie within the bytes and the room
 abbrev FilledWithin : Outcome Filled → (bytes room : ℕ) → Type 0

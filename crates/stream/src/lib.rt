@@ -1,13 +1,18 @@
 // A stream read piece by piece and logged: its lines are gathered in a room, and written whenever that is full or the
-// piece is done. No contract can say what is read or written; what a piece gives is piece's, and a line the log's.
+// piece is done. What a piece gives is piece's, and a line the log's.
 #![tactic(auto)]
 
-ghost use Rattle.std.specs.Prelude.{◌≡◌, ◌≤◌, length};
+ghost use Rattle.std.specs.Prelude.{◌≡◌, ◌≤◌, length, IfOk};
 
 use crate::piece::{fill, keep};
 use frame_log::entry::{Entry, Log, fresh};
+use std::io;
+use std::io::{Read, Write};
 
 mod piece;
+
+// The room for the bytes of a piece, and that for its lines: much for each read and each write.
+const PIECE: usize = 65536;
 
 // Where a stream stands: the log, how many bytes are read and not yet used, and whether the stream has ended and the
 // log is over.
@@ -30,78 +35,69 @@ impl Stream {
 }
 
 // The stream after a read into what is left of its bytes.
-fn read(mut stream: Stream, from: i32, bytes: &mut [u8]) -> Stream
+fn read<R: Read>(mut stream: Stream, from: &mut R, bytes: &mut [u8]) -> io::Result<Stream>
     requires { stream.unused ≤ length bytes.old }
-    ensures { result.unused ≤ length bytes.old }
+    ensures { IfOk result (λ next. next.unused ≤ length bytes.old) }
 {
     let unused = stream.unused;
-    let part = &mut bytes[unused..];
-    let got = libc::read(from, part);
-    if got < 0 {
-        os::fail(b"read");
-        return stream.closed();
-    }
-    stream.unused = unused + io::count(got, part);
+    let got = from.read(&mut bytes[unused..])?;
+    stream.unused = unused + got;
     stream.ended = got == 0;
-    stream
+    Ok(stream)
 }
 
 // One turn: the frames at hand are entered and their lines written; where they are used up, more is read.
-fn turn(stream: Stream, from: i32, to: i32, bytes: &mut [u8], room: &mut [u8]) -> Stream
+fn turn<R: Read, W: Write>(
+    stream: Stream,
+    from: &mut R,
+    to: &mut W,
+    bytes: &mut [u8],
+    room: &mut [u8],
+) -> io::Result<Stream>
     requires { stream.unused ≤ length bytes.old }
-    ensures { result.unused ≤ length bytes.old }
+    ensures { IfOk result (λ next. next.unused ≤ length bytes.old) }
 {
     let unused = stream.unused;
     let ended = stream.ended;
     let filled = fill(stream.log, &bytes[0..unused], ended, room);
     let entry = filled.entry;
     let log = filled.log;
-    let lines = filled.lines;
-    let is_written = io::write_all(to, &room[0..lines]);
+    to.write_all(&room[0..filled.lines])?;
     let next = Stream {
         log,
         unused: keep(bytes, filled.used, unused),
         ended,
         over: false,
     };
-    if !is_written {
-        os::fail(b"write");
-        return next.closed();
-    }
     match entry {
-        Entry::Full => next,
+        Entry::Full => Ok(next),
         Entry::More => {
             if ended {
-                next.closed()
+                Ok(next.closed())
             } else {
                 read(next, from, bytes)
             }
         }
-        _ => next.closed(),
+        _ => Ok(next.closed()),
     }
 }
 
-// Logs the stream that is read from one descriptor to another, until it ends or a frame is refused.
-pub fn print_log(from: i32, to: i32) {
-    let header = b"n kind origin serial answer mode requested on failed beacon\n";
-    if !io::write_all(to, header) {
-        os::fail(b"write");
-        return;
-    }
-    let mut bytes = io::large_buffer();
-    let mut room = io::large_buffer();
+// Logs the stream that is read, until it ends or a frame is refused. A read or a write that fails is the error.
+pub fn print_log<R: Read, W: Write>(from: &mut R, to: &mut W) -> io::Result<()> {
+    to.write_all(b"n kind origin serial answer mode requested on failed beacon\n")?;
+    let mut bytes = [0u8; PIECE];
+    let mut room = [0u8; PIECE];
     let mut stream = Stream {
         log: fresh(),
         unused: 0,
         ended: false,
         over: false,
     };
-    let mut turns = u64::MAX;
-    while 0 < turns {
+    for _ in 0..u64::MAX {
         if stream.over {
-            return;
+            break;
         }
-        stream = turn(stream, from, to, &mut bytes, &mut room);
-        turns -= 1;
+        stream = turn(stream, from, to, &mut bytes, &mut room)?;
     }
+    Ok(())
 }
