@@ -1,5 +1,5 @@
-# What ./ems, ./step-log, host/test and host/bench share: is a file stale, a build that keeps its lines to itself, and
-# what to do where something is missing. To be sourced; $me is who speaks.
+# What ./ems, ./step-log, host/library, host/test and host/bench share: is a file stale, a build that keeps its lines to
+# itself, and what to do where something is missing. To be sourced; $me is who speaks.
 
 checkout=$(dirname "$(dirname "$(readlink -f "${BASH_SOURCE[0]}")")")
 
@@ -69,13 +69,28 @@ require_library() {
     local library=$checkout/target/staticlib/libflight.a
     if [ -z "${EMS_LIB_DIR:-}" ] && stale "$library" "$checkout"/{crates,crates.txt}; then
         there rt || without "rt isn't there, and $library is missing or old"
-        (cd "$checkout" && rt staticlib flight)
+        prove_library
     fi
 }
 
-# Whether a file is missing, or older than a file among and under those named after it.
+# Proves flight_c and all below it, and makes target/staticlib/libflight.a of it.
+prove_library() {
+    (cd "$checkout/crates/flight_c" && rt lib) && place crates/flight_c/out/libflight_c.a target/staticlib/libflight.a
+}
+
+# Proves step_log and all below it, and makes target/bin/step_log of it. rt builds a program only to run it: on no frames.
+prove_step_log() {
+    (cd "$checkout/crates/step_log" && rt run </dev/null) && place crates/step_log/out/step_log target/bin/step_log
+}
+
+# Copies a file of the checkout to another place, all at once: rt sets what it made aside at times.
+place() { # FROM TO
+    mkdir -p "$checkout/${2%/*}" && cp "$checkout/$1" "$checkout/$2.new" && mv "$checkout/$2.new" "$checkout/$2"
+}
+
+# Whether a file is missing, or older than a file among and under those named after it. An out/ is rt's own.
 stale() {
-    [ ! -f "$1" ] || [ -n "$(find "${@:2}" -type f -newer "$1" -print -quit 2>/dev/null)" ]
+    [ ! -f "$1" ] || [ -n "$(find "${@:2}" -name out -prune -o -type f -newer "$1" -print -quit 2>/dev/null)" ]
 }
 
 # Whether a build can write here; if so, the file of its lines begins anew.

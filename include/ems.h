@@ -1,6 +1,6 @@
 /* ems.h: the power-board supervisor, as C and C++ call it.
  *
- * The library is libflight.a, built by `rt staticlib flight`. Every call is
+ * The library is libflight.a, built by `host/library`. Every call is
  * proved to do exactly what its contract says, for all bytes and numbers it is
  * given. It allocates nothing, keeps nothing between calls, and always returns.
  *

@@ -1,5 +1,5 @@
 # What host/bench/run and host/bench/check share: what they need, and the program that measures. To be sourced; $me is
-# who speaks. The library is that of `rt staticlib flight`, built again where it is old, or the one in EMS_LIB_DIR. With
+# who speaks. The library is that of `host/library`, built again where it is old, or the one in EMS_LIB_DIR. With
 # CI=true anything missing is a failure; elsewhere it is said on standard error, and nothing is measured.
 
 . "$(dirname "${BASH_SOURCE[0]}")/../build.sh"

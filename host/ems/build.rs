@@ -1,4 +1,4 @@
-//! Links the proved library, wherever `rt staticlib flight` (or whoever sets
+//! Links the proved library, wherever `host/library` (or whoever sets
 //! `EMS_LIB_DIR`) has put it.
 
 use std::{env, path::PathBuf, process::exit};
@@ -12,7 +12,7 @@ fn main() {
     println!("cargo:rerun-if-changed={}", library.display());
     if !library.is_file() {
         eprintln!("{} isn't there.", library.display());
-        eprintln!("Build it with `rt staticlib flight` in the repository's top folder,");
+        eprintln!("Build it with `host/library` in the repository's top folder,");
         eprintln!("or set EMS_LIB_DIR to the folder that holds libflight.a.");
         exit(1);
     }
