@@ -30,6 +30,7 @@ no-loss""".split()
 # Names that would fall together with another of ours: a law that would be called like its definition says that it is the
 # law, a wrong program that is shut out says so.
 APART = {
+    "notAKeying": "not_a_keying",
     "after-mark": "after_mark_law",
     "all-below": "all_below_law",
     "all_known": "all_known_law",
