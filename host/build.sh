@@ -73,19 +73,24 @@ require_library() {
     fi
 }
 
-# Proves flight_c and all below it, and makes target/staticlib/libflight.a of it.
+# Proves flight_c and all below it, and makes target/staticlib/libflight.a of it, for any x86-64 processor: rt's own choice
+# asks more of one.
 prove_library() {
-    (cd "$checkout/crates/flight_c" && rt lib) && place crates/flight_c/out/libflight_c.a target/staticlib/libflight.a
+    (cd "$checkout/crates/flight_c" && rt lib --cpu=x86-64) &&
+        place crates/flight_c/out/libflight_c.a target/staticlib/libflight.a
 }
 
 # Proves step_log and all below it, and makes target/bin/step_log of it. rt builds a program only to run it: on no frames.
 prove_step_log() {
-    (cd "$checkout/crates/step_log" && rt run </dev/null) && place crates/step_log/out/step_log target/bin/step_log
+    (cd "$checkout/crates/step_log" && rt run </dev/null) &&
+        place crates/step_log/out/step_log target/bin/step_log
 }
 
 # Copies a file of the checkout to another place, all at once: rt sets what it made aside at times.
 place() { # FROM TO
-    mkdir -p "$checkout/${2%/*}" && cp "$checkout/$1" "$checkout/$2.new" && mv "$checkout/$2.new" "$checkout/$2"
+    mkdir -p "$checkout/${2%/*}" &&
+        cp "$checkout/$1" "$checkout/$2.new" &&
+        mv "$checkout/$2.new" "$checkout/$2"
 }
 
 # Whether a file is missing, or older than a file among and under those named after it. An out/ is rt's own.
