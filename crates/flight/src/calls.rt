@@ -48,7 +48,8 @@ pub extern "C" fn ems_step(image: &mut [u8], frame: &[u8], room: &mut [u8]) -> u
     let state = decode(image);
     let after = supervisor::step::step(state, frame, room);
     let answer = after.answer;
-    if answer.is_reported() {
+    let reported = answer.is_reported();
+    if reported {
         save(after.state, image);
     }
     answer.number()
