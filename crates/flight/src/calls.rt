@@ -1,4 +1,5 @@
-// What C and Rust call. An image is the caller's: 71 bytes, the whole state.
+// What C and Rust call, by way of `flight_c`: no function of a library is exported. An image is the caller's: 71 bytes,
+// the whole state.
 // A slice passes as a pointer and a length, a count through a pointer; each call answers the page's number.
 ghost use Rattle.std.specs.Prelude.{◌≡◌};
 ghost use Rattle.basics.specs.Outcome.{outcome, reply};
