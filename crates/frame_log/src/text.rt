@@ -2,7 +2,8 @@
 ghost use Rattle.std.specs.Prelude.{◌≡◌, ◌+◌, ◌<◌, ◌≤◌, length, take};
 ghost use Rattle.basics.specs.Choice.{word};
 ghost use Rattle.basics.specs.Bytes.{hex_digit};
-ghost use Rattle.frame_log.specs.Text.{most_digits, digit_count_up_to, decimal, hex, spaced, most_decimal, most_hex, Put, PutText};
+ghost use Rattle.frame_log.specs.Text.{most_digits, digit_count_up_to, decimal, hex, spaced};
+ghost use Rattle.frame_log.specs.Text.{most_decimal, most_hex, Put, PutText};
 
 // The decimal digits of the largest number of 64 bits.
 pub(crate) const MOST_DIGITS: usize = 20;
