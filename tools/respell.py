@@ -22,11 +22,12 @@ DECLARED = re.compile(
 USE = re.compile(r"\buse ([^\s;{]+)(\{[^}]*\})?")
 ALIAS = re.compile(r"\buse [^\s;{]+ as ([a-z][^\s;]*)")
 OF_A_FUNCTION = re.compile(r"/proofs/.*/(Proof|Answers|Invariants)\.antt$")
-# Parameters, and what a proof has for itself.
 # The library has an `if◌then◌else◌` of its own now, which takes no chain of cases without brackets: ours is called otherwise.
 CHOICE = {"if": "when", "if◌then◌else◌": "when◌then◌else◌"}
+# Parameters, and what a proof has for itself.
 LOCAL = """worksIn watchOf backOf andZero andPower voltsBefore voltsAfter ampsBefore ampsAfter mostTicks isKnown after-pass no-space
-no-loss""".split()
+no-loss own-tries own-seconds add-two add-three with-masks with-ends with-message worked-eight rest-too frame-leaves
+tick-leaves is-short tick-keeps frame-keeps modules-out message-left by-rule in-flight true-masks""".split()
 # Names that would fall together with another of ours: a law that would be called like its definition says that it is the
 # law, a wrong program that is shut out says so.
 APART = {

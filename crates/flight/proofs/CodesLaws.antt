@@ -83,9 +83,9 @@ pub power_back : (p : Power) → T (power_in_range p) → power_from (power_code
 power_back (On tries seconds) h =
     let fits : OnFits tries seconds = on_fits tries seconds h in
     let code : ℕ = (tries - 1) * clean_seconds + seconds in
-    let own-tries : code / clean_seconds + 1 ≡ tries = omega (arith, fits.low, fits.few) in
-    let own-seconds : code % clean_seconds ≡ seconds = omega (arith, fits.low, fits.few) in
-    rw (le-leb code all_tries_code (omega (arith, fits.low, fits.held)), own-tries, own-seconds)
+    let own_tries : code / clean_seconds + 1 ≡ tries = omega (arith, fits.low, fits.few) in
+    let own_seconds : code % clean_seconds ≡ seconds = omega (arith, fits.low, fits.few) in
+    rw (le-leb code all_tries_code (omega (arith, fits.low, fits.held)), own_tries, own_seconds)
 power_back (Off tries) h =
     let least = within_low 1 full_tries tries h in
     let most = within_high 1 full_tries tries h in

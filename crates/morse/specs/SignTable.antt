@@ -1,7 +1,8 @@
 -- The code's form of a sign, dashes as bits; the rule that its tables meet, each for a run of bytes: which signs they are,
 -- and how long; and the rule by which it works out the figures.
 -- Assumes nothing.
-use Rattle.std.specs.Prelude.{ℕ, zero, suc, ◌+◌, ◌-◌, ◌*◌, ◌/◌, ◌%◌, Bool, true, false, ◌&&◌, List, [], ◌∷◌, ◌++◌, T, eqb, length, get_or, replicate}
+use Rattle.std.specs.Prelude.{ℕ, zero, suc, ◌+◌, ◌-◌, ◌*◌, ◌/◌, ◌%◌, eqb}
+use Rattle.std.specs.Prelude.{Bool, true, false, ◌&&◌, T, List, [], ◌∷◌, ◌++◌, length, get_or, replicate}
 use Rattle.std.specs.Int.Count.{ones_in}
 use Rattle.basics.specs.Choice.{when◌then◌else◌, within}
 use Rattle.basics.specs.Tables.{all_below}

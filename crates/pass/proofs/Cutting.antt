@@ -67,8 +67,8 @@ next_frames :
     ((s' : State) (room' : List ℕ) → length (rest_of input) < length input → (in_order s' (frames_in (rest_of input)) room').result.answer ≡ Done →
     frames_in (rest_of input ++ more) ≡ frames_in (rest_of input) ++ frames_in more) →
     (in_order s (frames_in input) room).result.answer ≡ Done → frames_in (input ++ more) ≡ frames_in input ++ frames_in more
-next_frames [] more s room rest-too done = rw (frames_none [] refl)
-next_frames (kind ∷ fields) more s room rest-too done =
+next_frames [] more s room rest_too done = rw (frames_none [] refl)
+next_frames (kind ∷ fields) more s room rest_too done =
     let input = kind ∷ fields in
     let some : 0 < length input = omega arith in
     let first = frames_first input some in
@@ -79,7 +79,7 @@ next_frames (kind ∷ fields) more s room rest-too done =
     let fits : length (front_of input) ≤ length input = rw (length_front input) (front_within input) in
     let rest : drop (length (front_of input)) (input ++ more) ≡ rest_of input ++ more = drop-append-le (length (front_of input)) input more fits in
     let less : length (rest_of input) < length input = rw (length-drop (length (front_of input)) input) (omega (arith, front_some input some)) in
-    let others = rest-too one.result.state (drop report_bytes one.room) less (rw (order_follows s (front_of input) (frames_in (rest_of input)) room e) at all) in
+    let others = rest_too one.result.state (drop report_bytes one.room) less (rw (order_follows s (front_of input) (frames_in (rest_of input)) room e) at all) in
     rw (frames_first (input ++ more) (omega arith), first, same, rest, others)
 
 frames_append :

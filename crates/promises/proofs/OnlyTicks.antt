@@ -56,19 +56,19 @@ turn s c = turn_by s c (comes s c)
 
 module _ {Part : Type 0} (part : State → Part) where
   -- what every frame other than a tick leaves
-  module _ (frame-leaves : (f : Frame) (text : List ℕ) → Fits f text → is_tick (about (Accepted f)) ≡ false → (s : State) → part (act_of f text s).state ≡ part s) where
+  module _ (frame_leaves : (f : Frame) (text : List ℕ) → Fits f text → is_tick (about (Accepted f)) ≡ false → (s : State) → part (act_of f text s).state ≡ part s) where
     by_others : (s : State) (c : Call) → done_tick s c ≡ false → Comes s c → part (called s c).result.state ≡ part s
     by_others s c e (stopped answer w) = rw w.leaves
     by_others s c e (ticking shorts w) = absurd (true≢false (sym w.tick ∙ e))
-    by_others s c e (other f t w) = rw w.leaves (frame-leaves f (greeting_text c.input) w.fits t s)
+    by_others s c e (other f t w) = rw w.leaves (frame_leaves f (greeting_text c.input) w.fits t s)
 
     others_leave : OthersLeave Part part
     others_leave s c e = by_others s c e (comes s c)
 
   -- what every tick leaves
-  module _ (tick-leaves : (shorts : ℕ) (s : State) → part (ticked shorts s).state ≡ part s) where
+  module _ (tick_leaves : (shorts : ℕ) (s : State) → part (ticked shorts s).state ≡ part s) where
     by_ticks : (s : State) (c : Call) → T (done_tick s c) → Turn s c → part (called s c).result.state ≡ part s
-    by_ticks s c d (moves shorts w) = rw w.leaves (tick-leaves shorts s)
+    by_ticks s c d (moves shorts w) = rw w.leaves (tick_leaves shorts s)
     by_ticks s c d (still e) = absurd (rw e at d)
 
     ticks_leave : TicksLeave Part part

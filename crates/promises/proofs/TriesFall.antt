@@ -134,7 +134,7 @@ fails i tries s since c t dear last =
     let w : Bool = wanted_in (called s' c).result.state i in
     let short : Bool = shorted i (about_of c) in
     let found : T (done_tick s' c && short) = and_left (done_tick s' c && short) (costs w p) dear in
-    let is-short : short ≡ true = is_true short (and_right (done_tick s' c) short found) in
+    let is_short : short ≡ true = is_true short (and_right (done_tick s' c) short found) in
     let one : tries_left p ≡ 1 = fall i tries s since t (omega arith) ∙ omega arith in
     second i s' c (and_left (done_tick s' c) short found) (stays_deployed s since t.flies)
-    ∙ ap (λ b. switched w b p) is-short ∙ costs_one w p (and_right (done_tick s' c && short) (costs w p) dear) ∙ ap one_try_fewer one
+    ∙ ap (λ b. switched w b p) is_short ∙ costs_one w p (and_right (done_tick s' c && short) (costs w p) dear) ∙ ap one_try_fewer one

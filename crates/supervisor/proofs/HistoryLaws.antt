@@ -124,13 +124,13 @@ take_roomy (suc n) (c ∷ cs) r = (r.0, take_roomy n cs r.1)
 -- a property of states that every done tick and every other frame keeps is kept by every call, and so by every history
 module _
     (P : State → Type 0)
-    (tick-keeps : (shorts : ℕ) (s : State) → T (in_range s) → P s → P (ticked shorts s).state)
-    (frame-keeps :
+    (tick_keeps : (shorts : ℕ) (s : State) → T (in_range s) → P s → P (ticked shorts s).state)
+    (frame_keeps :
     (f : Frame) (text : List ℕ) → Fits f text → is_tick (about (Accepted f)) ≡ false → (s : State) → T (in_range s) → P s → P (act_of f text s).state) where
   keeps_by : (s : State) (c : Call) → P s → Comes s c → P (called s c).result.state
   keeps_by s c p (stopped answer w) = rw w.leaves p
-  keeps_by s c p (ticking shorts w) = rw w.leaves (tick-keeps shorts s w.valid p)
-  keeps_by s c p (other f e w) = rw w.leaves (frame-keeps f (greeting_text c.input) w.fits e s w.valid p)
+  keeps_by s c p (ticking shorts w) = rw w.leaves (tick_keeps shorts s w.valid p)
+  keeps_by s c p (other f e w) = rw w.leaves (frame_keeps f (greeting_text c.input) w.fits e s w.valid p)
 
   pub called_keeps : (s : State) (c : Call) → P s → P (called s c).result.state
   called_keeps s c p = keeps_by s c p (comes s c)

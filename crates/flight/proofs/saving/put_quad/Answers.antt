@@ -19,11 +19,11 @@ pub shape_of-bytes : goal.shape_of-bytes
 shape_of-bytes c = simp length-set
 
 -- the places of the third and the fourth
-add-two : (n : ℕ) → n + 2 ≡ suc (suc n)
-add-two n = omega arith
+add_two : (n : ℕ) → n + 2 ≡ suc (suc n)
+add_two n = omega arith
 
-add-three : (n : ℕ) → n + 3 ≡ suc (suc (suc n))
-add-three n = omega arith
+add_three : (n : ℕ) → n + 3 ≡ suc (suc (suc n))
+add_three n = omega arith
 
 pub returns : goal.returns
-returns c = simp (add-one, add-two, add-three)
+returns c = simp (add-one, add_two, add_three)

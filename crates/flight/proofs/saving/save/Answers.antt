@@ -19,12 +19,12 @@ returns c =
     let s = c.args.state in
     let eight : Eight s = search (rules, length_mapped) in
     let stored : List ℕ → List ℕ = λ r. sets r modules_place (modules_bytes s.modules) in
-    let with-masks : List ℕ → List ℕ = λ r. stored (sets r masks_place (masks_bytes s.masks)) in
-    let with-ends : List ℕ → List ℕ = λ r. with-masks (sets r ends_place (ends_bytes s.ends)) in
-    let with-message : List ℕ → List ℕ = λ r. with-ends (sets r message_place (message_bytes s.message)) in
+    let with_masks : List ℕ → List ℕ = λ r. stored (sets r masks_place (masks_bytes s.masks)) in
+    let with_ends : List ℕ → List ℕ = λ r. with_masks (sets r ends_place (ends_bytes s.ends)) in
+    let with_message : List ℕ → List ℕ = λ r. with_ends (sets r message_place (message_bytes s.message)) in
     c.put_modules.ensures
     ∙ ap stored c.put_masks.ensures
-    ∙ ap with-masks c.put_ends.ensures
-    ∙ ap with-ends c.put_message.ensures
-    ∙ ap with-message c.copy.ensures.1
+    ∙ ap with_masks c.put_ends.ensures
+    ∙ ap with_ends c.put_message.ensures
+    ∙ ap with_message c.copy.ensures.1
     ∙ stored_state s _ c.args.image.now c.head-front.ensures c.requires.1 eight c.requires.0

@@ -98,12 +98,12 @@ returns c =
     let shorts = c.args.shorts in
     let eight : length ms ≡ 8 = search (rules, length_mapped) in
     let e : c.loop-rest.i ≡ 8 = marked_end _ _ _ c.loop-rest.invariant.low c.loop-rest.invariant.left (search rules) in
-    let worked-eight : length (switched_by wanted shorts ms) ≡ 8 = length_each (module_switched wanted shorts) ms ∙ eight in
+    let worked_eight : length (switched_by wanted shorts ms) ≡ 8 = length_each (module_switched wanted shorts) ms ∙ eight in
     let all : c.loop-rest.all ≡ powers (switched_by wanted shorts ms) =
     (rw e at c.loop-rest.invariant.gathered)
     ∙ mul-one _
-    ∙ ap powers (take_all 8 (switched_by wanted shorts ms) (omega (arith, worked-eight))) in
+    ∙ ap powers (take_all 8 (switched_by wanted shorts ms) (omega (arith, worked_eight))) in
     same
     ((rw e at c.loop-rest.invariant.done) ∙ worked_all _ 8 ms eight)
-    (ap (λ (n : ℕ). n / 256 % 256) all ∙ powers_on (switched_by wanted shorts ms) worked-eight)
-    (ap (λ (n : ℕ). n / 65536 % 256) all ∙ powers_failed (switched_by wanted shorts ms) worked-eight)
+    (ap (λ (n : ℕ). n / 256 % 256) all ∙ powers_on (switched_by wanted shorts ms) worked_eight)
+    (ap (λ (n : ℕ). n / 65536 % 256) all ∙ powers_failed (switched_by wanted shorts ms) worked_eight)

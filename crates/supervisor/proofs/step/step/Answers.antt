@@ -34,10 +34,10 @@ write-requires c =
     let s = c.args.state in
     let bytes = c.args.input.now in
     let accepted : read_frame bytes ≡ Accepted _ = rw c.read-reading.ensures at c.in-Accepted.is in
-    let true-masks : HasMasks c.act-acted.result.state =
+    let true_masks : HasMasks c.act-acted.result.state =
     rw (c.act-acted.ensures, c.text_of.ensures)
     (acted_masks _ (greeting_text bytes) (rw accepted at (read_sound bytes)) s (holds (in_range s) (valid (goal.at.write-requires c).Else-not-in_range))) in
-    (c.if-room-lt-REPORT_BYTES.false, true-masks)
+    (c.if-room-lt-REPORT_BYTES.false, true_masks)
 
 pub returns-in-Refused : goal.returns-in-Refused
 unfolding step_of

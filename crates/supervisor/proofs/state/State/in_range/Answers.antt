@@ -17,18 +17,18 @@ first_out true true false ends modules masks h = refl
 first_out true true true false modules masks h = refl
 first_out true true true true modules masks h = absurd (true≢false h)
 
-modules-out : (rest modules masks : Bool) → modules && masks ≡ false → false ≡ (rest && modules && masks)
-modules-out false modules masks h = refl
-modules-out true modules masks h = sym h
+modules_out : (rest modules masks : Bool) → modules && masks ≡ false → false ≡ (rest && modules && masks)
+modules_out false modules masks h = refl
+modules_out true modules masks h = sym h
 
-message-left :
+message_left :
     (watch battery message ends modules masks : Bool) → watch && battery && ends ≡ true → modules && masks ≡ true →
     message ≡ (watch && battery && message && ends && modules && masks)
-message-left false battery message ends modules masks h k = absurd (false≢true h)
-message-left true false message ends modules masks h k = absurd (false≢true h)
-message-left true true message false modules masks h k = absurd (false≢true h)
-message-left true true false true modules masks h k = refl
-message-left true true true true modules masks h k = sym k
+message_left false battery message ends modules masks h k = absurd (false≢true h)
+message_left true false message ends modules masks h k = absurd (false≢true h)
+message_left true true message false modules masks h k = absurd (false≢true h)
+message_left true true false true modules masks h k = refl
+message_left true true true true modules masks h k = sym k
 
 -- the parts of a state
 abbrev watch_of : State → Bool
@@ -57,7 +57,7 @@ unfolding in_range
 returns-then-not-in_range-2 c =
     let s : State = c.args.self in
     let out : back_of s ≡ false = rw c.in_range-4.ensures at (not-true c.in_range-4.result c.if-not-in_range-2.true-raw) in
-    modules-out (watch_of s && battery_in_range s.battery && message_in_range s.message && ends_in_range s.ends)
+    modules_out (watch_of s && battery_in_range s.battery && message_in_range s.message && ends_in_range s.ends)
     (modules_in_range s.modules) (are_masks_of s.modules s.masks) out
 
 pub returns : goal.returns
@@ -73,5 +73,5 @@ returns c =
     (not-false (watch.result && battery.result && ends.result) c.if-not-in_range.false-raw) in
     let back : back_of s ≡ true = rw modules.ensures at (not-false modules.result c.if-not-in_range-2.false-raw) in
     c.in_range-5.ensures
-    ∙ message-left (watch_of s) (battery_in_range s.battery) (message_in_range s.message) (ends_in_range s.ends)
+    ∙ message_left (watch_of s) (battery_in_range s.battery) (message_in_range s.message) (ends_in_range s.ends)
     (modules_in_range s.modules) (are_masks_of s.modules s.masks) front back

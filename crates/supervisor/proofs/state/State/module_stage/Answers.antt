@@ -20,8 +20,8 @@ abbrev ruled : (shorts : ℕ) → State → List Module
 ruled shorts s = stage_of (allowed_in s.watch.mode) shorts s.modules
 
 -- what the stage gives are they, with their masks
-by-rule : (c : After-stage-after) → c.stage-after.result ≡ staged (ruled c.args.shorts c.args.self)
-by-rule c =
+by_rule : (c : After-stage-after) → c.stage-after.result ≡ staged (ruled c.args.shorts c.args.self)
+by_rule c =
     let s = c.args.self in
     c.stage-after.ensures
     ∙ ap (λ (n : ℕ). staged (switched_by (bit_and s.masks.requested n) c.args.shorts s.modules)) c.allowed.ensures
@@ -35,8 +35,8 @@ with_modules-requires c =
     let kept : s.masks.requested ≡ (masks_of after).requested =
     ap (λ (m : Masks). m.requested) c.requires
     ∙ sym (stage_requested (allowed_in s.watch.mode) c.args.shorts s.modules) in
-    rw (by-rule (goal.at.with_modules-requires c).After-stage-after) (ap (λ (n : ℕ). record { requested = n; on = (masks_of after).on; failed = (masks_of after).failed }) kept)
+    rw (by_rule (goal.at.with_modules-requires c).After-stage-after) (ap (λ (n : ℕ). record { requested = n; on = (masks_of after).on; failed = (masks_of after).failed }) kept)
 
 pub returns : goal.returns
 unfolding module_stage
-returns c = c.with_modules.ensures ∙ ap (λ (r : Staged). with_modules r.modules c.args.self) (by-rule (goal.at.returns c).After-stage-after)
+returns c = c.with_modules.ensures ∙ ap (λ (r : Staged). with_modules r.modules c.args.self) (by_rule (goal.at.returns c).After-stage-after)

@@ -21,8 +21,8 @@ flies (DeployWait phase) h = absurd (h phase refl)
 flies Recovery h = refl
 flies Safe h = refl
 
-in-flight : (c : In_default) → is_deploy_wait c.args.self.watch.mode ≡ false
-in-flight c = flies c.args.self.watch.mode c.in_default.not-DeployWait
+in_flight : (c : In_default) → is_deploy_wait c.args.self.watch.mode ≡ false
+in_flight c = flies c.args.self.watch.mode c.in_default.not-DeployWait
 
 pub tick-next-requires : goal.tick-next-requires
 tick-next-requires c =
@@ -35,7 +35,7 @@ pub before_modules-judged-requires : goal.before_modules-judged-requires
 before_modules-judged-requires c =
     let s : State = c.args.self in
     let valid = holds (in_range s) c.requires in
-    ((counts_of s valid (in-flight c)).control, (parts s valid).masks)
+    ((counts_of s valid (in_flight c)).control, (parts s valid).masks)
 
 pub module_stage-switched-requires : goal.module_stage-switched-requires
 module_stage-switched-requires c = rw c.before_modules-judged.ensures (before_masks c.args.self)
@@ -44,7 +44,7 @@ pub beacon_stage-requires : goal.beacon_stage-requires
 beacon_stage-requires c =
     let s : State = c.args.self in
     rw (c.module_stage-switched.ensures, c.before_modules-judged.ensures, staged_beacon)
-    (counts_of s (holds (in_range s) c.requires) (in-flight (goal.at.beacon_stage-requires c).In_default)).beacon
+    (counts_of s (holds (in_range s) c.requires) (in_flight (goal.at.beacon_stage-requires c).In_default)).beacon
 
 pub returns-in-DeployWait : goal.returns-in-DeployWait
 unfolding ticked
@@ -53,4 +53,4 @@ returns-in-DeployWait c = simp (c.silent.ensures, c.with_mode-self.ensures, c.ti
 pub returns-in_default : goal.returns-in_default
 returns-in_default c =
     simp (c.beacon_stage.ensures, c.module_stage-switched.ensures, c.before_modules-judged.ensures)
-    (ticked_stages _ c.args.self (in-flight (goal.at.returns-in_default c).In_default))
+    (ticked_stages _ c.args.self (in_flight (goal.at.returns-in_default c).In_default))
