@@ -16,8 +16,8 @@ use Rattle.frames.specs.contracts.serial.Serials.class
 use Rattle.frames.proofs.serial.Serials.class.Reads as class_reads
 use Rattle.frames.specs.contracts.serial.Serials.moved
 use Rattle.frames.proofs.serial.Serials.moved.Reads as moved_reads
-use Rattle.frames.specs.contracts.cut.Front.bytes as front_Bytes
-use Rattle.frames.proofs.cut.Front.bytes.Reads as front_bytes_reads
+use Rattle.frames.specs.contracts.cut.front_bytes
+use Rattle.frames.proofs.cut.front_bytes.Reads as front_bytes_reads
 use Rattle.frames.specs.contracts.cut.cut
 use Rattle.frames.proofs.cut.cut.Reads as cut_reads
 use Rattle.frames.specs.contracts.kind.total
@@ -57,7 +57,7 @@ moved_one = record { taken = λ κs a. tt; one = λ κs a x y p q i. ((p ∙ sym
 pub cut_one : OneOutcome cut.ended cut_reads.Asked cut_reads.Learnt
 cut_one = record { taken = λ κs a. tt; one = λ κs a x y p q i. ((p ∙ sym q) i, (tt, tt)) }
 
-pub front_bytes_one : OneOutcome front_Bytes.ended front_bytes_reads.Asked front_bytes_reads.Learnt
+pub front_bytes_one : OneOutcome front_bytes.ended front_bytes_reads.Asked front_bytes_reads.Learnt
 front_bytes_one = record { taken = λ κs a. tt; one = λ κs a x y p q i. ((p ∙ sym q) i, (tt, (tt, tt))) }
 
 pub total_one : OneOutcome total.ended total_reads.Asked total_reads.Learnt

@@ -16,6 +16,7 @@ pub enum Uncut {
 }
 
 // Cuts the frame at the front of the bytes: how many of them it has.
+#[tactic(auto, unfolding(crate::specs::Cut::cut_of, crate::specs::Kind::known_total))]
 pub fn cut(bytes: &[u8]) -> Result<usize, Uncut>
     ensures { result ≡ cut_of bytes.now }
 {

@@ -62,6 +62,7 @@ fn word_at(bytes: &[u8], place: usize) -> u16
 }
 
 // A battery's reading.
+#[tactic(auto, unfolding(crate::specs::Reading::battery_fields))]
 fn battery(bytes: &[u8]) -> Result<Frame, Answer>
     requires { length bytes.now ≡ 3 }
     ensures { result ≡ battery_fields bytes.now }
@@ -74,6 +75,7 @@ fn battery(bytes: &[u8]) -> Result<Frame, Answer>
 }
 
 // Whether the antennas are deployed.
+#[tactic(auto, unfolding(crate::specs::Reading::antennas_fields))]
 fn antennas(bytes: &[u8]) -> Result<Frame, Answer>
     requires { length bytes.now ≡ 2 }
     ensures { result ≡ antennas_fields bytes.now }
@@ -86,6 +88,7 @@ fn antennas(bytes: &[u8]) -> Result<Frame, Answer>
 }
 
 // The sender of a command.
+#[tactic(auto, using(crate::proofs::ReadingLaws::origin_told), unfolding(crate::specs::Reading::sender_read))]
 fn sender(bytes: &[u8]) -> Result<Sender, Answer>
     requires { 4 ≤ length bytes.now }
     ensures { result ≡ sender_read bytes.now }
@@ -97,6 +100,7 @@ fn sender(bytes: &[u8]) -> Result<Sender, Answer>
 }
 
 // An order.
+#[tactic(auto, unfolding(crate::specs::Reading::order_fields, crate::specs::Reading::sender_read))]
 fn order(bytes: &[u8]) -> Result<Frame, Answer>
     requires { length bytes.now ≡ 6 }
     ensures { result ≡ order_fields bytes.now }
@@ -120,6 +124,7 @@ fn order(bytes: &[u8]) -> Result<Frame, Answer>
 }
 
 // A timed order, for one of the mission four.
+#[tactic(auto, unfolding(crate::specs::Reading::timed_fields, crate::specs::Reading::sender_read))]
 fn timed(bytes: &[u8]) -> Result<Frame, Answer>
     requires { length bytes.now ≡ 7 }
     ensures { result ≡ timed_fields bytes.now }
@@ -140,6 +145,7 @@ fn timed(bytes: &[u8]) -> Result<Frame, Answer>
 }
 
 // A command that is ground's alone.
+#[tactic(auto, unfolding(crate::specs::Reading::of_ground))]
 fn of_ground(sender: Sender, command: Command) -> Result<Frame, Answer>
     ensures { result ≡ of_ground command sender }
 {
@@ -150,6 +156,7 @@ fn of_ground(sender: Sender, command: Command) -> Result<Frame, Answer>
 }
 
 // Thresholds, which the payload may not set.
+#[tactic(auto, unfolding(crate::specs::Reading::thresholds_fields, crate::specs::Reading::sender_read))]
 fn thresholds(bytes: &[u8]) -> Result<Frame, Answer>
     requires { length bytes.now ≡ 8 }
     ensures { result ≡ thresholds_fields bytes.now }
@@ -164,6 +171,7 @@ fn thresholds(bytes: &[u8]) -> Result<Frame, Answer>
 }
 
 // A greeting, which the payload may not send.
+#[tactic(auto, unfolding(crate::specs::Reading::greeting_fields, crate::specs::Reading::sender_read))]
 fn greeting(bytes: &[u8]) -> Result<Frame, Answer>
     requires { length bytes.now ≡ greeting_bytes }
     ensures { result ≡ greeting_fields bytes.now }
@@ -178,6 +186,7 @@ fn greeting(bytes: &[u8]) -> Result<Frame, Answer>
 }
 
 // Checks 3 to 7, in the page's order.
+#[tactic(auto, unfolding(crate::specs::Reading::read_frame, crate::specs::Kind::total_of))]
 pub fn read(bytes: &[u8]) -> Result<Frame, Answer>
     ensures { result ≡ read_frame bytes.now }
 {
