@@ -49,10 +49,10 @@ pub head_one : OneOutcome head.ended head_reads.Asked head_reads.Learnt
 head_one = record { taken = λ κs a. tt; one = λ κs a x y p q i. ((p ∙ sym q) i, (tt, tt)) }
 
 pub class_one : OneOutcome class.ended class_reads.Asked class_reads.Learnt
-class_one = record { taken = λ κs a. tt; one = λ κs a x y p q i. ((p ∙ sym q) i, (tt, (tt, (tt, tt)))) }
+class_one = record { taken = λ κs a. tt; one = λ κs a x y p q i. ((p ∙ sym q) i, (tt, (tt, tt))) }
 
 pub moved_one : OneOutcome moved.ended moved_reads.Asked moved_reads.Learnt
-moved_one = record { taken = λ κs a. tt; one = λ κs a x y p q i. ((p ∙ sym q) i, (tt, (tt, (tt, tt)))) }
+moved_one = record { taken = λ κs a. tt; one = λ κs a x y p q i. ((p ∙ sym q) i, (tt, (tt, tt))) }
 
 pub cut_one : OneOutcome cut.ended cut_reads.Asked cut_reads.Learnt
 cut_one = record { taken = λ κs a. tt; one = λ κs a x y p q i. ((p ∙ sym q) i, (tt, tt)) }

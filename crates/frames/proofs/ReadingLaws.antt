@@ -9,7 +9,7 @@ use Rattle.frames.specs.Kind.{total_of, kind_number, is_kind}
 use Rattle.frames.specs.Kind.{tick_kind, battery_kind, antennas_kind, order_kind, thresholds_kind, timed_kind, greeting_kind}
 use Rattle.frames.specs.Sender.{payload_origin, is_origin, origin_number, origin_from}
 use Rattle.frames.specs.Reading.{byte_at, word_at, last_module, is_reading, are_thresholds, are_minutes, is_foreign}
-use Rattle.frames.specs.Reading.{Reading, sender_from, sender_read, of_ground, fields_of, read_frame}
+use Rattle.frames.specs.Reading.{Reading, sender_from, of_ground, fields_of, read_frame}
 use Rattle.frames.specs.Reading.{battery_fields, antennas_fields, order_fields, timed_fields, thresholds_fields, greeting_fields}
 use Rattle.frames.specs.Greeting.{is_greeting, greeting_text}
 use Rattle.frames.specs.declared.sender.Sender.{Sender}
@@ -57,26 +57,6 @@ pub read_fields :
 unfolding read_frame
 read_fields bytes some known whole =
     simp (ne_eqb (length bytes) 0 some, ne_eqb (total_of (byte_at 0 bytes)) 0 known, eq-eqb (length bytes) (total_of (byte_at 0 bytes)) whole)
-
--- a sender that is read has an origin in range, and is the bytes'
-pub sender_told : (bytes : List ℕ) (sender : Sender) → sender_read bytes ≡ Ok sender → (is_origin (byte_at 1 bytes) ≡ true) × (sender_from bytes ≡ sender)
-unfolding sender_read
-sender_told bytes sender =
-    decided (λ (r : Result Sender Answer). r ≡ Ok sender → (is_origin (byte_at 1 bytes) ≡ true) × (sender_from bytes ≡ sender)) (is_origin (byte_at 1 bytes))
-    (λ t e. (t, cc)) (λ t e. absurd (ok_not_err e))
-  where
-    ok_not_err : Err BadField ≡ Ok sender → ⊥
-    ok_not_err e = cc
-
--- one that is not has an origin out of range, which is a bad field
-pub sender_out : (bytes : List ℕ) (answer : Answer) → sender_read bytes ≡ Err answer → (is_origin (byte_at 1 bytes) ≡ false) × (answer ≡ BadField)
-unfolding sender_read
-sender_out bytes answer =
-    decided (λ (r : Result Sender Answer). r ≡ Err answer → (is_origin (byte_at 1 bytes) ≡ false) × (answer ≡ BadField)) (is_origin (byte_at 1 bytes))
-    (λ t e. absurd (not_err e)) (λ t e. (t, cc))
-  where
-    not_err : Ok (sender_from bytes) ≡ Err answer → ⊥
-    not_err e = cc
 
 -- an origin is the one of its number, which is in range
 pub origin_told : (origin : Origin) (byte : ℕ) → origin_number origin ≡ byte → (is_origin byte ≡ true) × (origin_from byte ≡ origin)

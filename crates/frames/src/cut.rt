@@ -20,10 +20,8 @@ pub enum Uncut {
 pub fn cut(bytes: &[u8]) -> Result<usize, Uncut>
     ensures { result ≡ cut_of bytes.now }
 {
-    if bytes.is_empty() {
-        return Err(Uncut::Empty);
-    }
-    let total = total(bytes[0]).ok_or(Uncut::Unknown)?;
+    let first = bytes.first().ok_or(Uncut::Empty)?;
+    let total = total(*first).ok_or(Uncut::Unknown)?;
     if bytes.len() < total {
         return Err(Uncut::Short);
     }

@@ -94,7 +94,7 @@ impl TryFrom<u8> for Kind {
 }
 
 // The total length of a frame that begins with this byte, if it is a kind's number.
-#[tactic(auto, using(crate::proofs::ReadingLaws::no_total, crate::proofs::ReadingLaws::kind_total), unfolding(crate::specs::Kind::known_total))]
+#[tactic(auto, unfolding(crate::specs::Kind::known_total, crate::specs::Kind::total_of))]
 pub fn total(byte: u8) -> Option<usize>
     ensures { result ≡ known_total byte }
 {

@@ -88,7 +88,7 @@ fn antennas(bytes: &[u8]) -> Result<Frame, Answer>
 }
 
 // The sender of a command.
-#[tactic(auto, using(crate::proofs::ReadingLaws::origin_told), unfolding(crate::specs::Reading::sender_read))]
+#[tactic(auto, unfolding(crate::specs::Reading::sender_read))]
 fn sender(bytes: &[u8]) -> Result<Sender, Answer>
     requires { 4 ≤ length bytes.now }
     ensures { result ≡ sender_read bytes.now }
@@ -190,10 +190,8 @@ fn greeting(bytes: &[u8]) -> Result<Frame, Answer>
 pub fn read(bytes: &[u8]) -> Result<Frame, Answer>
     ensures { result ≡ read_frame bytes.now }
 {
-    if bytes.is_empty() {
-        return Err(Answer::NoInput);
-    }
-    let kind = Kind::try_from(bytes[0])?;
+    let first = bytes.first().ok_or(Answer::NoInput)?;
+    let kind = Kind::try_from(*first)?;
     if bytes.len() != kind.total() {
         return Err(Answer::BadLength);
     }
