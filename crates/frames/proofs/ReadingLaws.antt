@@ -1,12 +1,12 @@
 -- Laws of reading: the totals, when the fields of a kind are read, which numbers a refusal has, and what an accepted frame holds.
 -- Assumes nothing.
-use Rattle.std.proofs.Common.{◌≡◌, ℕ, ◌<◌, Bool, true, false, ◌&&◌, T, eqb, leb, List, [], ◌∷◌, length, Result, Ok, Err, sym, refl, ap, ◌∙◌, true≢false, arith, eq-eqb, ne_eqb, eqb-true}
-use Rattle.basics.specs.Choice.{when◌then◌else◌, within, word}
+use Rattle.std.proofs.Common.{◌≡◌, ℕ, ◌<◌, Bool, true, false, ◌&&◌, T, eqb, leb, List, [], ◌∷◌, length, Ok, Err, refl, true≢false, arith, eqb-true}
+use Rattle.basics.specs.Choice.{within, word}
 use Rattle.basics.proofs.ChoiceLaws.{is_true, holds, either, decided, and_left, and_right, within_low, within_high, within_of}
 use Rattle.modules.specs.Groups.{is_mission}
 use Rattle.frames.specs.Answer.{answer_number}
-use Rattle.frames.specs.Kind.{total_of, kind_number, is_kind}
-use Rattle.frames.specs.Kind.{tick_kind, battery_kind, antennas_kind, order_kind, thresholds_kind, timed_kind, greeting_kind}
+use Rattle.frames.specs.Kind.{total_of}
+use Rattle.frames.specs.Kind.{tick_kind, battery_kind, antennas_kind, order_kind, thresholds_kind, timed_kind}
 use Rattle.frames.specs.Sender.{payload_origin, is_origin, origin_number, origin_from}
 use Rattle.frames.specs.Reading.{byte_at, word_at, last_module, is_reading, are_thresholds, are_minutes, is_foreign}
 use Rattle.frames.specs.Reading.{Reading, sender_from, of_ground, fields_of, read_frame}
@@ -15,53 +15,10 @@ use Rattle.frames.specs.Greeting.{is_greeting, greeting_text}
 use Rattle.frames.specs.declared.sender.Sender.{Sender}
 use Rattle.frames.specs.declared.sender.Origin.{Origin}
 use Rattle.frames.specs.declared.sender.Origin.TheVariants.{Ground, Payload}
-use Rattle.frames.specs.declared.kind.Kind.{Kind}
-use Rattle.frames.specs.declared.kind.Kind.TheVariants as kinds
-use Rattle.frames.specs.declared.answer.Answer.{Answer}
-use Rattle.frames.specs.declared.answer.Answer.TheVariants.{BadField}
 use Rattle.frames.specs.declared.command.Command.{Command}
 use Rattle.frames.specs.declared.command.Command.TheVariants.{Order, Timed, Thresholds, Greeting}
 use Rattle.frames.specs.declared.frame.Frame.{Frame}
 use Rattle.frames.specs.declared.frame.Frame.TheVariants as frame
-
--- a byte that is no kind's number has no total
-pub no_total : (byte : ℕ) → is_kind byte ≡ false → total_of byte ≡ 0
-unfolding total_of
-no_total byte e =
-    let out : (n : ℕ) → T (is_kind n) → byte ≡ n → ⊥ = λ n h same. true≢false (sym (is_true (is_kind n) h) ∙ ap is_kind (sym same) ∙ e) in
-    simp (
-      ne_eqb byte tick_kind (out tick_kind tt),
-      ne_eqb byte battery_kind (out battery_kind tt),
-      ne_eqb byte antennas_kind (out antennas_kind tt),
-      ne_eqb byte order_kind (out order_kind tt),
-      ne_eqb byte thresholds_kind (out thresholds_kind tt),
-      ne_eqb byte timed_kind (out timed_kind tt),
-      ne_eqb byte greeting_kind (out greeting_kind tt),
-    )
-
--- a kind's number has a total
-pub kind_total : (kind : Kind) → total_of (kind_number kind) ≡ 0 → ⊥
-unfolding total_of
-kind_total kinds.Tick e = omega (arith, e)
-kind_total kinds.Battery e = omega (arith, e)
-kind_total kinds.Antennas e = omega (arith, e)
-kind_total kinds.Order e = omega (arith, e)
-kind_total kinds.Thresholds e = omega (arith, e)
-kind_total kinds.Timed e = omega (arith, e)
-kind_total kinds.Greeting e = omega (arith, e)
-
--- bytes that pass checks 3 to 5 are read by their kind's fields
-pub read_fields :
-    (bytes : List ℕ) → (length bytes ≡ 0 → ⊥) → (total_of (byte_at 0 bytes) ≡ 0 → ⊥) → length bytes ≡ total_of (byte_at 0 bytes) →
-    read_frame bytes ≡ fields_of (byte_at 0 bytes) bytes
-unfolding read_frame
-read_fields bytes some known whole =
-    simp (ne_eqb (length bytes) 0 some, ne_eqb (total_of (byte_at 0 bytes)) 0 known, eq-eqb (length bytes) (total_of (byte_at 0 bytes)) whole)
-
--- an origin is the one of its number, which is in range
-pub origin_told : (origin : Origin) (byte : ℕ) → origin_number origin ≡ byte → (is_origin byte ≡ true) × (origin_from byte ≡ origin)
-origin_told Ground byte e = rw (← e) (refl, refl)
-origin_told Payload byte e = rw (← e) (refl, refl)
 
 -- the fields of a command, and the text beside it, are in their ranges; a timed order is for one of the mission four, and
 -- thresholds and greetings are ground's: those of the payload are never read

@@ -85,14 +85,11 @@ impl State {
         requires { HasMasks self }
         ensures { result ≡ by_serial sender command text self }
     {
-        let origin = sender.origin;
-        let serial = sender.serial;
-        match self.serials.class(origin, serial) {
+        match self.serials.class(sender) {
             Class::Repeat => silent(Answer::Repeat, self),
             Class::Stale => silent(Answer::Stale, self),
             Class::Fresh => {
-                let serials = self.serials.moved(origin, serial);
-                self.serials = serials;
+                self.serials = self.serials.moved(sender);
                 self.take(command, text)
             }
         }

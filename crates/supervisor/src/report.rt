@@ -21,10 +21,11 @@ pub(crate) fn write(room: &mut [u8], frame: Frame, acted: Acted)
     let answer = acted.answer;
     let due = acted.due;
     room[0] = REPORT;
-    room[1] = head.kind;
+    let [high, low] = head.serial.to_be_bytes();
+    room[1] = head.kind.number();
     room[2] = head.origin;
-    room[3] = (head.serial / 256) as u8;
-    room[4] = (head.serial % 256) as u8;
+    room[3] = high;
+    room[4] = low;
     room[5] = answer.number();
     room[6] = mode.number();
     room[7] = masks.requested;
