@@ -1,5 +1,5 @@
 -- `write` meets its contract.
-use native.Mathlib.Omega.{arith}
+use Rattle.std.proofs.Common.{◌≡◌, ◌/◌, ◌%◌, ◌<◌, arith, rules}
 use lib.ListN.{length-set}
 use lib.Seq.{sets-eq}
 use Rattle.supervisor.specs.Report.{report_of}
@@ -41,10 +41,15 @@ shape_of-room c = simp length-set
 pub returns : goal.returns
 unfolding report_of
 returns c =
+    let serial : c.head-head.result.serial < 65536 = search rules in
+    let high : c.head-head.result.serial / 256 % 256 ≡ c.head-head.result.serial / 256 = omega arith in
     simp (
+      rw c.head-head.ensures at high,
+      c.number-4.ensures,
       c.number-3.ensures,
       c.number-2.ensures,
       c.number.ensures,
+      c.to_be_bytes.ensures,
       c.head-head.ensures,
       c.requires.1,
     )
