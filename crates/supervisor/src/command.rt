@@ -34,20 +34,13 @@ impl State {
         requires { HasMasks self }
         ensures { result ≡ order_taken which on seconds self }
     {
-        let watch = self.watch;
-        let mode = watch.mode;
-        let modules = self.modules;
-        let kept = self.masks;
-        let mut asked = modules;
-        let mut masks = kept;
-        let mut answer = Answer::NotNow;
-        if !mode.is_ill_timed(which, on) {
-            asked = modules::stage::request_one(modules, which, on);
-            masks = kept.request(one_bit(which), on);
-            self.ends = self.ends.with_end(which, seconds);
-            answer = Answer::Done;
+        if self.watch.mode.is_ill_timed(which, on) {
+            return silent(Answer::NotNow, self);
         }
-        silent(answer, self.with_modules(asked, masks))
+        self.ends = self.ends.with_end(which, seconds);
+        let modules = modules::stage::request_one(self.modules, which, on);
+        let masks = self.masks.request(one_bit(which), on);
+        silent(Answer::Done, self.with_modules(modules, masks))
     }
 
     // Thresholds: both are stored.
@@ -85,14 +78,12 @@ impl State {
         requires { HasMasks self }
         ensures { result ≡ by_serial sender command text self }
     {
-        let origin = sender.origin;
-        let serial = sender.serial;
+        let Sender { origin, serial } = sender;
         match self.serials.class(origin, serial) {
             Class::Repeat => silent(Answer::Repeat, self),
             Class::Stale => silent(Answer::Stale, self),
             Class::Fresh => {
-                let serials = self.serials.moved(origin, serial);
-                self.serials = serials;
+                self.serials = self.serials.moved(origin, serial);
                 self.take(command, text)
             }
         }

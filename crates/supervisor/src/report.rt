@@ -14,21 +14,16 @@ pub(crate) fn write(room: &mut [u8], frame: Frame, acted: Acted)
     ensures { room.new ≡ report_of frame acted ++ drop report_bytes room.old }
 {
     let head = frame.head();
-    let state = acted.state;
-    let watch = state.watch;
-    let mode = watch.mode;
-    let masks = state.masks;
-    let answer = acted.answer;
-    let due = acted.due;
+    let masks = acted.state.masks;
     room[0] = REPORT;
     room[1] = head.kind;
     room[2] = head.origin;
     room[3] = (head.serial / 256) as u8;
     room[4] = (head.serial % 256) as u8;
-    room[5] = answer.number();
-    room[6] = mode.number();
+    room[5] = acted.answer.number();
+    room[6] = acted.state.watch.mode.number();
     room[7] = masks.requested;
     room[8] = masks.on;
     room[9] = masks.failed;
-    room[10] = due.number();
+    room[10] = acted.due_number();
 }

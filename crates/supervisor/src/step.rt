@@ -43,11 +43,9 @@ pub fn step(state: State, input: &[u8], room: &mut [u8]) -> Stepped
         Reading::Accepted(frame) => {
             let acted = act(state, frame, text_of(input));
             write(room, frame, acted);
-            let answer = acted.answer;
-            let next = acted.state;
             return Stepped {
-                answer,
-                state: next,
+                answer: acted.answer,
+                state: acted.state,
             };
         }
     }

@@ -4,5 +4,4 @@ use Rattle.supervisor.proofs.state.State.beacon_stage.Goals as goal
 
 pub returns : goal.returns
 unfolding beacon_stage
-returns c =
-    simp (c.repeats-left.ensures, c.count-after.ensures, c.due-due.ensures, c.is_to_be_sent.ensures)
+returns c = simp (c.repeats_after-self.ensures, c.count_after-self.ensures, c.due-due.ensures, c.is_to_be_sent.ensures)

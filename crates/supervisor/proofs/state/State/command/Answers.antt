@@ -12,4 +12,4 @@ returns-in-Stale c = simp (c.silent-in-Stale.ensures, rw c.class.ensures at c.in
 
 pub returns-in-Fresh : goal.returns-in-Fresh
 unfolding by_serial
-returns-in-Fresh c = simp (c.take.ensures, c.moved-serials.ensures, rw c.class.ensures at c.in-Fresh.is)
+returns-in-Fresh c = simp (c.take.ensures, c.moved-self.ensures, rw c.class.ensures at c.in-Fresh.is)
