@@ -21,6 +21,7 @@ const MINUTE: u32 = 60;
 
 impl Mode {
     // "On" for one of the mission four while not in SAFE.
+    #[tactic(auto, unfolding(crate::specs::Command::is_ill_timed))]
     fn is_ill_timed(self, which: u8, on: bool) -> bool
         ensures { result ≡ is_ill_timed which on self }
     {
@@ -74,6 +75,7 @@ impl State {
     }
 
     // 8 or 9 by the serial; a fresh one is used up, and the command is taken.
+    #[tactic(auto, unfolding(crate::specs::Command::by_serial))]
     pub(crate) fn command(mut self, sender: Sender, command: Command, text: [u8; LONGEST]) -> Acted
         requires { HasMasks self }
         ensures { result ≡ by_serial sender command text self }

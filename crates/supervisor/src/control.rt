@@ -51,6 +51,7 @@ impl State {
     }
 
     // Control.
+    #[tactic(auto, unfolding(crate::specs::Control::controlled))]
     pub(crate) fn control(mut self) -> State
         requires { (self.watch.control < judge_ticks) × HasMasks self }
         ensures { result ≡ controlled self }

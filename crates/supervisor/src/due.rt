@@ -45,6 +45,7 @@ fn repeats_after(due: Option<Form>, repeats: u8) -> u8
 
 impl State {
     // Beacon.
+    #[tactic(auto, unfolding(crate::specs::Due::beacon_stage))]
     pub(crate) fn beacon_stage(mut self) -> Acted
         requires { self.watch.beacon < basic_ticks }
         ensures { result ≡ beacon_stage self }

@@ -25,6 +25,7 @@ impl Mode {
 
 impl State {
     // The state as the module stage finds it: after ends and control.
+    #[tactic(auto, unfolding(crate::specs::Tick::before_modules, crate::specs::Ending::ended))]
     fn before_modules(self) -> State
         requires { (self.watch.control < judge_ticks) × HasMasks self }
         ensures { result ≡ before_modules self }
