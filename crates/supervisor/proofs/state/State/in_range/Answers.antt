@@ -7,7 +7,7 @@ use Rattle.modules.specs.Masks.{are_masks_of}
 use Rattle.supervisor.specs.Range.{watch_in_range, battery_in_range, message_in_range, in_range}
 use Rattle.supervisor.specs.declared.state.State.{State}
 use Rattle.supervisor.proofs.state.State.in_range.Goals as goal
-use Rattle.supervisor.proofs.state.State.in_range.Goals.{then-in_range, else-in_range}
+use Rattle.supervisor.proofs.state.State.in_range.Goals.{Joined-in_range, then-in_range, else-in_range}
 
 -- the message may be asked last
 last : (watch battery message ends modules masks : Bool) →
@@ -37,22 +37,30 @@ module _ (s : State) where
       last (watch_in_range s.watch.mode s.watch.control s.watch.beacon) (battery_in_range s.battery) (message_in_range s.message)
       (ends_in_range s.ends) (modules_in_range s.modules) (are_masks_of s.modules s.masks)
 
+-- what is asked before the message is true if both are
+asked : (c : Joined-in_range) → c.if-in_range.value ≡ (front c.args.self && back c.args.self)
+asked c =
+    elim c.if-in_range.branch [
+      | then-in_range w ↦ simp (
+        w.value-is,
+        w.in_range-then-in_range.ensures,
+        rw (c.in_range.ensures, c.in_range-2.ensures, c.in_range-3.ensures) at w.if-in_range.true,
+      )
+      | else-in_range w ↦ simp (
+        w.value-is,
+        c.in_range.ensures,
+        c.in_range-2.ensures,
+        c.in_range-3.ensures,
+        rw (c.in_range.ensures, c.in_range-2.ensures, c.in_range-3.ensures) at w.if-in_range.false,
+      )
+    ]
+
 pub returns-then-in_range-2 : goal.returns-then-in_range-2
 returns-then-in_range-2 c =
-    let s : State = c.args.self in
-    let asked : c.if-in_range.value ≡ (front s && back s) =
-    elim c.if-in_range.branch [
-      | then-in_range w ↦ simp (w.value-is, w.in_range-then-in_range.ensures, rw (c.in_range.ensures, c.in_range-2.ensures, c.in_range-3.ensures) at w.if-in_range.true)
-      | else-in_range w ↦ simp (w.value-is, c.in_range.ensures, c.in_range-2.ensures, c.in_range-3.ensures, rw (c.in_range.ensures, c.in_range-2.ensures, c.in_range-3.ensures) at w.if-in_range.false)
-    ] in
-    simp (c.in_range-then-in_range-2.ensures, in_order s, rw asked at c.if-in_range-2.true)
+    let both = asked (goal.at.returns-then-in_range-2 c).Joined-in_range in
+    simp (c.in_range-then-in_range-2.ensures, in_order c.args.self, rw both at c.if-in_range-2.true)
 
 pub returns-else-in_range-2 : goal.returns-else-in_range-2
 returns-else-in_range-2 c =
-    let s : State = c.args.self in
-    let asked : c.if-in_range.value ≡ (front s && back s) =
-    elim c.if-in_range.branch [
-      | then-in_range w ↦ simp (w.value-is, w.in_range-then-in_range.ensures, rw (c.in_range.ensures, c.in_range-2.ensures, c.in_range-3.ensures) at w.if-in_range.true)
-      | else-in_range w ↦ simp (w.value-is, c.in_range.ensures, c.in_range-2.ensures, c.in_range-3.ensures, rw (c.in_range.ensures, c.in_range-2.ensures, c.in_range-3.ensures) at w.if-in_range.false)
-    ] in
-    simp (c.if-in_range-2.false, in_order s, rw asked at c.if-in_range-2.false)
+    let both = asked (goal.at.returns-else-in_range-2 c).Joined-in_range in
+    simp (c.if-in_range-2.false, in_order c.args.self, rw both at c.if-in_range-2.false)
