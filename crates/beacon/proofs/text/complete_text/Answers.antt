@@ -6,10 +6,10 @@ pub returns : goal.returns
 unfolding basic_text complete_text
 returns c =
     simp (
-      c.digit-4.ensures,
-      c.digit-3.ensures,
-      c.digit-2.ensures,
-      c.digit.ensures,
+      c.hex_digit-4.ensures,
+      c.hex_digit-3.ensures,
+      c.hex_digit-2.ensures,
+      c.hex_digit.ensures,
       c.figure-4.ensures,
       c.figure-3.ensures,
       c.figure-2.ensures,
