@@ -66,6 +66,7 @@ fn figure(n: u16) -> u8
 }
 
 // The complete text of a state, with the masks that it keeps.
+#[tactic(auto, unfolding(crate::specs::Text::basic_text, crate::specs::Text::complete_text))]
 fn complete_text(state: State) -> [u8; COMPLETE_BYTES]
     requires { HasMasks state }
     ensures { result ≡ complete_text state }
@@ -93,6 +94,7 @@ fn complete_text(state: State) -> [u8; COMPLETE_BYTES]
 }
 
 // A complete text, a space, and all bytes of a message.
+#[tactic(auto, using(crate::proofs::TextLaws::message_copied))]
 fn greeted(complete: [u8; COMPLETE_BYTES], message: [u8; LONGEST]) -> [u8; MOST_BYTES]
     ensures { result ≡ complete ++ (space ∷ message) }
 {
