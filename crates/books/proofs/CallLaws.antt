@@ -9,6 +9,7 @@ use native.Mathlib.Omega.{arith}
 use native.Mathlib.Nat.{le_refl}
 use lib.Dec.{T, eqb}
 use lib.ListN.{get_or, length, take, drop, replicate, take-append-drop}
+use Rattle.std.specs.Prelude.{Ok}
 use Rattle.basics.specs.Choice.{within}
 use Rattle.basics.specs.Outcome.{Outcome, outcome}
 use Rattle.basics.proofs.ChoiceLaws.{holds, within_low, within_high, within_of}
@@ -22,7 +23,6 @@ use Rattle.frames.specs.declared.answer.Answer.{Answer}
 use Rattle.frames.specs.declared.frame.Frame.{Frame}
 use Rattle.frames.specs.declared.frame.Frame.TheVariants as frame
 use Rattle.frames.specs.declared.command.Command.TheVariants as command
-use Rattle.frames.specs.declared.reading.Reading.TheVariants.{Accepted}
 use Rattle.frames.proofs.AnswerLaws.{refusal, unreported}
 use Rattle.supervisor.specs.Range.{in_range}
 use Rattle.supervisor.specs.Report.{report_of, shown_in}
@@ -88,7 +88,7 @@ module _ (s : State) (c : Call) where
 abbrev pub blank : List ℕ
 blank = replicate report_bytes 0
 
-kind_other : (f : Frame) → is_tick (about (Accepted f)) ≡ false → eqb (head_of f).kind tick_kind ≡ false
+kind_other : (f : Frame) → is_tick (about (Ok f)) ≡ false → eqb (head_of f).kind tick_kind ≡ false
 kind_other (frame.Tick shorts) e = absurd (true≢false e)
 kind_other (frame.Battery tension) e = refl
 kind_other (frame.Antennas deployed) e = refl

@@ -8,6 +8,7 @@ use mathlib.Core.List.{List, [], ◌∷◌, ◌++◌}
 use lib.Dec.{eqb, ltb}
 use lib.ListN.{get_or}
 use borrow.Author.Tests.{eqb-true, ne_eqb, ltb-true, ltb-false}
+use Rattle.std.specs.Prelude.{Ok}
 use Rattle.basics.specs.Choice.{when◌then◌else◌}
 use Rattle.basics.proofs.ChoiceLaws.{decided, within_low}
 use Rattle.frames.specs.Answer.{answer_number}
@@ -17,7 +18,6 @@ use Rattle.frames.specs.declared.sender.Sender.{Sender}
 use Rattle.frames.specs.declared.command.Command.TheVariants.{Greeting}
 use Rattle.frames.specs.declared.frame.Frame.{Frame}
 use Rattle.frames.specs.declared.frame.Frame.TheVariants as frame
-use Rattle.frames.specs.declared.reading.Reading.TheVariants.{Accepted}
 use Rattle.supervisor.specs.State.{mode_number, no_message}
 use Rattle.supervisor.specs.Acted.{due_number}
 use Rattle.supervisor.specs.Range.{basic_ticks, complete_ticks}
@@ -147,7 +147,7 @@ module _ (repeats length : ℕ) where
   abbrev Does : Acted → Type 0
   Does a = answer_number a.answer ≡ 0 → left a.state.message ≡ asked_for repeats length
 
-  act_greets : (sender : Sender) (f : Frame) (text : List ℕ) → about (Accepted f) ≡ a_command sender (Greeting repeats length) → (s : State) → Does (act_of f text s)
+  act_greets : (sender : Sender) (f : Frame) (text : List ℕ) → about (Ok f) ≡ a_command sender (Greeting repeats length) → (s : State) → Does (act_of f text s)
   unfolding act_of
   act_greets sender (frame.Tick shorts) text e s = let z : ◌≡◌ {A = ℕ} 0 1 = cc in absurd (omega arith)
   act_greets sender (frame.Battery tension) text e s = let z : ◌≡◌ {A = ℕ} 0 1 = cc in absurd (omega arith)

@@ -7,6 +7,7 @@ use mathlib.Core.Path.{◌≡◌, refl}
 use mathlib.Core.Bool.{Bool, true, false, not, ◌&&◌, true≢false, false≢true}
 use lib.Dec.{T}
 use borrow.Author.Tests.{eq-eqb, lt-ltb}
+use Rattle.std.specs.Prelude.{Ok}
 use Rattle.basics.specs.Choice.{within}
 use Rattle.basics.proofs.ChoiceLaws.{decided, within_low, within_high, within_of}
 use Rattle.modules.specs.Groups.{is_mission}
@@ -18,7 +19,6 @@ use Rattle.frames.specs.declared.answer.Answer.TheVariants.{NotNow}
 use Rattle.frames.specs.declared.command.Command.{Command}
 use Rattle.frames.specs.declared.command.Command.TheVariants.{Order, Timed, Thresholds, Greeting}
 use Rattle.frames.specs.declared.frame.Frame.{Frame}
-use Rattle.frames.specs.declared.reading.Reading.TheVariants.{Accepted}
 use Rattle.frames.specs.declared.sender.Sender.{Sender}
 use Rattle.frames.specs.declared.frame.Frame.TheVariants as frame
 use Rattle.frames.proofs.ReadingLaws.{FitsCommand}
@@ -95,7 +95,7 @@ abbrev Commanded : State → Call → Type 0
 Commanded s c = record { sender : Sender; command : Command; works : Works s c (frame.Command sender command) (by_serial sender command (greeting_text c.input) s) }
 
 module _ (s : State) (c : Call) where
-  by_frame : (f : Frame) → is_tick (about (Accepted f)) ≡ false → Works s c f (act_of f (greeting_text c.input) s) → T (within 8 10 (answered s c)) → Commanded s c
+  by_frame : (f : Frame) → is_tick (about (Ok f)) ≡ false → Works s c f (act_of f (greeting_text c.input) s) → T (within 8 10 (answered s c)) → Commanded s c
   unfolding act_of
   by_frame (frame.Tick shorts) e w h = absurd (true≢false e)
   by_frame (frame.Battery tension) e w h = absurd (rw w.leaves at h)

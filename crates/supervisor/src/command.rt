@@ -68,7 +68,7 @@ impl State {
     {
         match command {
             Command::Order { which, on } => self.order(which, on, 0),
-            Command::Timed { which, minutes } => self.order(which, true, MINUTE * (minutes as u32)),
+            Command::Timed { which, minutes } => self.order(which, true, MINUTE * u32::from(minutes)),
             Command::Thresholds { ascend, descend } => self.thresholds(ascend, descend),
             Command::Greeting { repeats, length } => self.greeting(repeats, length, text),
         }
@@ -80,12 +80,11 @@ impl State {
         requires { HasMasks self }
         ensures { result ≡ by_serial sender command text self }
     {
-        let Sender { origin, serial } = sender;
-        match self.serials.class(origin, serial) {
+        match self.serials.class(sender) {
             Class::Repeat => silent(Answer::Repeat, self),
             Class::Stale => silent(Answer::Stale, self),
             Class::Fresh => {
-                self.serials = self.serials.moved(origin, serial);
+                self.serials = self.serials.moved(sender);
                 self.take(command, text)
             }
         }

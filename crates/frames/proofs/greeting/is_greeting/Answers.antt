@@ -13,7 +13,7 @@ pub returns-then-n-eq0 : goal.returns-then-n-eq0
 returns-then-n-eq0 c =
     let args = c.args in
     let sixteen : length args.text ≡ longest_greeting = search rules in
-    c.is_empty.ensures ∙ no_characters args.text sixteen ∙ ap (λ n. is_greeting n args.text) (sym c.if-n-eq0.true)
+    c.is_blank.ensures ∙ no_characters args.text sixteen ∙ ap (λ n. is_greeting n args.text) (sym c.if-n-eq0.true)
 
 pub slice_bounds-fault_of-end : goal.slice_bounds-fault_of-end
 slice_bounds-fault_of-end c = sym (length-take-le c.args.length c.args.text (omega arith))
@@ -23,4 +23,4 @@ returns c =
     let args = c.args in
     by_text _ args.text _ _ (search rules) c.if-n-gt-LONGEST.false
     (ap (λ n. eqb n 0) (c.number.ensures ∙ ap fault_number c.fault_of-fault.ensures))
-    (c.is_blank.ensures ∙ ap all_zero (take_all (longest_greeting - args.length) (drop args.length args.text) (rw (length-drop args.length args.text) (omega arith))))
+    (c.is_blank-2.ensures ∙ ap all_zero (take_all (longest_greeting - args.length) (drop args.length args.text) (rw (length-drop args.length args.text) (omega arith))))
