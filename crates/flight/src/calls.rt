@@ -8,7 +8,7 @@ ghost use Rattle.beacon.specs.Writing.{written_reply};
 ghost use Rattle.beacon.specs.declared.text.Form.TheVariants as form;
 ghost use Rattle.books.specs.Step.{with_books};
 ghost use Rattle.flight.specs.Calls.{imaged, fresh_image, step_image, pass_image, step_books_image, summary_reply};
-ghost use Rattle.flight.specs.Calls.{modules_on_image, beacon_image, replied, ReadReplied};
+ghost use Rattle.flight.specs.Calls.{modules_on_image, beacon_image, told, replied, ReadReplied};
 ghost use Rattle.flight.specs.Calls.{tracks, tracks_of};
 
 use crate::loading::{decode, has_layout};
@@ -21,7 +21,8 @@ use books::shares::put;
 use books::step::step_books;
 use books::summary::summary;
 use frames::answer::Answer;
-use morse::answers::NO_ROOM;
+use basics::Refusal;
+use morse::answers::{DONE, NO_ROOM};
 use supervisor::fresh::fresh;
 use tracker::Reading;
 
@@ -184,15 +185,29 @@ pub extern "C" fn ems_beacon_extended(image: &[u8], text: &mut [u8], count: &mut
     written.number()
 }
 
+// Tells the page's number of what a call gave, 0 where it is done, and how many it has written: none at a refusal.
+fn tell<E: Refusal>(given: Result<usize, E>, count: &mut usize) -> u8
+    ensures { reply result count.new ≡ told E.number_of given }
+{
+    match given {
+        Ok(written) => {
+            *count = written;
+            DONE
+        }
+        Err(refusal) => {
+            *count = 0;
+            refusal.number()
+        }
+    }
+}
+
 // Keys a text: its units, and how many they are.
 #[unsafe(no_mangle)]
 pub extern "C" fn ems_key(text: &[u8], units: &mut [u8], count: &mut usize) -> u8
     ensures { outcome (reply result count.new) units.new
         ≡ replied key_reply (key_of text.now units.old) }
 {
-    let keyed = morse::key(text, units);
-    *count = keyed.count();
-    keyed.number()
+    tell(morse::key(text, units), count)
 }
 
 // Reads units back: the text, and its length.
