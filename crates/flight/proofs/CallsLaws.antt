@@ -12,7 +12,10 @@ use borrow.Author.Tests.{eq-eqb}
 use Rattle.basics.specs.Outcome.{Outcome, outcome, Reply, reply}
 use Rattle.basics.proofs.ChoiceLaws.{is_true, holds}
 use Rattle.modules.specs.Groups.{module_count}
+use Rattle.std.specs.Prelude.{Result, Ok, Err}
 use Rattle.morse.specs.Answers.{no_room}
+use Rattle.morse.specs.Keying.{key_fault_number, key_reply}
+use Rattle.morse.specs.declared.keying.KeyFault.{KeyFault}
 use Rattle.hearing.specs.Reading.{Read, read_reply}
 use Rattle.hearing.specs.declared.reading.Heard.{Heard}
 use Rattle.frames.specs.Answer.{answer_number, is_reported}
@@ -37,8 +40,10 @@ use Rattle.books.specs.declared.answer.BookAnswer.TheVariants.{NotBooks}
 use Rattle.books.specs.declared.step.Booked.{Booked}
 use Rattle.books.proofs.WaysLaws.{booked_valid, booked_in_range, booked_left, booked_outside}
 use Rattle.beacon.specs.Writing.{beacon_of}
-use Rattle.beacon.specs.declared.text.Form.{Form}
-use Rattle.beacon.specs.declared.writing.Written.TheVariants.{BadState}
+use Rattle.supervisor.specs.declared.form.Form.{Form}
+use Rattle.beacon.specs.Writing.{fault_number, written_reply}
+use Rattle.beacon.specs.declared.writing.WriteFault.{WriteFault}
+use Rattle.beacon.specs.declared.writing.WriteFault.TheVariants.{BadState}
 use Rattle.beacon.proofs.WritingLaws.{beacon_outside}
 use Rattle.tracker.specs.Tracker.{track_number}
 use Rattle.tracker.specs.declared.Tracked.{Tracked}
@@ -46,7 +51,7 @@ use Rattle.flight.specs.Saving.{saved}
 use Rattle.flight.specs.Loading.{has_layout, decoded, loaded}
 use Rattle.flight.specs.Calls.{imaged, bad_state, stepped_to, step_image, passed_to, pass_image, modules_on_reply, modules_on_image, beacon_image}
 use Rattle.flight.specs.Calls.{booked_to, step_books_image, summary_reply}
-use Rattle.flight.specs.Calls.{replied, ReadReplied}
+use Rattle.flight.specs.Calls.{told, replied, ReadReplied}
 use Rattle.flight.specs.Calls.{tracks, tracked_to}
 use Rattle.flight.proofs.FieldsLaws.{AllBytes}
 use Rattle.flight.proofs.LoadingLaws.{layout, saved_decoded}
@@ -98,7 +103,7 @@ module _ (image room : List ℕ) (other : has_layout image ≡ false) where
   unfolding step_books_image loaded
   books_foreign frame books size = simp (other, eq-eqb (length books) book_numbers size)
 
-  pub beacon_foreign : (form : Form) → outcome BadState room ≡ beacon_image form image room
+  pub beacon_foreign : (form : Form) → outcome (Err BadState) room ≡ beacon_image form image room
   unfolding beacon_image loaded
   beacon_foreign form = simp other
 
@@ -230,6 +235,20 @@ module _ (image room : List ℕ) (own : has_layout image ≡ true) (s : State) (
         by_range false e =
             ap (λ (o : Outcome Passed). outcome (imaged (reply (answer_number o.result.answer) o.result.reported) image) o.room) (flies ∙ pass_outside s frames room e)
             ∙ simp (own, sym says, e)
+
+-- a call's outcome, told, is the outcome by its reply, where that is how each answer is told
+pub told_by : {Refused : Type 0} (number_of : Refused → ℕ) (by : Result ℕ Refused → Reply)
+    → ((given : Result ℕ Refused) → told number_of given ≡ by given) → {given : Result ℕ Refused} {room : List ℕ}
+    {o : Outcome (Result ℕ Refused)} {r : Reply} → r ≡ told number_of given → outcome given room ≡ o → outcome r room ≡ replied by o
+told_by number_of by same {given} e f = rw (e, same given) (ap (replied by) f)
+
+pub key_told : (given : Result ℕ KeyFault) → told key_fault_number given ≡ key_reply given
+key_told (Ok written) = refl
+key_told (Err refusal) = refl
+
+pub written_told : (given : Result ℕ WriteFault) → told fault_number given ≡ written_reply given
+written_told (Ok written) = refl
+written_told (Err refusal) = refl
 
 -- an answer by its number and its count
 pub replied_by : {Answer : Type 0} (by : Answer → Reply) {answer : Answer} {n k : ℕ} {room : List ℕ} {o : Outcome Answer}

@@ -1,11 +1,11 @@
 -- What each exported call leaves, over bytes.
 -- Assumes nothing.
-use Rattle.std.specs.Prelude.{ℕ, ◌≡◌, ◌&&◌, List, eqb, ltb, ℤ, length}
+use Rattle.std.specs.Prelude.{ℕ, ◌≡◌, ◌&&◌, List, Result, Ok, Err, eqb, ltb, ℤ, length}
 use Rattle.std.proofs.Math.Option.{Option, none, some}
 use Rattle.basics.specs.Choice.{when◌then◌else◌}
 use Rattle.basics.specs.Outcome.{Outcome, outcome, Reply, reply}
 use Rattle.modules.specs.Groups.{module_count}
-use Rattle.morse.specs.Answers.{no_room}
+use Rattle.morse.specs.Answers.{done, no_room}
 use Rattle.hearing.specs.Reading.{Read, read_reply}
 use Rattle.hearing.specs.declared.reading.Heard.{Heard}
 use Rattle.frames.specs.Answer.{answer_number}
@@ -25,9 +25,9 @@ use Rattle.books.specs.Summary.{summary_of, put_into}
 use Rattle.books.specs.declared.answer.BookAnswer.TheVariants.{NotBooks}
 use Rattle.books.specs.declared.step.Booked.{Booked}
 use Rattle.beacon.specs.Writing.{beacon_of}
-use Rattle.beacon.specs.declared.text.Form.{Form}
-use Rattle.beacon.specs.declared.writing.Written.{Written}
-use Rattle.beacon.specs.declared.writing.Written.TheVariants.{BadState}
+use Rattle.supervisor.specs.declared.form.Form.{Form}
+use Rattle.beacon.specs.declared.writing.WriteFault.{WriteFault}
+use Rattle.beacon.specs.declared.writing.WriteFault.TheVariants.{BadState}
 use Rattle.tracker.specs.Tracker.{track_number, track_of}
 use Rattle.tracker.specs.declared.Tracked.{Tracked}
 use Rattle.flight.specs.Saving.{image_bytes, saved}
@@ -120,13 +120,18 @@ summary_reply books room =
     else outcome number (put_into summed.shares room)
 
 -- the beacon's text of what was loaded; where that is nothing, the room stays
-abbrev pub beacon_loaded : Form → Option State → (room : List ℕ) → Outcome Written
-beacon_loaded form none room = outcome BadState room
+abbrev pub beacon_loaded : Form → Option State → (room : List ℕ) → Outcome (Result ℕ WriteFault)
+beacon_loaded form none room = outcome (Err BadState) room
 beacon_loaded form (some s) room = beacon_of form s room
 
 -- the beacon's text of an image
-unfoldable pub beacon_image : Form → (image room : List ℕ) → Outcome Written
+unfoldable pub beacon_image : Form → (image room : List ℕ) → Outcome (Result ℕ WriteFault)
 beacon_image form image room = beacon_loaded form (loaded image) room
+
+-- what a call gave, by the page's number, 0 where it is done, and the count of what it has written: none at a refusal
+abbrev pub told : {Refused : Type 0} → (number_of : Refused → ℕ) → Result ℕ Refused → Reply
+told number_of (Ok written) = reply done written
+told number_of (Err refusal) = reply (number_of refusal) 0
 
 -- an outcome by the page's number and count of its answer
 abbrev pub replied : {Answer : Type 0} → (Answer → Reply) → Outcome Answer → Outcome Reply

@@ -14,7 +14,7 @@ use Rattle.basics.proofs.ChoiceLaws.{is_true, holds, and_left, and_right, within
 use Rattle.morse.specs.Signs.{Mark, dot, dash, alphabet, sign_of, signed}
 use Rattle.morse.specs.Texts.{is_space, all_known, fault_of}
 use Rattle.morse.specs.Units.{up, span, sign_units, units_after, units_of, between_signs, between_words}
-use Rattle.morse.specs.declared.texts.Fault.TheVariants.{Nothing}
+use Rattle.std.specs.Prelude.{Ok}
 use Rattle.morse.proofs.Everywhere.{everywhere}
 use Rattle.morse.proofs.TextsLaws.{fair}
 use Rattle.hearing.specs.declared.decoding.Ear.{Ear}
@@ -177,7 +177,7 @@ heard_byte c t [] g n k s = absurd g
 heard_byte c t (dot ∷ ms) g n k s = hear_sign c t dot ms n k s (hear_rest t)
 heard_byte c t (dash ∷ ms) g n k s = hear_sign c t dash ms n k s (hear_rest t)
 
-heard_right : (t : List ℕ) → fault_of t ≡ Nothing → heard (units_of t) ≡ some t
+heard_right : (t : List ℕ) → fault_of t ≡ Ok tt → heard (units_of t) ≡ some t
 unfolding units_of heard
 heard_right [] e = refl
 heard_right (c ∷ t) e =

@@ -13,9 +13,9 @@ use Rattle.basics.specs.Choice.{when◌then◌else◌}
 use Rattle.basics.specs.Bytes.{space}
 use Rattle.basics.proofs.ChoiceLaws.{is_true, and_left, and_right, and_both, decided}
 use Rattle.morse.specs.Signs.{Mark, alphabet, sign_of, signed}
-use Rattle.morse.specs.Texts.{longest, is_space, all_known, seen_in, fault_of}
+use Rattle.morse.specs.Texts.{longest, is_space, all_known, fault_of}
 use Rattle.morse.specs.Units.{up, down, between_signs, between_words, sign_units, gap_after, units_after, units_of}
-use Rattle.morse.proofs.TextsLaws.{fault_spacing}
+use Rattle.morse.proofs.TextsLaws.{spaced_well}
 use Rattle.hearing.specs.declared.decoding.Ear.{Ear}
 use Rattle.hearing.specs.declared.decoding.Told.{Told}
 use Rattle.hearing.specs.declared.decoding.Told.TheVariants.{On, Sign, Word, Wrong}
@@ -139,8 +139,7 @@ unfolding units_of
 rightly_keys units [] r h = absurd r.spaced
 rightly_keys units (c ∷ t) r h =
     let known = is_true (all_known (c ∷ t)) r.known in
-    let fault = fault_spacing (c ∷ t) (seen_in (c ∷ t)) refl h known false (spaced_walk c t r.spaced) in
-    record { passes = sym fault; same = r.same }
+    record { passes = sym (spaced_well (c ∷ t) h known (spaced_walk c t r.spaced)); same = r.same }
 
 -- what is heard of units and is not too long is the text of which they are the keying
 pub heard_keys : (units : List ℕ) → Holds (λ text. length text ≤ longest → Keys text units) (heard units)

@@ -1,11 +1,10 @@
 -- What reading answers and leaves in the room, whichever units it is given.
 -- Assumes nothing.
-use Rattle.std.specs.Prelude.{ℕ, ◌≡◌, List, ltb, length}
+use Rattle.std.specs.Prelude.{ℕ, ◌≡◌, List, Ok, ltb, length}
 use Rattle.basics.specs.Choice.{when◌then◌else◌}
 use Rattle.basics.specs.Outcome.{Outcome, outcome, written, Reply, reply}
 use Rattle.hearing.specs.declared.reading.Heard.{Heard}
 use Rattle.hearing.specs.declared.reading.Heard.TheVariants.{Done, NotAKeying, NoRoom}
-use Rattle.morse.specs.declared.texts.Fault.TheVariants.{Nothing}
 use Rattle.morse.specs.Answers.{done, no_room, not_a_keying}
 use Rattle.morse.specs.Texts.{fault_of}
 use Rattle.morse.specs.Units.{units_of}
@@ -18,7 +17,7 @@ read_reply NoRoom = reply no_room 0
 
 -- the units are exactly the keying of the text, and the text passes 11 to 13
 pub record Keys (text units : List ℕ) : Type 0 where
-  pub passes : fault_of text ≡ Nothing
+  pub passes : fault_of text ≡ Ok tt
   pub same : units_of text ≡ units
 
 -- a text into a room: 14 if it is shorter, else the text is written, and its length returned

@@ -7,7 +7,7 @@ use mathlib.Core.Path.{◌≡◌, refl}
 use mathlib.Core.Bool.{Bool, true, false, not, ◌&&◌, true≢false, false≢true}
 use lib.Dec.{T}
 use borrow.Author.Tests.{eq-eqb, lt-ltb}
-use Rattle.std.specs.Prelude.{Ok}
+use Rattle.std.specs.Prelude.{None, Ok}
 use Rattle.basics.specs.Choice.{within}
 use Rattle.basics.proofs.ChoiceLaws.{decided, within_low, within_high, within_of}
 use Rattle.modules.specs.Groups.{is_mission}
@@ -29,7 +29,6 @@ use Rattle.supervisor.specs.Command.{is_ill_timed, request_set, order_taken, min
 use Rattle.supervisor.specs.History.{Call, answered}
 use Rattle.supervisor.specs.Report.{report_of}
 use Rattle.supervisor.specs.declared.acted.Acted.{Acted}
-use Rattle.supervisor.specs.declared.acted.Due.TheVariants.{Nothing}
 use Rattle.supervisor.specs.declared.state.State.{State}
 use Rattle.supervisor.proofs.CommandLaws.{by_serial_law, act_answers, unrefused}
 use Rattle.supervisor.proofs.HistoryLaws.{Works, Comes, stopped, ticking, other, comes}
@@ -47,7 +46,7 @@ Ill command s = record { which : ℕ; mission : is_mission which ≡ true; on : 
 abbrev Turns : Sender → Command → State → Acted → Type 0
 Turns sender command s a =
     record {
-      silent : a.due ≡ Nothing;
+      silent : a.due ≡ None;
       old : T (within 8 9 (answer_number a.answer)) → a.state ≡ s;
       ten : answer_number a.answer ≡ 10 → a.state ≡ serial_used sender s;
       ill : answer_number a.answer ≡ 10 → Ill command s;
