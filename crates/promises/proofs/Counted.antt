@@ -48,7 +48,7 @@ shown_by s c (ticking shorts w) e =
     ∙ sym (parts (ticked shorts s).state (ticked_in_range shorts s w.valid)).masks)
 shown_by s c (other f t w) e =
     rw w.leaves
-    (report_masks f (act_of f (greeting_text c.input) s) c.room ∙ sym (acted_masks f (greeting_text c.input) w.fits s w.valid))
+    (report_masks f (act_of f s) c.room ∙ sym (acted_masks f w.fits s w.valid))
 
 shown : ShownWhere is_reported
 shown cs c e = shown_by (after fresh_state cs) c (comes (after fresh_state cs) c) e
