@@ -16,7 +16,7 @@ use Rattle.basics.proofs.ChoiceLaws.{holds, within_low, within_high, within_of}
 use Rattle.modules.specs.Masks.{masks_of}
 use Rattle.modules.specs.declared.masks.Masks.{Masks}
 use Rattle.frames.specs.Answer.{answer_number, is_reported}
-use Rattle.frames.specs.Kind.{report_bytes, tick_kind}
+use Rattle.frames.specs.Kind.{report_bytes, kind_number, tick_kind}
 use Rattle.frames.specs.Frame.{head_of}
 use Rattle.frames.specs.About.{about, is_tick}
 use Rattle.frames.specs.declared.answer.Answer.{Answer}
@@ -88,7 +88,7 @@ module _ (s : State) (c : Call) where
 abbrev pub blank : List ℕ
 blank = replicate report_bytes 0
 
-kind_other : (f : Frame) → is_tick (about (Ok f)) ≡ false → eqb (head_of f).kind tick_kind ≡ false
+kind_other : (f : Frame) → is_tick (about (Ok f)) ≡ false → eqb (kind_number (head_of f).kind) tick_kind ≡ false
 kind_other (frame.Tick shorts) e = absurd (true≢false e)
 kind_other (frame.Battery tension) e = refl
 kind_other (frame.Antennas deployed) e = refl

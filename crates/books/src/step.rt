@@ -6,7 +6,7 @@ ghost use Rattle.books.specs.Step.{with_books, is_early, step_books_of};
 use crate::answer::BookAnswer;
 use crate::numbers::{NUMBERS, keep};
 use frames::answer::Answer;
-use frames::kind::{REPORT_BYTES, TICK};
+use frames::kind::{Kind, REPORT_BYTES};
 use supervisor::state::State;
 use supervisor::step::step;
 
@@ -58,7 +58,7 @@ pub fn step_books(state: State, input: &[u8], room: &mut [u8], books: &mut [u64]
         };
     }
     // The bytes are zeros where no report was written, so the second is a tick's kind at a done tick alone.
-    if !keep(books, report[1] == TICK, next.masks) {
+    if !keep(books, report[1] == Kind::Tick as u8, next.masks) {
         return Booked {
             answer: BookAnswer::Full,
             state,

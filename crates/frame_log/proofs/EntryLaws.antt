@@ -1,14 +1,14 @@
 -- Laws of entries: what an entry counts lies within the bytes and the room.
 -- Assumes nothing.
-use Rattle.std.proofs.Common.{◌≡◌, ℕ, ◌+◌, ◌-◌, ◌%◌, ◌^◌, ◌<◌, ◌≤◌, Bool, true, false, leb, List, length, take, replicate, refl, le_refl, arith, length-append, length-drop, length-take-le, le-leb, leb-true}
+use Rattle.std.proofs.Common.{◌≡◌, ℕ, ◌+◌, ◌%◌, ◌^◌, ◌<◌, ◌≤◌, Bool, true, false, leb, List, length, take, replicate, Result, Ok, Err, refl, le_refl, arith, length-append, length-drop, length-take-le, leb-true}
 use Rattle.basics.specs.Outcome.{Outcome, outcome}
 use Rattle.basics.proofs.ChoiceLaws.{either, decided}
 use Rattle.frames.specs.Answer.{is_reported}
 use Rattle.frames.specs.Kind.{report_bytes}
 use Rattle.frames.specs.Cut.{cut_of}
 use Rattle.frames.specs.declared.answer.Answer.{Answer}
-use Rattle.frames.specs.declared.cut.Front.{Front}
-use Rattle.frames.specs.declared.cut.Front.TheVariants as front
+use Rattle.frames.specs.declared.cut.Uncut.{Uncut}
+use Rattle.frames.specs.declared.cut.Uncut.TheVariants as uncut
 use Rattle.frames.proofs.CutLaws.{FrontWithin, cut_within}
 use Rattle.supervisor.specs.declared.state.State.{State}
 use Rattle.supervisor.specs.Step.{step_of}
@@ -50,15 +50,15 @@ module _ (log : Log) (room : List ℕ) (fits : longest ≤ length room) where
       printed_within step.result.answer step.result.state step.room frame bytes some h
 
   entered_within :
-      (f : Front) (bytes : List ℕ) (ended : Bool) → FrontWithin f (length bytes) →
+      (f : Result ℕ Uncut) (bytes : List ℕ) (ended : Bool) → FrontWithin f (length bytes) →
       Within (entered_at f log bytes ended room).result.entry (length bytes) (length room)
-  entered_within (front.Frame total) bytes ended h =
+  entered_within (Ok total) bytes ended h =
       let e : length (take total bytes) ≡ total = length-take-le total bytes h.1 in
       worked_within (take total bytes) (length bytes) (rw e h.0) (rw e h.1)
-  entered_within front.Unknown bytes ended h = worked_within bytes (length bytes) h (le_refl (length bytes))
-  entered_within front.Short bytes true h = worked_within bytes (length bytes) h (le_refl (length bytes))
-  entered_within front.Short bytes false h = tt
-  entered_within front.Empty bytes ended h = tt
+  entered_within (Err uncut.Unknown) bytes ended h = worked_within bytes (length bytes) h (le_refl (length bytes))
+  entered_within (Err uncut.Short) bytes true h = worked_within bytes (length bytes) h (le_refl (length bytes))
+  entered_within (Err uncut.Short) bytes false h = tt
+  entered_within (Err uncut.Empty) bytes ended h = tt
 
 pub enter_within : (log : Log) (bytes : List ℕ) (ended : Bool) (room : List ℕ) → Within (enter_of log bytes ended room).result.entry (length bytes) (length room)
 unfolding enter_of
@@ -87,12 +87,12 @@ module _ (log : Log) (room : List ℕ) where
       let step = step_of log.state frame (replicate report_bytes 0) in
       printed_length step.result.answer step.result.state step.room frame
 
-  entered_length : (f : Front) (bytes : List ℕ) (ended : Bool) → length (entered_at f log bytes ended room).room ≡ length room
-  entered_length (front.Frame total) bytes ended = worked_length (take total bytes)
-  entered_length front.Unknown bytes ended = worked_length bytes
-  entered_length front.Short bytes true = worked_length bytes
-  entered_length front.Short bytes false = refl
-  entered_length front.Empty bytes ended = refl
+  entered_length : (f : Result ℕ Uncut) (bytes : List ℕ) (ended : Bool) → length (entered_at f log bytes ended room).room ≡ length room
+  entered_length (Ok total) bytes ended = worked_length (take total bytes)
+  entered_length (Err uncut.Unknown) bytes ended = worked_length bytes
+  entered_length (Err uncut.Short) bytes true = worked_length bytes
+  entered_length (Err uncut.Short) bytes false = refl
+  entered_length (Err uncut.Empty) bytes ended = refl
 
 pub enter_length : (log : Log) (bytes : List ℕ) (ended : Bool) (room : List ℕ) → length (enter_of log bytes ended room).room ≡ length room
 unfolding enter_of
@@ -113,16 +113,8 @@ module _ (answer : Answer) (s : State) (report : List ℕ) (log : Log) (frame ro
   printed_refusal t w = rw (t, ← w)
 
 -- a whole frame at the front
-pub frame_within : (bytes : List ℕ) (total : ℕ) → cut_of bytes ≡ front.Frame total → total ≤ length bytes
+pub frame_within : (bytes : List ℕ) (total : ℕ) → cut_of bytes ≡ Ok total → total ≤ length bytes
 frame_within bytes total e = (rw e at (cut_within bytes)).1
-
-pub enter_frame :
-    (log : Log) (bytes : List ℕ) (ended : Bool) (room : List ℕ) (total : ℕ) → longest ≤ length room → cut_of bytes ≡ front.Frame total →
-    worked log (take (total - 0) bytes) room ≡ enter_of log bytes ended room
-unfolding enter_of
-enter_frame log bytes ended room total h e =
-    let z : total - 0 ≡ total = omega arith in
-    simp (le-leb longest (length room) h, e, z)
 
 -- what an entry counts, where the stream and the room are parts
 module _ (log : Log) (bytes : List ℕ) (ended : Bool) (room : List ℕ) {entered : Entered} {later : List ℕ} where

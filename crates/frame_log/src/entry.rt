@@ -4,7 +4,7 @@ ghost use Rattle.basics.specs.Outcome.{outcome};
 ghost use Rattle.frame_log.specs.Entry.{fresh_log, worked, enter_of};
 
 use crate::line::{LONGEST, line, refused};
-use frames::cut::{Front, cut};
+use frames::cut::{Uncut, cut};
 use frames::kind::REPORT_BYTES;
 use supervisor::state::State;
 use supervisor::step::step;
@@ -74,6 +74,7 @@ fn work(log: Log, frame: &[u8], room: &mut [u8]) -> Entered
 
 // Enters the frame at the front of the bytes, which are the last of the stream if it has ended. A frame that is
 // cut off there, like one of unknown kind, is handed over as it is, to be refused.
+#[tactic(auto, using(crate::proofs::EntryLaws::frame_within), unfolding(crate::specs::Entry::enter_of))]
 pub fn enter(log: Log, bytes: &[u8], ended: bool, room: &mut [u8]) -> Entered
     ensures { outcome result room.new ≡ enter_of log bytes.now ended room.old }
 {
@@ -84,9 +85,9 @@ pub fn enter(log: Log, bytes: &[u8], ended: bool, room: &mut [u8]) -> Entered
         };
     }
     match cut(bytes) {
-        Front::Frame(total) => work(log, &bytes[0..total], room),
-        Front::Unknown => work(log, bytes, room),
-        Front::Short => {
+        Ok(total) => work(log, &bytes[0..total], room),
+        Err(Uncut::Unknown) => work(log, bytes, room),
+        Err(Uncut::Short) => {
             if ended {
                 work(log, bytes, room)
             } else {
@@ -96,7 +97,7 @@ pub fn enter(log: Log, bytes: &[u8], ended: bool, room: &mut [u8]) -> Entered
                 }
             }
         }
-        Front::Empty => Entered {
+        Err(Uncut::Empty) => Entered {
             entry: Entry::More,
             log,
         },

@@ -4,8 +4,8 @@ use Rattle.pass.proofs.PassLaws.{work_made}
 use Rattle.pass.proofs.work.Goals as goal
 
 pub slice_bounds-step-end : goal.slice_bounds-step-end
-slice_bounds-step-end c = rw (c.bytes-bytes.ensures, c.cut-front.ensures) (front_within _)
+slice_bounds-step-end c = rw (c.front_bytes-bytes.ensures, c.cut-front.ensures) (front_within _)
 
 pub returns : goal.returns
 returns c =
-    work_made _ _ _ _ _ _ (rw c.cut-front.ensures at c.bytes-bytes.ensures) c.step-stepped.ensures
+    work_made _ _ _ _ _ _ (rw c.cut-front.ensures at c.front_bytes-bytes.ensures) c.step-stepped.ensures
