@@ -13,6 +13,7 @@ ghost use Rattle.flight.specs.Calls.{tracks, tracks_of};
 
 use crate::loading::{decode, has_layout};
 use crate::saving::{IMAGE_BYTES, save};
+use basics::Refusal;
 use beacon::writing::WriteFault;
 use books::answer::BookAnswer;
 use books::numbers::{MODULES, NUMBERS};
@@ -20,7 +21,6 @@ use books::shares::put;
 use books::step::step_books;
 use books::summary::summary;
 use frames::answer::Answer;
-use basics::Refusal;
 use morse::answers::{DONE, NO_ROOM};
 use supervisor::form::Form;
 use supervisor::fresh::fresh;
@@ -210,9 +210,7 @@ pub extern "C" fn ems_read(units: &[u8], text: &mut [u8], count: &mut usize) -> 
     ensures { ReadReplied units.now text.old
         (outcome (reply result count.new) text.new) }
 {
-    let heard = hearing::read(units, text);
-    *count = heard.count();
-    heard.number()
+    tell(hearing::read(units, text), count)
 }
 
 // One call of the panel tracker: the set point moves, and the step is told; refused, both stay.
