@@ -16,8 +16,8 @@ use Rattle.std.specs.Prelude.{Result, Ok, Err}
 use Rattle.morse.specs.Answers.{no_room}
 use Rattle.morse.specs.Keying.{key_fault_number, key_reply}
 use Rattle.morse.specs.declared.keying.KeyFault.{KeyFault}
-use Rattle.hearing.specs.Reading.{Read, read_reply}
-use Rattle.hearing.specs.declared.reading.Heard.{Heard}
+use Rattle.hearing.specs.Reading.{read_fault_number, read_reply, Read}
+use Rattle.hearing.specs.declared.reading.ReadFault.{ReadFault}
 use Rattle.frames.specs.Answer.{answer_number, is_reported}
 use Rattle.supervisor.specs.Range.{in_range}
 use Rattle.supervisor.specs.Step.{step_of}
@@ -255,9 +255,13 @@ pub replied_by : {Answer : Type 0} (by : Answer → Reply) {answer : Answer} {n 
     → n ≡ (by answer).number → k ≡ (by answer).count → outcome answer room ≡ o → outcome (reply n k) room ≡ replied by o
 replied_by by p q e = rw (p, q) (ap (replied by) e)
 
-pub read_replied : {units room room' : List ℕ} (answer : Heard) {n k : ℕ} → Read units room (outcome answer room')
-    → n ≡ (read_reply answer).number → k ≡ (read_reply answer).count → ReadReplied units room (outcome (reply n k) room')
-read_replied {room' = room'} answer r p q = record { heard = outcome answer room'; read = r; same = replied_by read_reply {answer = answer} p q refl }
+read_told : (given : Result ℕ ReadFault) → told read_fault_number given ≡ read_reply given
+read_told (Ok written) = refl
+read_told (Err refusal) = refl
+
+pub read_replied : {units room room' : List ℕ} (given : Result ℕ ReadFault) {r : Reply} → Read units room (outcome given room')
+    → r ≡ told read_fault_number given → ReadReplied units room (outcome r room')
+read_replied {room' = room'} given r e = record { heard = outcome given room'; read = r; same = told_by read_fault_number read_reply read_told e refl }
 
 -- what the tracker hands back, by its number
 pub tracked_by : {n : ℕ} {next : ℤ} {t o : Tracked} → n ≡ track_number t.answer → next ≡ t.step → t ≡ o

@@ -9,6 +9,7 @@ use mathlib.Core.Option.{Option, none, some}
 use lib.Dec.{eqb}
 use lib.ListN.{length}
 use borrow.Author.Tests.{eq-eqb}
+use Rattle.std.specs.Prelude.{Err}
 use Rattle.basics.specs.Outcome.{outcome, reply}
 use Rattle.supervisor.specs.Range.{in_range}
 use Rattle.supervisor.specs.Step.{step_of}
@@ -18,8 +19,8 @@ use Rattle.pass.specs.Pass.{pass_of}
 use Rattle.books.specs.Books.{book_numbers}
 use Rattle.books.specs.Step.{with_books, step_books_of}
 use Rattle.beacon.specs.Writing.{beacon_of}
-use Rattle.beacon.specs.declared.text.Form.{Form}
-use Rattle.beacon.specs.declared.writing.Written.TheVariants.{BadState}
+use Rattle.supervisor.specs.declared.form.Form.{Form}
+use Rattle.beacon.specs.declared.writing.WriteFault.TheVariants.{BadState}
 use Rattle.flight.specs.Saving.{saved}
 use Rattle.flight.specs.Loading.{loaded}
 use Rattle.flight.specs.Calls.{imaged, bad_state, stepped_to, step_image, passed_to, pass_image, booked_to, step_books_image, beacon_image}
@@ -71,6 +72,6 @@ module _ (image room : List ℕ) (small : AllBytes image) (never : (s : State) �
   unfolding step_books_image
   books_bad frame books size = simp (eq-eqb (length books) book_numbers size, no_state)
 
-  pub beacon_bad : (form : Form) → beacon_image form image room ≡ outcome BadState room
+  pub beacon_bad : (form : Form) → beacon_image form image room ≡ outcome (Err BadState) room
   unfolding beacon_image
   beacon_bad form = simp no_state

@@ -7,7 +7,7 @@ use Rattle.basics.specs.Outcome.{Outcome, outcome, Reply, reply}
 use Rattle.modules.specs.Groups.{module_count}
 use Rattle.morse.specs.Answers.{done, no_room}
 use Rattle.hearing.specs.Reading.{Read, read_reply}
-use Rattle.hearing.specs.declared.reading.Heard.{Heard}
+use Rattle.hearing.specs.declared.reading.ReadFault.{ReadFault}
 use Rattle.frames.specs.Answer.{answer_number}
 use Rattle.frames.specs.declared.answer.Answer.TheVariants as answer
 use Rattle.supervisor.specs.Fresh.{fresh_state}
@@ -139,7 +139,7 @@ replied by o = outcome (by o.result) o.room
 
 -- reading: an outcome that reading these units allows (there is one, and no second)
 pub record ReadReplied (units room : List ℕ) (after : Outcome Reply) : Type 0 where
-  pub heard : Outcome Heard
+  pub heard : Outcome (Result ℕ ReadFault)
   pub read : Read units room heard
   pub same : after ≡ replied read_reply heard
 

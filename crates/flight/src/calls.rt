@@ -13,6 +13,7 @@ ghost use Rattle.flight.specs.Calls.{tracks, tracks_of};
 
 use crate::loading::{decode, has_layout};
 use crate::saving::{IMAGE_BYTES, save};
+use basics::Refusal;
 use beacon::writing::WriteFault;
 use books::answer::BookAnswer;
 use books::numbers::{MODULES, NUMBERS};
@@ -20,7 +21,6 @@ use books::shares::put;
 use books::step::step_books;
 use books::summary::summary;
 use frames::answer::Answer;
-use basics::Refusal;
 use morse::answers::{DONE, NO_ROOM};
 use supervisor::form::Form;
 use supervisor::fresh::fresh;
@@ -183,16 +183,12 @@ pub extern "C" fn ems_beacon_extended(image: &[u8], text: &mut [u8], count: &mut
 fn tell<E: Refusal>(given: Result<usize, E>, count: &mut usize) -> u8
     ensures { reply result count.new ≡ told E.number_of given }
 {
-    match given {
-        Ok(written) => {
-            *count = written;
-            DONE
-        }
-        Err(refusal) => {
-            *count = 0;
-            refusal.number()
-        }
-    }
+    let (number, written) = match given {
+        Ok(written) => (DONE, written),
+        Err(refusal) => (refusal.number(), 0),
+    };
+    *count = written;
+    number
 }
 
 // Keys a text: its units, and how many they are.
@@ -210,9 +206,7 @@ pub extern "C" fn ems_read(units: &[u8], text: &mut [u8], count: &mut usize) -> 
     ensures { ReadReplied units.now text.old
         (outcome (reply result count.new) text.new) }
 {
-    let heard = hearing::read(units, text);
-    *count = heard.count();
-    heard.number()
+    tell(hearing::read(units, text), count)
 }
 
 // One call of the panel tracker: the set point moves, and the step is told; refused, both stay.

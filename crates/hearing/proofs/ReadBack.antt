@@ -16,7 +16,7 @@ use Rattle.morse.specs.declared.texts.Fault.{Fault}
 use Rattle.morse.specs.Texts.{fault_of}
 use Rattle.morse.specs.Units.{units_of}
 use Rattle.morse.specs.Keying.{key_units, key_by, key_of, key_reply}
-use Rattle.hearing.specs.declared.reading.Heard.{Heard}
+use Rattle.hearing.specs.declared.reading.ReadFault.{ReadFault}
 use Rattle.hearing.specs.Reading.{Keys, read_text, Read}
 use Rattle.hearing.proofs.ReadingLaws.{one_text}
 
@@ -45,7 +45,7 @@ key_done t room later n e = by_found (fault_of t) refl e
 
 -- reading back: where keying a text answered a count, whatever reading does with so many units of that room gives the
 -- text
-pub read_back : (text units later room : List ℕ) (n : ℕ) (after : Outcome Heard)
+pub read_back : (text units later room : List ℕ) (n : ℕ) (after : Outcome (Result ℕ ReadFault))
     → key_of text units ≡ outcome (Ok n) later → Read (take n later) room after → after ≡ read_text text room
 read_back text units later room n after k r = r.told text (key_done text units later n k)
 

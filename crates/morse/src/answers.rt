@@ -6,6 +6,3 @@ pub const DONE: u8 = 0;
 
 // A room shorter than the result.
 pub const NO_ROOM: u8 = 14;
-
-// Units that are not exactly the keying of a text.
-pub const NOT_A_KEYING: u8 = 15;
