@@ -2,14 +2,12 @@
 -- Assumes nothing.
 use Prim.Native.Nat.{ℕ, ◌*◌, ◌≤◌}
 use native.Mathlib.Omega.{arith}
-use mathlib.Core.List.{List}
 use mathlib.Core.Path.{◌≡◌, refl, sym, ap, ◌∙◌}
 use mathlib.Core.Bool.{Bool, true, false, not, ◌&&◌, true≢false}
 use borrow.Author.Tests.{eq-eqb, lt-ltb}
 use Rattle.std.specs.Prelude.{Ok}
 use Rattle.basics.proofs.ChoiceLaws.{is_true, decided, within_low}
 use Rattle.modules.specs.Groups.{is_mission}
-use Rattle.frames.specs.Greeting.{greeting_text}
 use Rattle.frames.specs.Answer.{answer_number}
 use Rattle.frames.specs.About.{a_command, about, is_tick}
 use Rattle.frames.specs.Reading.{most_minutes}

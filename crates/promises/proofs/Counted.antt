@@ -10,7 +10,6 @@ use Rattle.modules.specs.Masks.{count_on}
 use Rattle.modules.specs.declared.masks.Masks.{Masks}
 use Rattle.modules.proofs.MasksLaws.{ones_on}
 use Rattle.frames.specs.Answer.{is_reported}
-use Rattle.frames.specs.Greeting.{greeting_text}
 use Rattle.frames.specs.declared.answer.Answer.TheVariants.{Done}
 use Rattle.frames.specs.declared.frame.Frame.TheVariants as frame
 use Rattle.frames.proofs.AnswerLaws.{refusal}

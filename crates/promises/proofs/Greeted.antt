@@ -12,7 +12,6 @@ use Rattle.std.specs.Prelude.{Option, Some, Ok}
 use Rattle.basics.specs.Choice.{when◌then◌else◌}
 use Rattle.basics.proofs.ChoiceLaws.{decided, within_low}
 use Rattle.frames.specs.Answer.{answer_number}
-use Rattle.frames.specs.Greeting.{greeting_text}
 use Rattle.frames.specs.About.{about, is_tick, a_command}
 use Rattle.frames.specs.declared.sender.Sender.{Sender}
 use Rattle.frames.specs.declared.command.Command.TheVariants.{Greeting}

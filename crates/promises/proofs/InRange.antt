@@ -6,7 +6,6 @@ use mathlib.Core.Path.{◌≡◌, sym, ◌∙◌}
 use mathlib.Core.Bool.{true≢false}
 use lib.Dec.{T}
 use Rattle.basics.proofs.ChoiceLaws.{is_true}
-use Rattle.frames.specs.Greeting.{greeting_text}
 use Rattle.supervisor.specs.Range.{in_range}
 use Rattle.supervisor.specs.Fresh.{fresh_state}
 use Rattle.supervisor.specs.Act.{act_of}

@@ -10,7 +10,6 @@ use borrow.Author.Tests.{eqb-true, ne_eqb}
 use Rattle.std.specs.Prelude.{Ok}
 use Rattle.basics.specs.Choice.{when◌then◌else◌, within}
 use Rattle.basics.proofs.ChoiceLaws.{is_true, within_low, within_high}
-use Rattle.frames.specs.Greeting.{greeting_text}
 use Rattle.frames.specs.Answer.{answer_number}
 use Rattle.frames.specs.Serial.{serial_count, stale_from, distance, class_of, last_of}
 use Rattle.frames.specs.About.{serial_from, about}
@@ -56,7 +55,7 @@ module _ (origin : Origin) where
   -- a tick is no command of any origin
   tick_view : (shorts : ℕ) (s : State) → View origin (frame.Tick shorts) s (ticked shorts s)
   unfolding act_of
-  tick_view shorts s = view origin (frame.Tick shorts) s (ticked shorts s) (act_answers (frame.Tick shorts) [] s)
+  tick_view shorts s = view origin (frame.Tick shorts) s (ticked shorts s) (act_answers (frame.Tick shorts) s)
 
   -- where an origin's last serial stands after a call, modulo 65,536
   abbrev Strides : State → Call → Type 0

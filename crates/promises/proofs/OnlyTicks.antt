@@ -12,7 +12,6 @@ use Rattle.modules.specs.Groups.{is_core}
 use Rattle.modules.specs.declared.ends.Ends.{Ends}
 use Rattle.modules.specs.declared.power.Module.{Module}
 use Rattle.frames.specs.Answer.{answer_number}
-use Rattle.frames.specs.Greeting.{greeting_text}
 use Rattle.frames.specs.About.{About, about, is_tick}
 use Rattle.frames.specs.declared.answer.Answer.TheVariants.{NotNow}
 use Rattle.frames.specs.declared.sender.Sender.{Sender}

@@ -13,7 +13,6 @@ use Rattle.basics.specs.Outcome.{Outcome}
 use Rattle.basics.proofs.ChoiceLaws.{is_true}
 use Rattle.frames.specs.Answer.{is_reported}
 use Rattle.frames.specs.Kind.{report_bytes}
-use Rattle.frames.specs.Greeting.{greeting_text}
 use Rattle.frames.specs.Reading.{read_frame}
 use Rattle.frames.proofs.ReadingLaws.{is_accepted, read_sound, battery_read}
 use Rattle.supervisor.specs.Range.{in_range}

@@ -2,7 +2,6 @@
 -- Assumes nothing.
 use Prim.Native.Nat.{ℕ, ◌*◌}
 use native.Mathlib.Omega.{arith}
-use mathlib.Core.List.{List}
 use mathlib.Core.Path.{◌≡◌, refl}
 use mathlib.Core.Bool.{Bool, true, false, not, ◌&&◌, true≢false, false≢true}
 use lib.Dec.{T}
@@ -11,7 +10,6 @@ use Rattle.std.specs.Prelude.{None, Ok}
 use Rattle.basics.specs.Choice.{within}
 use Rattle.basics.proofs.ChoiceLaws.{decided, within_low, within_high, within_of}
 use Rattle.modules.specs.Groups.{is_mission}
-use Rattle.frames.specs.Greeting.{greeting_text}
 use Rattle.frames.specs.Answer.{answer_number}
 use Rattle.frames.specs.About.{about, is_tick}
 use Rattle.frames.specs.Reading.{most_minutes}

@@ -7,7 +7,6 @@ use mathlib.Core.List.{List, [], ◌∷◌, ◌++◌}
 use mathlib.Core.Logic.{⊎_elim}
 use lib.Dec.{T}
 use Rattle.std.specs.Prelude.{Ok, Err}
-use Rattle.frames.specs.Greeting.{greeting_text}
 use Rattle.frames.specs.Answer.{answer_number}
 use Rattle.frames.specs.Serial.{class_of, last_of}
 use Rattle.frames.specs.About.{serial_from, about}

@@ -14,7 +14,6 @@ use Rattle.basics.proofs.TablesLaws.{upto}
 use Rattle.modules.specs.Groups.{is_core, is_mission, module_count, adcs_module}
 use Rattle.modules.specs.Power.{is_on}
 use Rattle.modules.specs.Stage.{requested_by}
-use Rattle.frames.specs.Greeting.{greeting_text}
 use Rattle.frames.specs.Reading.{Reading, read_frame}
 use Rattle.frames.specs.About.{about}
 use Rattle.frames.proofs.ReadingLaws.{Sound, read_sound, battery_read}
