@@ -34,15 +34,14 @@ pub fn step(state: State, input: &[u8], room: &mut [u8]) -> Stepped
             state,
         };
     }
-    match read(input) {
-        Err(answer) => Stepped { answer, state },
-        Ok(frame) => {
-            let acted = act(state, frame);
-            write(room, frame, acted);
-            Stepped {
-                answer: acted.answer,
-                state: acted.state,
-            }
-        }
+    let frame = match read(input) {
+        Ok(frame) => frame,
+        Err(answer) => return Stepped { answer, state },
+    };
+    let acted = act(state, frame);
+    write(room, frame, acted);
+    Stepped {
+        answer: acted.answer,
+        state: acted.state,
     }
 }

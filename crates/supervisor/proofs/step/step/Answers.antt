@@ -43,11 +43,11 @@ unfolding step_of
 returns-in-Err c =
     simp (valid (goal.at.returns-in-Err c).Else-not-in_range, le-leb _ _ c.if-room-lt-REPORT_BYTES.false, rw c.read.ensures at c.in-Err.is)
 
-pub returns-in-Ok : goal.returns-in-Ok
+pub returns : goal.returns
 unfolding step_of
-returns-in-Ok c =
+returns c =
     simp (
-      valid (goal.at.returns-in-Ok c).Else-not-in_range,
+      valid (goal.at.returns c).Else-not-in_range,
       le-leb _ _ c.if-room-lt-REPORT_BYTES.false,
       rw c.read.ensures at c.in-Ok.is,
       c.write.ensures,
