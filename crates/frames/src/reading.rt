@@ -179,11 +179,10 @@ fn greeting(bytes: &[u8]) -> Result<Frame, Answer>
     let sender = sender(bytes)?;
     let repeats = bytes[4];
     let length = bytes[5];
-    let text = text_of(bytes);
-    if !is_greeting(length, text) {
+    if !is_greeting(length, text_of(bytes)) {
         return Err(Answer::BadField);
     }
-    of_ground(sender, Command::Greeting { repeats, length, text })
+    of_ground(sender, Command::Greeting { repeats, length })
 }
 
 // Checks 3 to 7, in the page's order.

@@ -7,6 +7,7 @@ use crate::act::act;
 use crate::report::write;
 use crate::state::State;
 use frames::answer::Answer;
+use frames::greeting::text_of;
 use frames::kind::REPORT_BYTES;
 use frames::reading::read;
 
@@ -38,7 +39,7 @@ pub fn step(state: State, input: &[u8], room: &mut [u8]) -> Stepped
         Ok(frame) => frame,
         Err(answer) => return Stepped { answer, state },
     };
-    let acted = act(state, frame);
+    let acted = act(state, frame, text_of(input));
     write(room, frame, acted);
     Stepped {
         answer: acted.answer,
