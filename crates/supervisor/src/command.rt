@@ -31,6 +31,7 @@ impl Mode {
 
 impl State {
     // An order: 10, or the module's request is set, with its bit, and its end.
+    #[tactic(auto, unfolding(crate::specs::Command::request_set))]
     fn order(mut self, which: u8, on: bool, seconds: u32) -> Acted
         requires { HasMasks self }
         ensures { result ≡ order_taken which on seconds self }
@@ -68,7 +69,11 @@ impl State {
     {
         match command {
             Command::Order { which, on } => self.order(which, on, 0),
-            Command::Timed { which, minutes } => self.order(which, true, MINUTE * u32::from(minutes)),
+            Command::Timed { which, minutes } => self.order(
+                which,
+                true,
+                MINUTE * u32::from(minutes),
+            ),
             Command::Thresholds { ascend, descend } => self.thresholds(ascend, descend),
             Command::Greeting { repeats, length } => self.greeting(repeats, length, text),
         }

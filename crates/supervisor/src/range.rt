@@ -50,7 +50,7 @@ impl Watch {
     {
         match self.mode {
             Mode::DeployWait(phase) => phase.in_range() & (self.control == 0) & (self.beacon == 0),
-            Mode::Recovery | Mode::Safe => (self.control < JUDGE_TICKS) & (self.beacon < BASIC_TICKS),
+            _ => (self.control < JUDGE_TICKS) & (self.beacon < BASIC_TICKS),
         }
     }
 }

@@ -56,7 +56,8 @@ pub struct State {
     pub watch: Watch,
     // whether the latest report has the antennas deployed
     pub antennas: bool,
-    // those of the modules below; here they fill bytes that would lie unused (docs/PERFORMANCE.md)
+    // those of the modules below; here they fill bytes that would lie unused (docs/PERFORMANCE.md). Check 1 finds it so, and
+    // after it `HasMasks` asks it: a type that says it would stand beside this one, which may hold any masks as it comes in
     pub masks: Masks,
     pub battery: Battery,
     pub serials: Serials,

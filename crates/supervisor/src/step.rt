@@ -20,6 +20,7 @@ pub struct Stepped {
 
 // Takes one frame. At answers 0, 8, 9 and 10 a report fills the first 11 bytes of the room;
 // at any other answer the state is the same and the room untouched.
+#[tactic(auto, unfolding(crate::specs::Step::step_of))]
 pub fn step(state: State, input: &[u8], room: &mut [u8]) -> Stepped
     ensures { outcome result room.new ≡ step_of state input.now room.old }
 {

@@ -39,7 +39,8 @@ impl State {
         ensures { result ≡ module_stage shorts self }
     {
         let requested = self.masks.requested;
-        let after = modules::stage::stage(self.modules, requested & self.watch.mode.allowed(), shorts);
+        let wanted = requested & self.watch.mode.allowed();
+        let after = modules::stage::stage(self.modules, wanted, shorts);
         let masks = Masks {
             requested,
             on: after.on,
@@ -49,6 +50,7 @@ impl State {
     }
 
     // One second, with the mask of the shorts seen in it.
+    #[tactic(auto, unfolding(crate::specs::Tick::ticked))]
     pub(crate) fn tick(mut self, shorts: u8) -> Acted
         requires { in_range self ≡ true }
         ensures { result ≡ ticked shorts self }

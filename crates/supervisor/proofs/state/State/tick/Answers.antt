@@ -7,7 +7,6 @@ use Rattle.supervisor.proofs.BeforeModulesLaws.{before_masks}
 use Rattle.supervisor.proofs.TickLaws.{staged_beacon, ticked_stages}
 use Rattle.supervisor.specs.State.{is_deploy_wait}
 use Rattle.supervisor.specs.Range.{in_range}
-use Rattle.supervisor.specs.Tick.{ticked}
 use Rattle.supervisor.specs.declared.state.Mode.{Mode}
 use Rattle.supervisor.specs.declared.state.Mode.TheVariants.{DeployWait, Recovery, Safe}
 use Rattle.supervisor.specs.declared.state.State.{State}
@@ -45,10 +44,6 @@ beacon_stage-requires c =
     let s : State = c.args.self in
     rw (c.module_stage.ensures, c.before_modules.ensures, staged_beacon)
     (counts_of s (holds (in_range s) c.requires) (in_flight (goal.at.beacon_stage-requires c).In_default)).beacon
-
-pub returns-in-DeployWait : goal.returns-in-DeployWait
-unfolding ticked
-returns-in-DeployWait c = simp (c.silent.ensures, c.tick-self.ensures, c.in-DeployWait.is)
 
 pub returns-in_default : goal.returns-in_default
 returns-in_default c =
