@@ -37,6 +37,7 @@ pub struct Entered {
 }
 
 // A log that has no line yet.
+#[tactic(auto, unfolding(crate::specs::Entry::fresh_log))]
 pub fn fresh() -> Log
     ensures { result ≡ fresh_log }
 {
@@ -47,33 +48,45 @@ pub fn fresh() -> Log
 }
 
 // Works a frame and writes its line.
+#[tactic(auto, unfolding(crate::specs::Entry::worked))]
 fn work(log: Log, frame: &[u8], room: &mut [u8]) -> Entered
     ensures { outcome result room.new ≡ worked log frame.now room.old }
 {
-    let mut report = [0u8; REPORT_BYTES];
+    let mut report = [0; REPORT_BYTES];
     let stepped = step(log.state, frame, &mut report);
-    let answer = stepped.answer;
-    if answer.is_reported() {
-        let state = stepped.state;
-        return Entered {
-            entry: Entry::Line {
-                frame: frame.len(),
-                line: line(log.n, &report, room),
+    if !stepped.answer.is_reported() {
+        return match refused(log.n, stepped.answer, room) {
+            Some(line) => Entered {
+                entry: Entry::Last(line),
+                log,
             },
-            log: Log {
-                state,
-                n: log.n.wrapping_add(1),
+            None => Entered {
+                entry: Entry::Full,
+                log,
             },
         };
     }
-    Entered {
-        entry: Entry::Last(refused(log.n, answer, room)),
-        log,
+    match line(log.n, &report, room) {
+        Some(line) => Entered {
+            entry: Entry::Line {
+                frame: frame.len(),
+                line,
+            },
+            log: Log {
+                state: stepped.state,
+                n: log.n.wrapping_add(1),
+            },
+        },
+        None => Entered {
+            entry: Entry::Full,
+            log,
+        },
     }
 }
 
 // Enters the frame at the front of the bytes, which are the last of the stream if it has ended. A frame that is
 // cut off there, like one of unknown kind, is handed over as it is, to be refused.
+#[tactic(auto, unfolding(crate::specs::Entry::enter_of))]
 pub fn enter(log: Log, bytes: &[u8], ended: bool, room: &mut [u8]) -> Entered
     ensures { outcome result room.new ≡ enter_of log bytes.now ended room.old }
 {
@@ -84,19 +97,10 @@ pub fn enter(log: Log, bytes: &[u8], ended: bool, room: &mut [u8]) -> Entered
         };
     }
     match cut(bytes) {
-        Front::Frame(total) => work(log, &bytes[0..total], room),
+        Front::Frame(total) => work(log, &bytes[..total], room),
         Front::Unknown => work(log, bytes, room),
-        Front::Short => {
-            if ended {
-                work(log, bytes, room)
-            } else {
-                Entered {
-                    entry: Entry::More,
-                    log,
-                }
-            }
-        }
-        Front::Empty => Entered {
+        Front::Short if ended => work(log, bytes, room),
+        Front::Short | Front::Empty => Entered {
             entry: Entry::More,
             log,
         },
