@@ -1,6 +1,6 @@
 -- Laws of entries: what an entry counts lies within the bytes and the room.
 -- Assumes nothing.
-use Rattle.std.proofs.Common.{◌≡◌, ℕ, ◌+◌, ◌-◌, ◌%◌, ◌^◌, ◌<◌, ◌≤◌, Bool, true, false, leb, Option, Some, List, length, take, replicate, refl, le_refl, arith, length-append, length-drop, length-take-le, le-leb, leb-true}
+use Rattle.std.proofs.Common.{◌≡◌, ℕ, ◌<◌, ◌≤◌, Bool, true, false, leb, Option, Some, List, length, take, replicate, refl, le_refl, arith, length-append, length-drop, length-take-le, leb-true}
 use Rattle.basics.specs.Outcome.{Outcome, outcome, written}
 use Rattle.basics.proofs.ChoiceLaws.{either, decided}
 use Rattle.frames.specs.Answer.{is_reported}

@@ -24,7 +24,7 @@ unfoldable pub fresh_log : Log
 fresh_log = record { state = fresh_state; n = 1 }
 
 -- an entry, and where the log stands after it
-abbrev entered : Entry → Log → Entered
+abbrev pub entered : Entry → Log → Entered
 entered e log = record { entry = e; log = log }
 
 -- a line for a frame: the log goes on, in the next state and with the next n (of 64 bits); with no room for it, nothing is

@@ -1,7 +1,7 @@
 // The log's next entry: the frame at the front of a stream, worked, and its line.
 ghost use Rattle.std.specs.Prelude.{◌≡◌};
 ghost use Rattle.basics.specs.Outcome.{outcome};
-ghost use Rattle.frame_log.specs.Entry.{fresh_log, worked, enter_of};
+ghost use Rattle.frame_log.specs.Entry.{fresh_log, entered, worked, enter_of};
 
 use crate::line::{LONGEST, line, refused};
 use frames::cut::{Front, cut};
@@ -36,6 +36,15 @@ pub struct Entered {
     pub log: Log,
 }
 
+impl Log {
+    // An entry that leaves the log where it is.
+    fn stays(self, entry: Entry) -> Entered
+        ensures { result ≡ entered entry self }
+    {
+        Entered { entry, log: self }
+    }
+}
+
 // A log that has no line yet.
 #[tactic(auto, unfolding(crate::specs::Entry::fresh_log))]
 pub fn fresh() -> Log
@@ -56,14 +65,8 @@ fn work(log: Log, frame: &[u8], room: &mut [u8]) -> Entered
     let stepped = step(log.state, frame, &mut report);
     if !stepped.answer.is_reported() {
         return match refused(log.n, stepped.answer, room) {
-            Some(line) => Entered {
-                entry: Entry::Last(line),
-                log,
-            },
-            None => Entered {
-                entry: Entry::Full,
-                log,
-            },
+            Some(line) => log.stays(Entry::Last(line)),
+            None => log.stays(Entry::Full),
         };
     }
     match line(log.n, &report, room) {
@@ -77,10 +80,7 @@ fn work(log: Log, frame: &[u8], room: &mut [u8]) -> Entered
                 n: log.n.wrapping_add(1),
             },
         },
-        None => Entered {
-            entry: Entry::Full,
-            log,
-        },
+        None => log.stays(Entry::Full),
     }
 }
 
@@ -91,18 +91,12 @@ pub fn enter(log: Log, bytes: &[u8], ended: bool, room: &mut [u8]) -> Entered
     ensures { outcome result room.new ≡ enter_of log bytes.now ended room.old }
 {
     if room.len() < LONGEST {
-        return Entered {
-            entry: Entry::Full,
-            log,
-        };
+        return log.stays(Entry::Full);
     }
     match cut(bytes) {
         Front::Frame(total) => work(log, &bytes[..total], room),
         Front::Unknown => work(log, bytes, room),
         Front::Short if ended => work(log, bytes, room),
-        Front::Short | Front::Empty => Entered {
-            entry: Entry::More,
-            log,
-        },
+        Front::Short | Front::Empty => log.stays(Entry::More),
     }
 }
