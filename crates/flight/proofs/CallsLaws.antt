@@ -9,6 +9,8 @@ use lib.Dec.{T, eqb, ltb}
 use lib.IntN.{ℤ}
 use lib.ListN.{length}
 use borrow.Author.Tests.{eq-eqb}
+use Rattle.std.specs.Prelude.{Some, None}
+use Rattle.basics.specs.Choice.{when◌then◌else◌}
 use Rattle.basics.specs.Outcome.{Outcome, outcome, Reply, reply}
 use Rattle.basics.proofs.ChoiceLaws.{is_true, holds}
 use Rattle.modules.specs.Groups.{module_count}
@@ -42,8 +44,8 @@ use Rattle.beacon.specs.declared.writing.Written.TheVariants.{BadState}
 use Rattle.beacon.proofs.WritingLaws.{beacon_outside}
 use Rattle.tracker.specs.Tracker.{track_number}
 use Rattle.tracker.specs.declared.Tracked.{Tracked}
-use Rattle.flight.specs.Saving.{saved}
-use Rattle.flight.specs.Loading.{has_layout, decoded, loaded}
+use Rattle.flight.specs.Saving.{image_bytes, saved}
+use Rattle.flight.specs.Loading.{has_layout, decoded, loaded, fields_say}
 use Rattle.flight.specs.Calls.{imaged, bad_state, stepped_to, step_image, passed_to, pass_image, modules_on_reply, modules_on_image, beacon_image}
 use Rattle.flight.specs.Calls.{booked_to, step_books_image, summary_reply}
 use Rattle.flight.specs.Calls.{replied, ReadReplied}
@@ -51,15 +53,39 @@ use Rattle.flight.specs.Calls.{tracks, tracked_to}
 use Rattle.flight.proofs.FieldsLaws.{AllBytes}
 use Rattle.flight.proofs.LoadingLaws.{layout, saved_decoded}
 
--- counting asks for no room
-pub count_foreign : (image : List ℕ) → has_layout image ≡ false → reply bad_state 0 ≡ modules_on_image image
-unfolding modules_on_image loaded
-count_foreign image other = simp other
+-- what the fields say is of this layout; bytes that say nothing are of another
+module _ (image : List ℕ) where
+  pub says_nothing : fields_say image ≡ None → has_layout image ≡ false
+  unfolding fields_say
+  says_nothing e = by_test (has_layout image) refl e
+    where
+      by_test : (t : Bool) → has_layout image ≡ t → (when t then Some (decoded image) else None) ≡ None → has_layout image ≡ false
+      by_test true l z = let never : ◌≡◌ {A = ℕ} 0 1 = cc in absurd (omega arith)
+      by_test false l z = l
 
-pub count_worked : (image : List ℕ) → has_layout image ≡ true → (s : State) → s ≡ decoded image → modules_on_reply (modules_on_of s) ≡ modules_on_image image
+  pub says_state : (s : State) → fields_say image ≡ Some s → (has_layout image ≡ true) × (s ≡ decoded image)
+  unfolding fields_say
+  says_state s e = by_test (has_layout image) refl e
+    where
+      by_test : (t : Bool) → has_layout image ≡ t → (when t then Some (decoded image) else None) ≡ Some s → (has_layout image ≡ true) × (s ≡ decoded image)
+      by_test true l z = let same : s ≡ decoded image = cc in (l, same)
+      by_test false l z = let never : ◌≡◌ {A = ℕ} 0 1 = cc in absurd (omega arith)
+
+-- counting asks for no room
+pub count_foreign : (image : List ℕ) → fields_say image ≡ None → reply bad_state 0 ≡ modules_on_image image
+unfolding modules_on_image loaded
+count_foreign image nothing = simp (says_nothing image nothing)
+
+pub count_worked : (image : List ℕ) (s : State) → fields_say image ≡ Some s → modules_on_reply (modules_on_of s) ≡ modules_on_image image
 unfolding modules_on_image modules_on_of loaded
-count_worked image own s says = by_range (in_range s) refl
+count_worked image s say = by_range (in_range s) refl
   where
+    own : has_layout image ≡ true
+    own = (says_state image s say).0
+
+    says : s ≡ decoded image
+    says = (says_state image s say).1
+
     by_range : (t : Bool) → in_range s ≡ t → modules_on_reply (modules_on_of s) ≡ modules_on_image image
     by_range true e = simp (own, sym says, e)
     by_range false e = simp (own, sym says, e)
@@ -84,7 +110,10 @@ unfolding summary_reply
 summed_put books room room' n e number puts = simp (e, number, puts)
 
 -- bytes of another layout
-module _ (image room : List ℕ) (other : has_layout image ≡ false) where
+module _ (image room : List ℕ) (nothing : fields_say image ≡ None) where
+  other : has_layout image ≡ false
+  other = says_nothing image nothing
+
   pub step_foreign : (frame : List ℕ) → outcome (imaged bad_state image) room ≡ step_image image frame room
   unfolding step_image loaded
   step_foreign frame = simp other
@@ -103,7 +132,16 @@ module _ (image room : List ℕ) (other : has_layout image ≡ false) where
   beacon_foreign form = simp other
 
 -- bytes of the layout: the state that they say is worked, in range or not
-module _ (image room : List ℕ) (own : has_layout image ≡ true) (s : State) (says : s ≡ decoded image) where
+module _ (image room : List ℕ) (s : State) (say : fields_say image ≡ Some s) where
+  own : has_layout image ≡ true
+  own = (says_state image s say).0
+
+  says : s ≡ decoded image
+  says = (says_state image s say).1
+
+  pub size_said : length image ≡ image_bytes
+  size_said = (layout image own).size
+
   pub beacon_worked : (form : Form) → beacon_of form s room ≡ beacon_image form image room
   unfolding beacon_image loaded
   beacon_worked form = by_range (in_range s) refl

@@ -1,7 +1,6 @@
 -- What each exported call leaves, over bytes.
 -- Assumes nothing.
-use Rattle.std.specs.Prelude.{ℕ, ◌≡◌, ◌&&◌, List, eqb, ltb, ℤ, length}
-use Rattle.std.proofs.Math.Option.{Option, none, some}
+use Rattle.std.specs.Prelude.{ℕ, ◌≡◌, ◌&&◌, List, eqb, ltb, ℤ, length, Option, Some, None}
 use Rattle.basics.specs.Choice.{when◌then◌else◌}
 use Rattle.basics.specs.Outcome.{Outcome, outcome, Reply, reply}
 use Rattle.modules.specs.Groups.{module_count}
@@ -58,8 +57,8 @@ stepped_to after = outcome (imaged (answer_number after.result.answer) (saved af
 
 -- a step of what was loaded; where that is nothing, image and room stay
 abbrev pub step_loaded : Option State → (image frame room : List ℕ) → Outcome (Imaged ℕ)
-step_loaded none image frame room = outcome (imaged bad_state image) room
-step_loaded (some s) image frame room = stepped_to (step_of s frame room)
+step_loaded None image frame room = outcome (imaged bad_state image) room
+step_loaded (Some s) image frame room = stepped_to (step_of s frame room)
 
 -- a step of an image
 unfoldable pub step_image : (image frame room : List ℕ) → Outcome (Imaged ℕ)
@@ -73,8 +72,8 @@ passed_to after =
 
 -- a pass from what was loaded; where that is nothing, image and room stay
 abbrev pub pass_loaded : Option State → (image frames room : List ℕ) → Outcome (Imaged Reply)
-pass_loaded none image frames room = outcome (imaged (reply bad_state 0) image) room
-pass_loaded (some s) image frames room = passed_to (pass_of s frames room)
+pass_loaded None image frames room = outcome (imaged (reply bad_state 0) image) room
+pass_loaded (Some s) image frames room = passed_to (pass_of s frames room)
 
 -- a pass from an image
 unfoldable pub pass_image : (image frames room : List ℕ) → Outcome (Imaged Reply)
@@ -86,8 +85,8 @@ modules_on_reply on = reply (answer_number on.answer) on.count
 
 -- how many are on in what was loaded; where that is nothing, 1 and none
 abbrev pub modules_on_loaded : Option State → Reply
-modules_on_loaded none = reply bad_state 0
-modules_on_loaded (some s) = modules_on_reply (modules_on_of s)
+modules_on_loaded None = reply bad_state 0
+modules_on_loaded (Some s) = modules_on_reply (modules_on_of s)
 
 -- how many are on in an image
 unfoldable pub modules_on_image : (image : List ℕ) → Reply
@@ -101,8 +100,8 @@ booked_to after =
 
 -- a step with books of what was loaded; where that is nothing, image, room and books stay
 abbrev pub step_books_loaded : Option State → (image frame room books : List ℕ) → Outcome (WithBooks (Imaged ℕ))
-step_books_loaded none image frame room books = outcome (with_books (imaged bad_state image) books) room
-step_books_loaded (some s) image frame room books = booked_to (step_books_of s frame room books)
+step_books_loaded None image frame room books = outcome (with_books (imaged bad_state image) books) room
+step_books_loaded (Some s) image frame room books = booked_to (step_books_of s frame room books)
 
 -- a step with books of an image: 18 goes before all, unless 24 numbers are lent
 unfoldable pub step_books_image : (image frame room books : List ℕ) → Outcome (WithBooks (Imaged ℕ))
@@ -121,8 +120,8 @@ summary_reply books room =
 
 -- the beacon's text of what was loaded; where that is nothing, the room stays
 abbrev pub beacon_loaded : Form → Option State → (room : List ℕ) → Outcome Written
-beacon_loaded form none room = outcome BadState room
-beacon_loaded form (some s) room = beacon_of form s room
+beacon_loaded form None room = outcome BadState room
+beacon_loaded form (Some s) room = beacon_of form s room
 
 -- the beacon's text of an image
 unfoldable pub beacon_image : Form → (image room : List ℕ) → Outcome Written

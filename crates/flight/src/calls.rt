@@ -11,7 +11,7 @@ ghost use Rattle.flight.specs.Calls.{imaged, fresh_image, step_image, pass_image
 ghost use Rattle.flight.specs.Calls.{modules_on_image, beacon_image, replied, ReadReplied};
 ghost use Rattle.flight.specs.Calls.{tracks, tracks_of};
 
-use crate::loading::{decode, has_layout};
+use crate::loading::load;
 use crate::saving::{IMAGE_BYTES, save};
 use beacon::text::Form;
 use beacon::writing::Written;
@@ -43,10 +43,9 @@ pub extern "C" fn ems_step(image: &mut [u8], frame: &[u8], room: &mut [u8]) -> u
     ensures { outcome (imaged result image.new) room.new
         ≡ step_image image.old frame.now room.old }
 {
-    if !has_layout(image) {
+    let Some(state) = load(image) else {
         return Answer::BadState.number();
-    }
-    let state = decode(image);
+    };
     let after = supervisor::step::step(state, frame, room);
     let answer = after.answer;
     let reported = answer.is_reported();
@@ -68,11 +67,10 @@ pub extern "C" fn ems_pass(
     ensures { outcome (imaged (reply result reported.new) image.new) room.new
         ≡ pass_image image.old frames.now room.old }
 {
-    if !has_layout(image) {
+    let Some(state) = load(image) else {
         *reported = 0;
         return Answer::BadState.number();
-    }
-    let state = decode(image);
+    };
     let passed = pass::pass(state, frames, room);
     let answer = passed.answer;
     *reported = passed.reported;
@@ -87,11 +85,10 @@ pub extern "C" fn ems_pass(
 pub extern "C" fn ems_modules_on(image: &[u8], count: &mut usize) -> u8
     ensures { reply result count.new ≡ modules_on_image image.now }
 {
-    if !has_layout(image) {
+    let Some(state) = load(image) else {
         *count = 0;
         return Answer::BadState.number();
-    }
-    let state = decode(image);
+    };
     let on = counting::modules_on(state);
     let answer = on.answer;
     *count = on.count as usize;
@@ -112,10 +109,9 @@ pub extern "C" fn ems_step_books(
     if books.len() != NUMBERS {
         return BookAnswer::NotBooks.number();
     }
-    if !has_layout(image) {
+    let Some(state) = load(image) else {
         return Answer::BadState.number();
-    }
-    let state = decode(image);
+    };
     let booked = step_books(state, frame, room, books);
     let given = booked.answer;
     if given.is_reported() {
@@ -144,10 +140,9 @@ pub extern "C" fn ems_summary(books: &[u64], shares: &mut [u16]) -> u8
 fn write_beacon(image: &[u8], form: Form, text: &mut [u8]) -> Written
     ensures { outcome result text.new ≡ beacon_image form image.now text.old }
 {
-    if !has_layout(image) {
+    let Some(state) = load(image) else {
         return Written::BadState;
-    }
-    let state = decode(image);
+    };
     beacon::writing::write(state, form, text)
 }
 

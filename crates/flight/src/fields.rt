@@ -1,27 +1,31 @@
-// Numbers as bytes, the low byte first, and tests as 0 or 1.
-// A reader asks that the place is within the bytes, which `loading` sees to.
-ghost use Rattle.std.specs.Prelude.{◌≡◌, ◌+◌, ◌≤◌, length};
-ghost use Rattle.flight.specs.Fields.{flag, pair_at, quad_at};
+// Numbers of more bytes than one, in an image: the low byte first.
+ghost use Rattle.std.specs.Prelude.{◌≡◌, ◌+◌, ◌≤◌};
+ghost use Rattle.std.proofs.lemmas.List.Edits.{sets};
+ghost use Rattle.flight.specs.Fields.{pair_at, quad_at};
+ghost use Rattle.flight.specs.Saving.{image_bytes};
 
-// A test as a byte.
-pub(crate) fn flag(test: bool) -> u8
-    ensures { result ≡ flag test }
-{
-    if test { 1 } else { 0 }
-}
+use crate::saving::Image;
 
 // The number whose two bytes stand from a place on.
-pub(crate) fn pair_at(bytes: &[u8], at: usize) -> u16
-    requires { at + 2 ≤ length bytes.now }
-    ensures { result ≡ pair_at at bytes.now }
+pub(crate) fn pair_at(image: &Image, at: usize) -> u16
+    requires { at + 2 ≤ image_bytes }
+    ensures { result ≡ pair_at at image.now }
 {
-    (bytes[at] as u16) + (bytes[at + 1] as u16) * 256
+    u16::from_le_bytes([image[at], image[at + 1]])
 }
 
 // The number whose four bytes stand from a place on.
-pub(crate) fn quad_at(bytes: &[u8], at: usize) -> u32
-    requires { at + 4 ≤ length bytes.now }
-    ensures { result ≡ quad_at at bytes.now }
+pub(crate) fn quad_at(image: &Image, at: usize) -> u32
+    requires { at + 4 ≤ image_bytes }
+    ensures { result ≡ quad_at at image.now }
 {
-    (pair_at(bytes, at) as u32) + (pair_at(bytes, at + 2) as u32) * 65536
+    u32::from_le_bytes([image[at], image[at + 1], image[at + 2], image[at + 3]])
+}
+
+// Stores bytes from a place on.
+pub(crate) fn put<const N: usize>(image: &mut Image, at: usize, bytes: [u8; N])
+    requires { at + N ≤ image_bytes }
+    ensures { image.new ≡ sets image.old at bytes.entry }
+{
+    image[at..at + N].copy_from_slice(&bytes);
 }
