@@ -6,6 +6,7 @@ use mathlib.Core.List.{List, ◌∷◌, ◌++◌}
 use Prim.Native.Nat.{ℕ, ◌/◌, ◌%◌, ◌<◌, ◌≤◌}
 use native.Mathlib.Omega.{arith}
 use lib.Dec.{T, eqb, ltb, ltb→lt}
+use Rattle.std.specs.Prelude.{Ok}
 use lib.ListN.{length, take}
 use lib.Seq.{length-take-le}
 use borrow.Author.Tests.{not-true, eqb-true}
@@ -19,7 +20,6 @@ use Rattle.modules.proofs.MasksLaws.{mask_of_bound}
 use Rattle.frames.specs.Reading.{lowest_reading, highest_reading, is_reading, are_thresholds}
 use Rattle.morse.specs.Signs.{alphabet, sign_of, signed}
 use Rattle.morse.specs.Texts.{is_space, fault_of}
-use Rattle.morse.specs.declared.texts.Fault.TheVariants.{Nothing}
 use Rattle.morse.proofs.TextsLaws.{fair, fairly, joined}
 use Rattle.supervisor.proofs.MessageLaws.{message_fair}
 use Rattle.supervisor.specs.Range.{battery_in_range, in_range}
@@ -78,7 +78,7 @@ tension_most b t = by_reading (eqb b.tension 0) refl (and_left (eqb b.tension 0 
     by_reading false z h = within_high lowest_reading highest_reading b.tension h
 
 module _ (s : State) (e : in_range s ≡ true) (eight : Eight s) where
-  both : (fault_of (basic_text s) ≡ Nothing) × (fault_of (complete_text s) ≡ Nothing)
+  both : (fault_of (basic_text s) ≡ Ok tt) × (fault_of (complete_text s) ≡ Ok tt)
   unfolding alphabet sign_of fault_of basic_text complete_text masks_of
   both =
       let tension = tension_most s.battery (parts s (holds (in_range s) e)).battery in
@@ -115,7 +115,7 @@ module _ (s : State) (e : in_range s ≡ true) (eight : Eight s) where
       ) (refl, refl)
 
   -- the complete text, a space, and a message that is kept
-  extended : T (ltb 0 s.message.length) → fault_of (extended_text s) ≡ Nothing
+  extended : T (ltb 0 s.message.length) → fault_of (extended_text s) ≡ Ok tt
   unfolding extended_text
   extended kept =
       let limits = message_fair s (holds (in_range s) e) in
@@ -126,7 +126,7 @@ module _ (s : State) (e : in_range s ≡ true) (eight : Eight s) where
       (omega (arith, complete_length s)) (omega (arith, long, ltb→lt 0 s.message.length kept))
       (omega (arith, complete_length s, long, limits.most)))
 
-  pub keyable : (form : Form) → T (has_text form s.message.length) → fault_of (text_of form s) ≡ Nothing
+  pub keyable : (form : Form) → T (has_text form s.message.length) → fault_of (text_of form s) ≡ Ok tt
   keyable Basic had = both.0
   keyable Complete had = both.1
   keyable Extended had = extended had

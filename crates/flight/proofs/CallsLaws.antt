@@ -14,9 +14,12 @@ use Rattle.basics.specs.Choice.{when◌then◌else◌}
 use Rattle.basics.specs.Outcome.{Outcome, outcome, Reply, reply}
 use Rattle.basics.proofs.ChoiceLaws.{is_true, holds}
 use Rattle.modules.specs.Groups.{module_count}
+use Rattle.std.specs.Prelude.{Result, Ok, Err}
 use Rattle.morse.specs.Answers.{no_room}
-use Rattle.hearing.specs.Reading.{Read, read_reply}
-use Rattle.hearing.specs.declared.reading.Heard.{Heard}
+use Rattle.morse.specs.Keying.{key_fault_number, key_reply}
+use Rattle.morse.specs.declared.keying.KeyFault.{KeyFault}
+use Rattle.hearing.specs.Reading.{read_fault_number, read_reply, Read}
+use Rattle.hearing.specs.declared.reading.ReadFault.{ReadFault}
 use Rattle.frames.specs.Answer.{answer_number, is_reported}
 use Rattle.supervisor.specs.Range.{in_range}
 use Rattle.supervisor.specs.Step.{step_of}
@@ -48,7 +51,7 @@ use Rattle.flight.specs.Saving.{image_bytes, saved}
 use Rattle.flight.specs.Loading.{has_layout, decoded, loaded, fields_say}
 use Rattle.flight.specs.Calls.{imaged, bad_state, stepped_to, step_image, passed_to, pass_image, modules_on_reply, modules_on_image, beacon_image}
 use Rattle.flight.specs.Calls.{booked_to, step_books_image, summary_reply}
-use Rattle.flight.specs.Calls.{replied, ReadReplied}
+use Rattle.flight.specs.Calls.{told, replied, ReadReplied}
 use Rattle.flight.specs.Calls.{tracks, tracked_to}
 use Rattle.flight.proofs.FieldsLaws.{AllBytes}
 use Rattle.flight.proofs.LoadingLaws.{layout, saved_decoded}
@@ -269,14 +272,28 @@ module _ (image room : List ℕ) (s : State) (say : fields_say image ≡ Some s)
             ap (λ (o : Outcome Passed). outcome (imaged (reply (answer_number o.result.answer) o.result.reported) image) o.room) (flies ∙ pass_outside s frames room e)
             ∙ simp (own, sym says, e)
 
+-- a call's outcome, told, is the outcome by its reply, where that is how each answer is told
+pub told_by : {Refused : Type 0} (number_of : Refused → ℕ) (by : Result ℕ Refused → Reply)
+    → ((given : Result ℕ Refused) → told number_of given ≡ by given) → {given : Result ℕ Refused} {room : List ℕ}
+    {o : Outcome (Result ℕ Refused)} {r : Reply} → r ≡ told number_of given → outcome given room ≡ o → outcome r room ≡ replied by o
+told_by number_of by same {given} e f = rw (e, same given) (ap (replied by) f)
+
+pub key_told : (given : Result ℕ KeyFault) → told key_fault_number given ≡ key_reply given
+key_told (Ok written) = refl
+key_told (Err refusal) = refl
+
 -- an answer by its number and its count
 pub replied_by : {Answer : Type 0} (by : Answer → Reply) {answer : Answer} {n k : ℕ} {room : List ℕ} {o : Outcome Answer}
     → n ≡ (by answer).number → k ≡ (by answer).count → outcome answer room ≡ o → outcome (reply n k) room ≡ replied by o
 replied_by by p q e = rw (p, q) (ap (replied by) e)
 
-pub read_replied : {units room room' : List ℕ} (answer : Heard) {n k : ℕ} → Read units room (outcome answer room')
-    → n ≡ (read_reply answer).number → k ≡ (read_reply answer).count → ReadReplied units room (outcome (reply n k) room')
-read_replied {room' = room'} answer r p q = record { heard = outcome answer room'; read = r; same = replied_by read_reply {answer = answer} p q refl }
+read_told : (given : Result ℕ ReadFault) → told read_fault_number given ≡ read_reply given
+read_told (Ok written) = refl
+read_told (Err refusal) = refl
+
+pub read_replied : {units room room' : List ℕ} (given : Result ℕ ReadFault) {r : Reply} → Read units room (outcome given room')
+    → r ≡ told read_fault_number given → ReadReplied units room (outcome r room')
+read_replied {room' = room'} given r e = record { heard = outcome given room'; read = r; same = told_by read_fault_number read_reply read_told e refl }
 
 -- what the tracker hands back, by its number
 pub tracked_by : {n : ℕ} {next : ℤ} {t o : Tracked} → n ≡ track_number t.answer → next ≡ t.step → t ≡ o

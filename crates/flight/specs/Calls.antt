@@ -1,12 +1,12 @@
 -- What each exported call leaves, over bytes.
 -- Assumes nothing.
-use Rattle.std.specs.Prelude.{ℕ, ◌≡◌, ◌&&◌, List, eqb, ltb, ℤ, length, Option, Some, None}
+use Rattle.std.specs.Prelude.{ℕ, ◌≡◌, ◌&&◌, List, Option, Some, None, Result, Ok, Err, eqb, ltb, ℤ, length}
 use Rattle.basics.specs.Choice.{when◌then◌else◌}
 use Rattle.basics.specs.Outcome.{Outcome, outcome, Reply, reply}
 use Rattle.modules.specs.Groups.{module_count}
-use Rattle.morse.specs.Answers.{no_room}
+use Rattle.morse.specs.Answers.{done, no_room}
 use Rattle.hearing.specs.Reading.{Read, read_reply}
-use Rattle.hearing.specs.declared.reading.Heard.{Heard}
+use Rattle.hearing.specs.declared.reading.ReadFault.{ReadFault}
 use Rattle.frames.specs.Answer.{answer_number}
 use Rattle.frames.specs.declared.answer.Answer.TheVariants as answer
 use Rattle.supervisor.specs.Fresh.{fresh_state}
@@ -127,13 +127,18 @@ beacon_loaded form (Some s) room = beacon_of form s room
 unfoldable pub beacon_image : Form → (image room : List ℕ) → Outcome Written
 beacon_image form image room = beacon_loaded form (loaded image) room
 
+-- what a call gave, by the page's number, 0 where it is done, and the count of what it has written: none at a refusal
+abbrev pub told : {Refused : Type 0} → (number_of : Refused → ℕ) → Result ℕ Refused → Reply
+told number_of (Ok written) = reply done written
+told number_of (Err refusal) = reply (number_of refusal) 0
+
 -- an outcome by the page's number and count of its answer
 abbrev pub replied : {Answer : Type 0} → (Answer → Reply) → Outcome Answer → Outcome Reply
 replied by o = outcome (by o.result) o.room
 
 -- reading: an outcome that reading these units allows (there is one, and no second)
 pub record ReadReplied (units room : List ℕ) (after : Outcome Reply) : Type 0 where
-  pub heard : Outcome Heard
+  pub heard : Outcome (Result ℕ ReadFault)
   pub read : Read units room heard
   pub same : after ≡ replied read_reply heard
 

@@ -8,11 +8,12 @@ ghost use Rattle.beacon.specs.Writing.{written_reply};
 ghost use Rattle.beacon.specs.declared.text.Form.TheVariants as form;
 ghost use Rattle.books.specs.Step.{with_books};
 ghost use Rattle.flight.specs.Calls.{imaged, fresh_image, step_image, pass_image, step_books_image, summary_reply};
-ghost use Rattle.flight.specs.Calls.{modules_on_image, beacon_image, replied, ReadReplied};
+ghost use Rattle.flight.specs.Calls.{modules_on_image, beacon_image, told, replied, ReadReplied};
 ghost use Rattle.flight.specs.Calls.{tracks, tracks_of};
 
 use crate::loading::load;
 use crate::saving::{IMAGE_BYTES, save};
+use basics::Refusal;
 use beacon::text::Form;
 use beacon::writing::Written;
 use books::answer::BookAnswer;
@@ -21,7 +22,7 @@ use books::shares::put;
 use books::step::step_books;
 use books::summary::summary;
 use frames::answer::Answer;
-use morse::answers::NO_ROOM;
+use morse::answers::{DONE, NO_ROOM};
 use supervisor::fresh::fresh;
 use tracker::Reading;
 
@@ -179,15 +180,29 @@ pub extern "C" fn ems_beacon_extended(image: &[u8], text: &mut [u8], count: &mut
     written.number()
 }
 
+// Tells the page's number of what a call gave, 0 where it is done, and how many it has written: none at a refusal.
+fn tell<E: Refusal>(given: Result<usize, E>, count: &mut usize) -> u8
+    ensures { reply result count.new ≡ told E.number_of given }
+{
+    match given {
+        Ok(written) => {
+            *count = written;
+            DONE
+        }
+        Err(refusal) => {
+            *count = 0;
+            refusal.number()
+        }
+    }
+}
+
 // Keys a text: its units, and how many they are.
 #[unsafe(no_mangle)]
 pub extern "C" fn ems_key(text: &[u8], units: &mut [u8], count: &mut usize) -> u8
     ensures { outcome (reply result count.new) units.new
         ≡ replied key_reply (key_of text.now units.old) }
 {
-    let keyed = morse::key(text, units);
-    *count = keyed.count();
-    keyed.number()
+    tell(morse::key(text, units), count)
 }
 
 // Reads units back: the text, and its length.
@@ -196,9 +211,7 @@ pub extern "C" fn ems_read(units: &[u8], text: &mut [u8], count: &mut usize) -> 
     ensures { ReadReplied units.now text.old
         (outcome (reply result count.new) text.new) }
 {
-    let heard = hearing::read(units, text);
-    *count = heard.count();
-    heard.number()
+    tell(hearing::read(units, text), count)
 }
 
 // One call of the panel tracker: the set point moves, and the step is told; refused, both stay.

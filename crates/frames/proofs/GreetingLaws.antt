@@ -1,11 +1,10 @@
 -- Laws of a greeting's text: one byte of a walk through its filler, the text of no greeting, and what a fair one has.
 -- Assumes nothing.
-use Rattle.std.proofs.Common.{◌≡◌, ℕ, ◌+◌, ◌<◌, ◌≤◌, Bool, true, false, ◌&&◌, T, eqb, leb, List, length, get_or, take, drop, refl, add-one, arith, eqb→eq, drop-cons, eq-eqb, le-leb, leb-true}
+use Rattle.std.proofs.Common.{◌≡◌, ℕ, ◌+◌, ◌<◌, ◌≤◌, Bool, true, false, ◌&&◌, T, eqb, leb, List, length, get_or, take, drop, Ok, refl, add-one, arith, eqb→eq, drop-cons, eq-eqb, le-leb, leb-true}
 use mathlib.Core.Bool.{and-false}
 use borrow.Author.Tests.{lt-leb}
 use Rattle.basics.proofs.ChoiceLaws.{is_true, and_left, and_right}
 use Rattle.morse.specs.Texts.{is_keyable, fault_of}
-use Rattle.morse.specs.declared.texts.Fault.TheVariants.{Nothing}
 use Rattle.morse.proofs.TextsLaws.{keyable_fault}
 use Rattle.frames.specs.Greeting.{longest_greeting, all_zero, is_greeting}
 
@@ -34,7 +33,7 @@ no_characters text sixteen = by_text 0 text true (all_zero text) sixteen (omega 
 pub record Fair (characters : ℕ) (text : List ℕ) : Type 0 where
   pub sixteen : length text ≡ longest_greeting
   pub most : characters ≤ longest_greeting
-  pub keyable : fault_of (take characters text) ≡ Nothing
+  pub keyable : fault_of (take characters text) ≡ Ok tt
   pub filler : T (all_zero (drop characters text))
 
 pub fair : (characters : ℕ) (text : List ℕ) → T (is_greeting characters text) → Fair characters text

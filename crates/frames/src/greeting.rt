@@ -3,7 +3,6 @@ ghost use Rattle.std.specs.Prelude.{◌≡◌};
 ghost use Rattle.frames.specs.Greeting.{all_zero, is_greeting, greeting_text};
 
 use crate::kind::GREETING_BYTES;
-use morse::answers::DONE;
 use morse::texts::fault_of;
 
 // The text bytes of a greeting, and the most characters of one.
@@ -51,8 +50,7 @@ pub fn is_greeting(length: u8, text: [u8; LONGEST]) -> bool
     if n == 0 {
         return is_empty(text);
     }
-    let fault = fault_of(&text[..n]);
-    (fault.number() == DONE) & is_blank(&text[n..])
+    fault_of(&text[..n]).is_ok() && is_blank(&text[n..])
 }
 
 // The text of a frame that is as long as a greeting; beside any other, zeros.

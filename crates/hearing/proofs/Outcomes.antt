@@ -4,18 +4,13 @@ use mathlib.Core.Path.{◌≡◌, sym, ◌∙◌}
 use Rattle.basics.specs.OneOutcome.{OneOutcome}
 use Rattle.basics.specs.Outcome.{outcome}
 use Rattle.hearing.proofs.ReadingLaws.{one_reading}
-use Rattle.hearing.specs.contracts.reading.Heard.number as heard_number
-use Rattle.hearing.proofs.reading.Heard.number.Reads as heard_number_reads
-use Rattle.hearing.specs.contracts.reading.Heard.count as heard_count
-use Rattle.hearing.proofs.reading.Heard.count.Reads as heard_count_reads
+use Rattle.hearing.specs.contracts.reading.ReadFaultRefusal.number as heard_number
+use Rattle.hearing.proofs.reading.ReadFaultRefusal.number.Reads as heard_number_reads
 use Rattle.hearing.specs.contracts.reading.read
 use Rattle.hearing.proofs.reading.read.Reads as read_reads
 
 pub heard_number_one : OneOutcome heard_number.ended heard_number_reads.Asked heard_number_reads.Learnt
 heard_number_one = record { taken = λ κs a. tt; one = λ κs a x y p q i. ((p ∙ sym q) i, (tt, tt)) }
-
-pub heard_count_one : OneOutcome heard_count.ended heard_count_reads.Asked heard_count_reads.Learnt
-heard_count_one = record { taken = λ κs a. tt; one = λ κs a x y p q i. ((p ∙ sym q) i, (tt, tt)) }
 
 pub read_one : OneOutcome read.ended read_reads.Asked read_reads.Learnt
 read_one = record {

@@ -1,11 +1,11 @@
 -- The numbers by which the decoder knows a sign: no promise speaks of them.
 -- Assumes nothing.
-use Rattle.std.specs.Prelude.{ℕ, zero, suc, ◌+◌, ◌-◌, ◌*◌, ◌%◌, Bool, List, [], ◌∷◌, eqb, leb, ltb, get_or}
+use Rattle.std.specs.Prelude.{ℕ, zero, suc, ◌+◌, ◌-◌, ◌*◌, ◌%◌, Bool, true, false, List, [], ◌∷◌, eqb, leb, ltb, get_or}
+use Rattle.std.specs.Prelude.{Option, Some, None}
 use Rattle.basics.specs.Choice.{when◌then◌else◌}
 use Rattle.basics.specs.Tables.{first_of}
 use Rattle.morse.specs.Signs.{Mark, dot, dash, first_figure, Row, alphabet}
 use Rattle.morse.specs.Units.{span}
-use Rattle.hearing.specs.declared.numbers.Entry.{Entry}
 
 -- the number of a sign after one more mark
 abbrev pub grown : ℕ → Mark → ℕ
@@ -29,44 +29,51 @@ five_marks = 64
 abbrev pub six_marks : ℕ
 six_marks = 128
 
--- `_`, which is not of the alphabet
-abbrev pub no_byte : ℕ
-no_byte = 95
+-- the byte whose sign has this number among rows, if any
+abbrev pub byte_among : (number : ℕ) → List Row → Option ℕ
+byte_among number = first_of (λ r. eqb (climb 1 r.sign) number) (λ r. Some r.byte) None
 
--- the byte whose sign has this number among rows, or no byte
-abbrev pub byte_among : (number : ℕ) → List Row → ℕ
-byte_among number = first_of (λ r. eqb (climb 1 r.sign) number) (λ r. r.byte) no_byte
+-- the byte whose sign has this number, if any
+unfoldable pub byte_of : ℕ → Option ℕ
+byte_of number = when ltb number six_marks then byte_among number alphabet else None
 
--- the byte whose sign has this number, or no byte
-unfoldable pub byte_of : ℕ → ℕ
-byte_of number = when ltb number six_marks then byte_among number alphabet else no_byte
+-- whether they are one byte, or none
+abbrev pub same_byte : Option ℕ → Option ℕ → Bool
+same_byte None None = true
+same_byte (Some a) (Some b) = eqb a b
+same_byte None (Some b) = false
+same_byte (Some a) None = false
 
--- the rule of the code's table of letters at entry k
+-- `_`, which is not of the alphabet: the entry of the code's table of letters for a number that no letter has
+abbrev pub no_letter : ℕ
+no_letter = 95
+
+-- the letter of an entry, if any
+abbrev pub letter_of : ℕ → Option ℕ
+letter_of entry = when eqb entry no_letter then None else Some entry
+
+-- the rule of that table at entry k
 abbrev pub is_byte : List ℕ → ℕ → Bool
-is_byte table k = eqb (get_or table k 0) (byte_of k)
+is_byte table k = same_byte (letter_of (get_or table k 0)) (byte_of k)
 
 -- how the code works a figure out: the byte d past a first one, if a part of 32 is 32 once it is doubled d times, fewer
--- than so many; else no byte
-abbrev pub past_by : (turns first part : ℕ) → ℕ
-past_by zero first part = no_byte
-past_by (suc turns) first part = when eqb part four_marks then first else past_by turns (first + 1) (2 * part)
+-- than so many; else none
+abbrev pub past_by : (turns first part : ℕ) → Option ℕ
+past_by zero first part = None
+past_by (suc turns) first part = when eqb part four_marks then Some first else past_by turns (first + 1) (2 * part)
 
--- the figure whose sign has a number of five marks or more, by its last mark, or no byte
-abbrev pub figure_by : ℕ → ℕ
+-- the figure whose sign has a number of five marks or more, by its last mark, if any
+abbrev pub figure_by : ℕ → Option ℕ
 figure_by number =
-    when leb five_marks number then no_byte
+    when leb five_marks number then None
     else when eqb (number % 2) 1 then past_by four_marks first_figure (number - (four_marks - 1))
     else past_by four_marks (first_figure + 5) (five_marks - number)
 
--- the entry of a row in the code's table of punctuation: its sign's number, and its byte
-abbrev pub entry_of : Row → Entry
-entry_of r = record { 0 = climb 1 r.sign; 1 = r.byte }
-
--- the number of a sign after one more mark, by the units for which the key was down; 0 where they are no mark, or no
+-- the number of a sign after one more mark, by the units for which the key was down; none where they are no mark, or no
 -- sign has so many
-unfoldable pub after_mark : (number down : ℕ) → ℕ
+unfoldable pub after_mark : (number down : ℕ) → Option ℕ
 after_mark number down =
-    when leb five_marks number then 0
-    else when eqb down (span dot) then grown number dot
-    else when eqb down (span dash) then grown number dash
-    else 0
+    when leb five_marks number then None
+    else when eqb down (span dot) then Some (grown number dot)
+    else when eqb down (span dash) then Some (grown number dash)
+    else None

@@ -3,12 +3,9 @@
 ghost use Rattle.std.specs.Prelude.{◌≡◌, ◌+◌, ◌^◌, ◌<◌};
 ghost use Rattle.hearing.specs.Decoding.{after_gap, told_by, last_of, heard, Decoded};
 
-use crate::numbers::{NO_BYTE, after_mark, byte_of};
-use morse::texts::{LONGEST, SPACE};
+use crate::numbers::{after_mark, byte_of};
+use morse::texts::SPACE;
 use morse::units::{BETWEEN_SIGNS, BETWEEN_WORDS, INSIDE_SIGN, put};
-
-// What stands for the length of no text.
-const NO_TEXT: usize = LONGEST + 1;
 
 // What is heard of the sign at hand: its number without the last mark, and for how many units the key was down at that
 // mark, and then up.
@@ -35,93 +32,67 @@ enum Told {
     Sign(u8),
     // So is the word.
     Word(u8),
-    // No keying has such units.
-    Wrong,
 }
 
-// What a gap tells, once the key is down again: the marks before it have this number, if they are marks.
-fn after_gap(number: u8, gap: usize) -> Told
+// What a gap tells, once the key is down again after marks with this number; nothing where no keying has it.
+#[tactic(auto, unfolding(crate::specs::Decoding::after_gap))]
+fn after_gap(number: u8, gap: usize) -> Option<Told>
     ensures { result ≡ after_gap number gap }
 {
     if gap == INSIDE_SIGN {
-        if number == 0 {
-            return Told::Wrong;
-        }
-        return Told::On(Ear {
-            number,
-            down: 1,
-            up: 0,
-        });
+        return Some(Told::On(Ear { number, ..BEGUN }));
     }
-    let byte = byte_of(number);
-    if byte == NO_BYTE {
-        return Told::Wrong;
+    let byte = byte_of(number)?;
+    match gap {
+        BETWEEN_SIGNS => Some(Told::Sign(byte)),
+        BETWEEN_WORDS => Some(Told::Word(byte)),
+        _ => None,
     }
-    if gap == BETWEEN_SIGNS {
-        return Told::Sign(byte);
-    }
-    if gap == BETWEEN_WORDS {
-        return Told::Word(byte);
-    }
-    Told::Wrong
 }
 
-// What one more unit tells.
-fn tell(ear: Ear, unit: u8) -> Told
+// What one more unit tells; nothing where no keying has it.
+#[tactic(auto, unfolding(crate::specs::Decoding::told_by))]
+fn tell(ear: Ear, unit: u8) -> Option<Told>
     requires { (ear.down + 1 < 2 ^ 64) × (ear.up + 1 < 2 ^ 64) }
     ensures { result ≡ told_by ear unit }
 {
-    let number = ear.number;
-    let down = ear.down;
-    let up = ear.up;
-    if unit == 0 {
-        return Told::On(Ear {
-            number,
-            down,
-            up: up + 1,
-        });
+    match unit {
+        0 => Some(Told::On(Ear {
+            up: ear.up + 1,
+            ..ear
+        })),
+        1 if ear.up == 0 => Some(Told::On(Ear {
+            down: ear.down + 1,
+            ..ear
+        })),
+        1 => after_gap(after_mark(ear.number, ear.down)?, ear.up),
+        _ => None,
     }
-    if unit != 1 {
-        return Told::Wrong;
-    }
-    if up == 0 {
-        return Told::On(Ear {
-            number,
-            down: down + 1,
-            up,
-        });
-    }
-    after_gap(after_mark(number, down), up)
 }
 
-// The byte of a sign that nothing follows; no byte where no sign is over.
-fn last(ear: Ear) -> u8
+// The byte of a sign that nothing follows; none where no sign is over.
+#[tactic(auto, unfolding(crate::specs::Decoding::last_of))]
+fn last(ear: Ear) -> Option<u8>
     ensures { result ≡ last_of ear }
 {
     if ear.up == 0 {
-        return byte_of(after_mark(ear.number, ear.down));
+        byte_of(after_mark(ear.number, ear.down)?)
+    } else {
+        None
     }
-    NO_BYTE
 }
 
-// Writes the text, as far as the room goes, and gives its length; a number past the longest where there is none.
-pub(crate) fn decode(units: &[u8], text: &mut [u8]) -> usize
+// Writes the text, as far as the room goes, and gives its length, if there is one.
+pub(crate) fn decode(units: &[u8], text: &mut [u8]) -> Option<usize>
     ensures { Decoded 0 (heard units.now) text.old result text.new }
 {
-    if units.len() == 0 {
-        return 0;
+    if units.is_empty() {
+        return Some(0);
     }
-    let mut ear = Ear {
-        number: 1,
-        down: 0,
-        up: 0,
-    };
+    let mut ear = Ear { down: 0, ..BEGUN };
     let mut at = 0;
-    let mut i = 0;
-    while i < units.len() {
-        let told = tell(ear, units[i]);
-        i += 1;
-        match told {
+    for unit in units {
+        match tell(ear, *unit)? {
             Told::On(next) => ear = next,
             Told::Sign(byte) => {
                 put(text, at, byte);
@@ -134,13 +105,8 @@ pub(crate) fn decode(units: &[u8], text: &mut [u8]) -> usize
                 at += 2;
                 ear = BEGUN;
             }
-            Told::Wrong => return NO_TEXT,
         }
     }
-    let byte = last(ear);
-    if byte == NO_BYTE {
-        return NO_TEXT;
-    }
-    put(text, at, byte);
-    at + 1
+    put(text, at, last(ear)?);
+    Some(at + 1)
 }

@@ -5,4 +5,4 @@ mod decoding;
 mod numbers;
 pub mod reading;
 
-pub use reading::{Heard, read};
+pub use reading::{ReadFault, read};

@@ -2,57 +2,45 @@
 // Refusal 15 unless the units are exactly the keying of a text that passes 11 to 13, then 14; else that text, with its
 // length.
 ghost use Rattle.std.specs.Prelude.{◌≡◌};
+ghost use Rattle.std.proofs.Common.{rules};
 ghost use Rattle.basics.specs.Outcome.{outcome};
-ghost use Rattle.hearing.specs.Reading.{read_reply, Read};
+ghost use Rattle.hearing.specs.Reading.{read_fault_number, Read};
 
 use crate::decoding::decode;
-use morse::answers::{DONE, NO_ROOM, NOT_A_KEYING};
+use basics::Refusal;
 use morse::texts::LONGEST;
 
-// What reading answers: a case for each of the page's numbers.
-#[derive(Clone, Copy)]
-pub enum Heard {
-    // A text of so many bytes is in the room.
-    Done(usize),
-    NotAKeying,
-    NoRoom,
+// Why units are not read, by the page's numbers.
+#[derive(Clone, Copy, Debug, PartialEq, Eq)]
+pub enum ReadFault {
+    // The room is shorter than the text.
+    NoRoom = 14,
+    // They are not exactly the keying of a text.
+    NotAKeying = 15,
 }
 
-impl Heard {
-    // The page's number.
-    pub fn number(self) -> u8
-        ensures { result ≡ (read_reply self).number }
-    {
-        match self {
-            Heard::Done(_) => DONE,
-            Heard::NotAKeying => NOT_A_KEYING,
-            Heard::NoRoom => NO_ROOM,
-        }
-    }
+impl Refusal for ReadFault {
+    ghost number_of = { read_fault_number };
 
-    // The length of the text, 0 at a refusal.
-    pub fn count(self) -> usize
-        ensures { result ≡ (read_reply self).count }
-    {
-        match self {
-            Heard::Done(n) => n,
-            Heard::NotAKeying => 0,
-            Heard::NoRoom => 0,
-        }
+    ghost is_told = { Prim.search rules };
+
+    fn number(self) -> u8 {
+        self as u8
     }
 }
 
-// Reads the text of which the units are exactly the keying. It is kept aside, until it is known to fit.
-pub fn read(units: &[u8], text: &mut [u8]) -> Heard
+// Reads the text of which the units are exactly the keying, and gives its length. It is kept aside, until it is known to
+// fit.
+pub fn read(units: &[u8], text: &mut [u8]) -> Result<usize, ReadFault>
     ensures { Read units.now text.old (outcome result text.new) }
 {
     let mut kept = [0u8; LONGEST];
-    let n = decode(units, &mut kept);
-    if LONGEST < n {
-        return Heard::NotAKeying;
-    }
+    let n = match decode(units, &mut kept) {
+        Some(n) if n <= LONGEST => n,
+        _ => return Err(ReadFault::NotAKeying),
+    };
     if text.len() < n {
-        return Heard::NoRoom;
+        return Err(ReadFault::NoRoom);
     }
-    Heard::Done(basics::copy(&kept[0..n], text))
+    Ok(basics::copy(&kept[..n], text))
 }

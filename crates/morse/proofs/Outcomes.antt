@@ -2,16 +2,14 @@
 -- Assumes nothing.
 use mathlib.Core.Path.{sym, ◌∙◌}
 use Rattle.basics.specs.OneOutcome.{OneOutcome}
-use Rattle.morse.specs.contracts.texts.Fault.number as fault_number
-use Rattle.morse.proofs.texts.Fault.number.Reads as fault_number_reads
+use Rattle.morse.specs.contracts.texts.FaultRefusal.number as fault_number
+use Rattle.morse.proofs.texts.FaultRefusal.number.Reads as fault_number_reads
 use Rattle.morse.specs.contracts.texts.fault_of
 use Rattle.morse.proofs.texts.fault_of.Reads as fault_of_reads
 use Rattle.morse.specs.contracts.units.put
 use Rattle.morse.proofs.units.put.Reads as put_reads
-use Rattle.morse.specs.contracts.keying.Keyed.number as keyed_number
-use Rattle.morse.proofs.keying.Keyed.number.Reads as keyed_number_reads
-use Rattle.morse.specs.contracts.keying.Keyed.count as keyed_count
-use Rattle.morse.proofs.keying.Keyed.count.Reads as keyed_count_reads
+use Rattle.morse.specs.contracts.keying.KeyFaultRefusal.number as keyed_number
+use Rattle.morse.proofs.keying.KeyFaultRefusal.number.Reads as keyed_number_reads
 use Rattle.morse.specs.contracts.keying.key
 use Rattle.morse.proofs.keying.key.Reads as key_reads
 
@@ -26,9 +24,6 @@ put_one = record { taken = λ κs a. tt; one = λ κs a x y p q i. (tt, ((p ∙ 
 
 pub keyed_number_one : OneOutcome keyed_number.ended keyed_number_reads.Asked keyed_number_reads.Learnt
 keyed_number_one = record { taken = λ κs a. tt; one = λ κs a x y p q i. ((p ∙ sym q) i, (tt, tt)) }
-
-pub keyed_count_one : OneOutcome keyed_count.ended keyed_count_reads.Asked keyed_count_reads.Learnt
-keyed_count_one = record { taken = λ κs a. tt; one = λ κs a x y p q i. ((p ∙ sym q) i, (tt, tt)) }
 
 pub key_one : OneOutcome key.ended key_reads.Asked key_reads.Learnt
 key_one = record {

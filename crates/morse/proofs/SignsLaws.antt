@@ -8,7 +8,7 @@ use native.Mathlib.Omega.{arith}
 use lib.Dec.{T, eqb, ltb}
 use lib.ListN.{length, get_or}
 use Rattle.basics.specs.Choice.{when◌then◌else◌, within}
-use Rattle.basics.proofs.ChoiceLaws.{holds, and_left, or_right, within_low, within_high}
+use Rattle.basics.proofs.ChoiceLaws.{is_false, and_left, or_right, within_low, within_high}
 use Rattle.basics.proofs.TablesLaws.{upto}
 use Rattle.morse.specs.declared.signs.Sign.{Sign}
 use Rattle.morse.specs.Signs.{Mark, dot, dash, first_figure, is_figure, alphabet, sign_of, signed}
@@ -61,11 +61,16 @@ is_in_stops c = within first_stop last_stop c
 abbrev placed : ℕ → List Mark → Bool
 placed c ms = is_in_letters c || is_figure c || is_in_stops c || not (signed ms)
 
+outside : (low high n : ℕ) → (low ≤ n → n ≤ high → ⊥) → within low high n ≡ false
+outside low high n h = is_false (within low high n) (λ t. h (within_low low high n t) (within_high low high n t))
+
 -- a byte in no run that is no figure has no sign: a test over the alphabet
-pub no_sign_law : (c : ℕ) → is_in_letters c ≡ false → is_figure c ≡ false → is_in_stops c ≡ false → sign_of c ≡ []
+pub no_sign_law : (c : ℕ) → (first_sign ≤ c → c ≤ last_sign → ⊥) → (48 ≤ c → c ≤ 57 → ⊥)
+    → (first_stop ≤ c → c ≤ last_stop → ⊥) → sign_of c ≡ []
 unfolding alphabet sign_of
 no_sign_law c l f s =
-    unsigned (sign_of c) (rw (l, f, s) at (everywhere placed alphabet tt past c))
+    unsigned (sign_of c)
+    (rw (outside first_sign last_sign c l, outside 48 57 c f, outside first_stop last_stop c s) at (everywhere placed alphabet tt past c))
   where
     past : (k : ℕ) → T (is_in_letters k || is_figure k || is_in_stops k || true)
     past k = or_right (is_in_letters k || is_figure k || is_in_stops k) true tt
@@ -73,16 +78,3 @@ no_sign_law c l f s =
     unsigned : (ms : List Mark) → T (not (signed ms)) → ms ≡ []
     unsigned [] t = refl
     unsigned (m ∷ ms) t = absurd t
-
--- the ends of a range that a test has passed
-within_ends : (low high n : ℕ) → within low high n ≡ true → (low ≤ n) × (n ≤ high)
-within_ends low high n e = let t = holds (within low high n) e in (within_low low high n t, within_high low high n t)
-
-pub letters_ends : (c : ℕ) → is_in_letters c ≡ true → (first_sign ≤ c) × (c ≤ last_sign)
-letters_ends = within_ends first_sign last_sign
-
-pub stops_ends : (c : ℕ) → is_in_stops c ≡ true → (first_stop ≤ c) × (c ≤ last_stop)
-stops_ends = within_ends first_stop last_stop
-
-pub figure_ends : (c : ℕ) → is_figure c ≡ true → (48 ≤ c) × (c ≤ 57)
-figure_ends = within_ends 48 57

@@ -9,20 +9,20 @@ use native.Mathlib.Numerals.{add-one}
 use native.Mathlib.Omega.{arith}
 use lib.ListN.{length, get_or, drop, replicate, length-append, length-replicate}
 use lib.Seq.{drop-cons, get_or-append-add}
-use lib.Dec.{T, ltb, eqb→eq}
+use lib.Dec.{T, ltb}
 use borrow.Author.Tests.{lt-ltb, le-ltb, ltb-false, ne_eqb}
+use Rattle.std.specs.Prelude.{Result, Ok, Err, is_ok}
 use Rattle.basics.specs.Choice.{when◌then◌else◌}
 use Rattle.basics.specs.Bytes.{space}
 use Rattle.basics.proofs.ChoiceLaws.{is_true, holds, and_left, and_right, neither_left, neither_right}
 use Rattle.morse.specs.declared.signs.Sign.{Sign}
-use Rattle.morse.specs.Answers.{done, no_room}
+use Rattle.morse.specs.Answers.{no_room}
 use Rattle.morse.specs.declared.texts.Fault.{Fault}
-use Rattle.morse.specs.declared.texts.Fault.TheVariants.{Nothing, TextTooLong, NotKeyable, BadSpace}
-use Rattle.morse.specs.declared.texts.Seen.{Seen}
+use Rattle.morse.specs.declared.texts.Fault.TheVariants.{TextTooLong, NotKeyable, BadSpace}
 use Rattle.morse.specs.Signs.{signed}
 use Rattle.morse.specs.SignTable.{unpack, marks_of}
 use Rattle.morse.specs.Texts.{longest, is_space, known, all_known, doubled, badly_spaced}
-use Rattle.morse.specs.Texts.{fault_of, fault_number, is_keyable, seen_in}
+use Rattle.morse.specs.Texts.{fault_of, found_number, is_keyable}
 
 -- a sign has marks where it says so
 pub signed_len : (s : Sign) → ltb 0 s.len ≡ signed (marks_of s)
@@ -59,24 +59,14 @@ pub other_doubled : (d : Bool) (before b : ℕ) → (b ≡ space → ⊥) → d 
 other_doubled d before b h = rw (ne_eqb b space h, and-false (is_space before)) (sym (or-false d))
 
 -- where the first two refusals do not apply, the spacing decides
-module _ (t : List ℕ) (seen : Seen) (e : seen ≡ seen_in t)
-    (short : length t ≤ longest) (k : seen.known ≡ true) (bad : Bool) where
-  pub fault_spacing : badly_spaced t ≡ bad → (when bad then BadSpace else Nothing) ≡ fault_of t
+module _ (t : List ℕ) (short : length t ≤ longest) (known : all_known t ≡ true) where
+  pub spaced_badly : badly_spaced t ≡ true → Err BadSpace ≡ fault_of t
   unfolding fault_of
-  fault_spacing b =
-      let known : all_known t ≡ true = sym (ap (λ s. s.known) e) ∙ k in
-      simp (le-ltb longest (length t) short, known, b)
+  spaced_badly b = simp (le-ltb longest (length t) short, known, b)
 
-  -- a space first or last, or what a walk has seen doubled
-  abbrev bad_by : Bool → Bool
-  bad_by double = is_space (get_or t 0 0) || is_space (get_or t (length t - 1) 0) || double
-
-  pub fault_seen : bad_by seen.doubled ≡ bad → (when bad then BadSpace else Nothing) ≡ fault_of t
-  fault_seen b = fault_spacing (ap (λ s. bad_by s.doubled) (sym e) ∙ b)
-
-pub empty_spaced : (t : List ℕ) → length t ≡ 0 → badly_spaced t ≡ false
-empty_spaced [] h = refl
-empty_spaced (c ∷ t) h = absurd (omega arith)
+  pub spaced_well : badly_spaced t ≡ false → Ok (tt {0}) ≡ fault_of t
+  unfolding fault_of
+  spaced_well b = simp (le-ltb longest (length t) short, known, b)
 
 -- no fault: all three of the page's conditions hold
 pub record Fair (t : List ℕ) : Type 0 where
@@ -84,39 +74,36 @@ pub record Fair (t : List ℕ) : Type 0 where
   pub known : all_known t ≡ true
   pub spaced : badly_spaced t ≡ false
 
-pub fair : (t : List ℕ) → fault_of t ≡ Nothing → Fair t
+pub fair : (t : List ℕ) → fault_of t ≡ Ok tt → Fair t
 unfolding fault_of
 fair t e = by_tests (ltb longest (length t)) refl (all_known t) refl (badly_spaced t) refl e
   where
     by_tests : (a : Bool) → ltb longest (length t) ≡ a → (b : Bool) → all_known t ≡ b
         → (c : Bool) → badly_spaced t ≡ c
-        → (when a then TextTooLong else when not b then NotKeyable else when c then BadSpace else Nothing) ≡ Nothing
-        → Fair t
-    by_tests true p b q c r z = absurd (omega (arith, ap fault_number z))
-    by_tests false p false q c r z = absurd (omega (arith, ap fault_number z))
-    by_tests false p true q true r z = absurd (omega (arith, ap fault_number z))
+        → (when a then Err TextTooLong else when not b then Err NotKeyable else when c then Err BadSpace else Ok (tt {0}))
+        ≡ Ok (tt {0}) → Fair t
+    by_tests true p b q c r z = cc
+    by_tests false p false q c r z = cc
+    by_tests false p true q true r z = cc
     by_tests false p true q false r z = record { short = ltb-false longest (length t) p; known = q; spaced = r }
 
 -- a text that keying takes has no fault
-pub keyable_fault : (t : List ℕ) → T (is_keyable t) → fault_of t ≡ Nothing
-keyable_fault t h = by_fault (fault_of t) (eqb→eq (fault_number (fault_of t)) done h)
+pub keyable_fault : (t : List ℕ) → T (is_keyable t) → fault_of t ≡ Ok tt
+keyable_fault t h = by_found (fault_of t) h
   where
-    by_fault : (f : Fault) → fault_number f ≡ done → f ≡ Nothing
-    by_fault Nothing e = refl
-    by_fault TextTooLong e = absurd (omega arith)
-    by_fault NotKeyable e = absurd (omega arith)
-    by_fault BadSpace e = absurd (omega arith)
+    by_found : (found : Result Unit Fault) → T (is_ok found) → found ≡ Ok tt
+    by_found (Ok _) h = refl
+    by_found (Err fault) h = absurd h
 
--- no fault's number is 14
-pub fault_not_room : (f : Fault) → fault_number f ≡ no_room → ⊥
-fault_not_room Nothing e = omega arith
-fault_not_room TextTooLong e = omega arith
-fault_not_room NotKeyable e = omega arith
-fault_not_room BadSpace e = omega arith
+-- what is found of a text has not the number 14
+pub fault_not_room : (found : Result Unit Fault) → found_number found ≡ no_room → ⊥
+fault_not_room (Ok _) e = omega arith
+fault_not_room (Err TextTooLong) e = omega arith
+fault_not_room (Err NotKeyable) e = omega arith
+fault_not_room (Err BadSpace) e = omega arith
 
-pub fairly : (t : List ℕ) → Fair t → fault_of t ≡ Nothing
-unfolding fault_of
-fairly t f = rw (le-ltb longest (length t) f.short, f.known, f.spaced)
+pub fairly : (t : List ℕ) → Fair t → fault_of t ≡ Ok tt
+fairly t f = sym (spaced_well t f.short f.known f.spaced)
 
 less_one : (n : ℕ) → suc n - 1 ≡ n
 less_one n = omega arith

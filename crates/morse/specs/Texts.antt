@@ -1,12 +1,13 @@
 -- Which texts may be keyed: up to 64 bytes of the alphabet and single inner spaces.
 -- Assumes nothing.
 use Rattle.std.specs.Prelude.{ℕ, ◌-◌, Bool, true, false, not, ◌&&◌, ◌||◌, List, [], ◌∷◌, eqb, ltb, length, get_or}
+use Rattle.std.specs.Prelude.{Result, Ok, Err, is_ok}
 use Rattle.basics.specs.Choice.{when◌then◌else◌}
 use Rattle.basics.specs.Bytes.{space}
 use Rattle.morse.specs.Answers.{done, text_too_long, not_keyable, bad_space}
 use Rattle.morse.specs.Signs.{sign_of, signed}
 use Rattle.morse.specs.declared.texts.Fault.{Fault}
-use Rattle.morse.specs.declared.texts.Fault.TheVariants.{Nothing, TextTooLong, NotKeyable, BadSpace}
+use Rattle.morse.specs.declared.texts.Fault.TheVariants.{TextTooLong, NotKeyable, BadSpace}
 use Rattle.morse.specs.declared.texts.Seen.{Seen}
 
 -- the most bytes
@@ -31,28 +32,36 @@ abbrev pub doubled : List ℕ → Bool
 doubled [] = false
 doubled (c ∷ t) = is_space c && is_space (get_or t 0 0) || doubled t
 
+-- a space first or last
+abbrev pub is_edged : List ℕ → Bool
+is_edged t = is_space (get_or t 0 0) || is_space (get_or t (length t - 1) 0)
+
 -- a space first, last or doubled
 abbrev pub badly_spaced : List ℕ → Bool
-badly_spaced t = is_space (get_or t 0 0) || is_space (get_or t (length t - 1) 0) || doubled t
+badly_spaced t = is_edged t || doubled t
 
--- why a text may not be keyed: the first that applies
-unfoldable pub fault_of : List ℕ → Fault
+-- whether a text may be keyed, and if not, why: the first that applies
+unfoldable pub fault_of : List ℕ → Result Unit Fault
 fault_of t =
-    when ltb longest (length t) then TextTooLong
-    else when not (all_known t) then NotKeyable
-    else when badly_spaced t then BadSpace
-    else Nothing
+    when ltb longest (length t) then Err TextTooLong
+    else when not (all_known t) then Err NotKeyable
+    else when badly_spaced t then Err BadSpace
+    else Ok tt
 
 -- the page's number of a fault
 abbrev pub fault_number : Fault → ℕ
-fault_number Nothing = done
 fault_number TextTooLong = text_too_long
 fault_number NotKeyable = not_keyable
 fault_number BadSpace = bad_space
 
+-- the page's number of what is found of a text: 0 where it may be keyed
+abbrev pub found_number : Result Unit Fault → ℕ
+found_number (Ok _) = done
+found_number (Err fault) = fault_number fault
+
 -- a text that keying takes
 abbrev pub is_keyable : List ℕ → Bool
-is_keyable t = eqb (fault_number (fault_of t)) done
+is_keyable t = is_ok (fault_of t)
 
 -- what the code's walk through a text finds
 abbrev pub seen_in : List ℕ → Seen

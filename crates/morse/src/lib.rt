@@ -8,6 +8,6 @@ mod signs;
 pub mod texts;
 pub mod units;
 
-pub use keying::{Keyed, key};
+pub use keying::{KeyFault, key};
 pub use texts::{Fault, fault_of};
 pub use units::MOST_UNITS;

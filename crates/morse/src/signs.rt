@@ -103,16 +103,10 @@ fn figure(digit: u8) -> Sign
 pub(crate) fn sign_of(c: u8) -> Sign
     ensures { marks_of result ≡ sign_of c }
 {
-    if (b'?' <= c) & (c <= b'Z') {
-        let signs = letters();
-        return signs[(c - b'?') as usize];
+    match c {
+        b'?'..=b'Z' => letters()[usize::from(c - b'?')],
+        b'0'..=b'9' => figure(c - b'0'),
+        b','..=b'/' => stops()[usize::from(c - b',')],
+        _ => NO_SIGN,
     }
-    if (b'0' <= c) & (c <= b'9') {
-        return figure(c - b'0');
-    }
-    if (b',' <= c) & (c <= b'/') {
-        let signs = stops();
-        return signs[(c - b',') as usize];
-    }
-    NO_SIGN
 }

@@ -1,10 +1,11 @@
 // Which texts may be keyed.
 // Refusals 11, 12 and 13, in that order, for any bytes at all.
 ghost use Rattle.std.specs.Prelude.{◌≡◌};
-ghost use Rattle.morse.specs.Texts.{known, seen_in, fault_of, fault_number};
+ghost use Rattle.std.proofs.Common.{rules};
+ghost use Rattle.morse.specs.Texts.{known, seen_in, is_edged, fault_of, fault_number};
 
-use crate::answers::{BAD_SPACE, DONE, NOT_KEYABLE, TEXT_TOO_LONG};
 use crate::signs::sign_of;
+use basics::Refusal;
 
 // The most bytes of a text.
 pub const LONGEST: usize = 64;
@@ -12,26 +13,24 @@ pub const LONGEST: usize = 64;
 // What stands between two words.
 pub const SPACE: u8 = b' ';
 
-// Why a text may not be keyed: the first of the three refusals that applies, if any.
-#[derive(Clone, Copy)]
+// Why a text may not be keyed, by the page's numbers: the first of the three that applies.
+#[derive(Clone, Copy, Debug, PartialEq, Eq)]
 pub enum Fault {
-    Nothing,
-    TextTooLong,
-    NotKeyable,
-    BadSpace,
+    // It is over 64 bytes.
+    TextTooLong = 11,
+    // A byte is neither a space nor of A to Z, 0 to 9 and . , ? /
+    NotKeyable = 12,
+    // A space is first, last or doubled.
+    BadSpace = 13,
 }
 
-impl Fault {
-    // The page's number, 0 where there is no fault.
-    pub fn number(self) -> u8
-        ensures { result ≡ fault_number self }
-    {
-        match self {
-            Fault::Nothing => DONE,
-            Fault::TextTooLong => TEXT_TOO_LONG,
-            Fault::NotKeyable => NOT_KEYABLE,
-            Fault::BadSpace => BAD_SPACE,
-        }
+impl Refusal for Fault {
+    ghost number_of = { fault_number };
+
+    ghost is_told = { Prim.search rules };
+
+    fn number(self) -> u8 {
+        self as u8
     }
 }
 
@@ -46,8 +45,7 @@ struct Seen {
 fn is_known(c: u8) -> bool
     ensures { result ≡ known c }
 {
-    let sign = sign_of(c);
-    (c == SPACE) | (0 < sign.len)
+    c == SPACE || 0 < sign_of(c).len
 }
 
 // Whether all bytes are of the alphabet, and whether a space is doubled.
@@ -57,37 +55,37 @@ fn look(text: &[u8]) -> Seen
     let mut known = true;
     let mut doubled = false;
     let mut before = 0;
-    let mut i = 0;
-    while i < text.len() {
-        let c = text[i];
-        if c == SPACE {
-            doubled = doubled | (before == SPACE);
+    for c in text {
+        if *c == SPACE {
+            doubled |= before == SPACE;
         } else {
-            known = known & is_known(c);
+            known &= is_known(*c);
         }
-        before = c;
-        i += 1;
+        before = *c;
     }
     Seen { known, doubled }
 }
 
+// Whether a space is first or last.
+fn is_edged(text: &[u8]) -> bool
+    ensures { result ≡ is_edged text.now }
+{
+    matches!(text, [SPACE, ..] | [.., SPACE])
+}
+
 // Whether a text may be keyed, and if not, why.
-pub fn fault_of(text: &[u8]) -> Fault
+pub fn fault_of(text: &[u8]) -> Result<(), Fault>
     ensures { result ≡ fault_of text.now }
 {
-    let n = text.len();
-    if LONGEST < n {
-        return Fault::TextTooLong;
+    if LONGEST < text.len() {
+        return Err(Fault::TextTooLong);
     }
     let seen = look(text);
     if !seen.known {
-        return Fault::NotKeyable;
+        return Err(Fault::NotKeyable);
     }
-    if n == 0 {
-        return Fault::Nothing;
+    if is_edged(text) || seen.doubled {
+        return Err(Fault::BadSpace);
     }
-    if (text[0] == SPACE) | (text[n - 1] == SPACE) | seen.doubled {
-        return Fault::BadSpace;
-    }
-    Fault::Nothing
+    Ok(())
 }

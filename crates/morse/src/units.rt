@@ -28,10 +28,9 @@ pub const MOST_UNITS: usize = PER_CHARACTER * LONGEST - BETWEEN_SIGNS;
 pub fn put(room: &mut [u8], at: usize, v: u8)
     ensures { room.new ≡ set room.old at v }
 {
-    if room.len() <= at {
-        return;
+    if at < room.len() {
+        room[at] = v;
     }
-    room[at] = v;
 }
 
 // Stores n times v from a place on, and gives the place after them.
@@ -40,10 +39,8 @@ fn put_run(room: &mut [u8], at: usize, n: usize, v: u8) -> usize
     ensures { (result ≡ at + n) × (room.new ≡ sets room.old at (replicate n v)) }
 {
     let end = at + n;
-    let mut i = at;
-    while i < end {
+    for i in at..end {
         put(room, i, v);
-        i += 1;
     }
     end
 }
@@ -56,13 +53,11 @@ fn put_sign(room: &mut [u8], at: usize, gap: usize, sign: Sign) -> usize
     let mut i = at;
     let mut up = gap;
     let mut marks = sign.marks;
-    let mut left = sign.len;
-    while 0 < left {
+    for _ in 0..sign.len {
         let down = put_run(room, i, up, 0);
-        i = put_run(room, down, 1 + 2 * ((marks % 2) as usize), 1);
+        i = put_run(room, down, 1 + 2 * usize::from(marks % 2), 1);
         up = INSIDE_SIGN;
-        marks = marks / 2;
-        left -= 1;
+        marks /= 2;
     }
     i
 }
@@ -85,12 +80,9 @@ pub(crate) fn put_text(text: &[u8], room: &mut [u8]) -> usize
 {
     let mut at = 0;
     let mut gap = 0;
-    let mut i = 0;
-    while i < text.len() {
-        let c = text[i];
-        at = put_sign(room, at, gap, sign_of(c));
-        gap = gap_after(c);
-        i += 1;
+    for c in text {
+        at = put_sign(room, at, gap, sign_of(*c));
+        gap = gap_after(*c);
     }
     at
 }

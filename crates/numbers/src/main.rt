@@ -5,7 +5,7 @@
 use frames::answer::Answer;
 use frames::kind::{ANTENNAS, BATTERY, ORDER, REPORT_BYTES, TICK};
 use frames::sender::Origin;
-use morse::{Keyed, MOST_UNITS};
+use morse::MOST_UNITS;
 use std::io;
 use supervisor::fresh::fresh;
 use supervisor::state::{Mode, State};
@@ -107,8 +107,8 @@ fn say_battery(rt: &impl Print, millivolts: u16) -> io::Result<()> {
 fn say_units(rt: &impl Print, text: &str) -> io::Result<()> {
     let mut units = [0u8; MOST_UNITS];
     match morse::key(text.as_bytes(), &mut units) {
-        Keyed::Done(count) => println!(rt; "{text}: {count} units"),
-        _ => println!(rt; "{text}: refused"),
+        Ok(count) => println!(rt; "{text}: {count} units"),
+        Err(_) => println!(rt; "{text}: refused"),
     }
 }
 

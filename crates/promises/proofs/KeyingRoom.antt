@@ -12,8 +12,8 @@ use Rattle.morse.specs.Signs.{first_figure, alphabet, sign_of}
 use Rattle.morse.specs.Texts.{longest, is_space, known, fault_of}
 use Rattle.morse.specs.Units.{between_signs, sign_units, units_of, per_character, units_for}
 use Rattle.morse.specs.Keying.{key_reply}
-use Rattle.morse.specs.declared.keying.Keyed.{Keyed}
-use Rattle.morse.specs.declared.texts.Fault.TheVariants.{Nothing}
+use Rattle.std.specs.Prelude.{Result, Ok}
+use Rattle.morse.specs.declared.keying.KeyFault.{KeyFault}
 use Rattle.morse.proofs.TextsLaws.{fault_not_room, fairly, repeated}
 use Rattle.morse.proofs.UnitsLaws.{units_most, repeated_units}
 use Rattle.morse.proofs.KeyingLaws.{keyed_within, keyed_short, key_number, key_count}
@@ -26,13 +26,13 @@ enough : (n : ℕ) → Enough n (units_for n)
 enough n text room e h = key_number text room (omega (arith, units_most text))
 
 -- a text without a fault needs as many as it has
-module _ (text : List ℕ) (fine : fault_of text ≡ Nothing) (units : ℕ) (e : length (units_of text) ≡ units) where
+module _ (text : List ℕ) (fine : fault_of text ≡ Ok tt) (units : ℕ) (e : length (units_of text) ≡ units) where
   needs : Needs text units
   needs = record {
     given = λ room h.
-        ap (λ (o : Outcome Keyed). key_reply o.result) (keyed_within text room fine (omega (arith, e)))
+        ap (λ (o : Outcome (Result ℕ KeyFault)). key_reply o.result) (keyed_within text room fine (omega (arith, e)))
         ∙ ap (reply done) e;
-    short = λ room h. ap (λ (o : Outcome Keyed). key_reply o.result) (keyed_short text room fine (omega (arith, e)));
+    short = λ room h. ap (λ (o : Outcome (Result ℕ KeyFault)). key_reply o.result) (keyed_short text room fine (omega (arith, e)));
   }
 
 -- a byte of the alphabet that is no space, with one of the longest signs, over and over

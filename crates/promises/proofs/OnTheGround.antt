@@ -26,7 +26,7 @@ use Rattle.morse.specs.Units.{units_of}
 use Rattle.morse.specs.Texts.{fault_of}
 use Rattle.morse.proofs.KeyingLaws.{keyed_within}
 use Rattle.hearing.specs.Reading.{read_text}
-use Rattle.morse.specs.declared.texts.Fault.TheVariants.{Nothing}
+use Rattle.std.specs.Prelude.{Ok}
 use Rattle.hearing.proofs.ReadBack.{same_keying}
 use Rattle.beacon.specs.Text.{basic_text, complete_text, message_text, extended_text, text_of, has_text, form_bytes}
 use Rattle.beacon.specs.Text.{mode_letter, figure}
@@ -38,7 +38,7 @@ use Rattle.beacon.proofs.TextLaws.{form_most, text_length}
 use Rattle.promises.specs.OnTheGround.{OnTheGround, Whole, Has, HeardWith, sound}
 
 -- a text of any form can be keyed
-fair : (form : Form) (s : State) → Whole s → Has form s → fault_of (text_of form s) ≡ Nothing
+fair : (form : Form) (s : State) → Whole s → Has form s → fault_of (text_of form s) ≡ Ok tt
 fair form s w had = keyable s (is_true (in_range s) w.valid) w.eight form had
 
 module _ (form : Form) (bytes : ℕ) (enough : (n : ℕ) → n ≤ longest_greeting → form_bytes form n ≤ bytes) where

@@ -12,11 +12,11 @@ use Rattle.basics.specs.Choice.{when◌then◌else◌}
 use Rattle.basics.specs.Bytes.{space}
 use Rattle.basics.proofs.ChoiceLaws.{is_true, is_false, holds, and_left, and_right, and_both, or_right, decided}
 use Rattle.morse.specs.Signs.{Mark, Row, alphabet, sign_among, sign_of, signed}
-use Rattle.morse.specs.Texts.{longest, is_space, known, all_known, seen_in, fault_of}
+use Rattle.morse.specs.Texts.{longest, is_space, known, all_known, fault_of}
 use Rattle.morse.specs.Keying.{key_of}
-use Rattle.morse.specs.declared.texts.Fault.TheVariants.{Nothing}
+use Rattle.std.specs.Prelude.{Ok}
 use Rattle.morse.proofs.Everywhere.{every_row}
-use Rattle.morse.proofs.TextsLaws.{fair, fault_spacing}
+use Rattle.morse.proofs.TextsLaws.{fair, spaced_well}
 use Rattle.morse.proofs.KeyingLaws.{keyed_within}
 use Rattle.hearing.specs.Reading.{read_text}
 use Rattle.hearing.proofs.ReadBack.{key_done, same_keying}
@@ -68,11 +68,11 @@ all_known_law [] s = tt
 all_known_law (c ∷ t) s = and_both (known c) (all_known t) (spelt_known c s.0) (all_known_law t s.1)
 
 -- a text over the alphabet has no fault, and one without a fault is over it
-pub passes : (t : List ℕ) → TextOver alphabet t → fault_of t ≡ Nothing
+pub passes : (t : List ℕ) → TextOver alphabet t → fault_of t ≡ Ok tt
 passes t o =
-    sym (fault_spacing t (seen_in t) refl o.short (is_true (all_known t) (all_known_law t o.spelt)) false o.spaced)
+    sym (spaced_well t o.short (is_true (all_known t) (all_known_law t o.spelt)) o.spaced)
 
-over : (t : List ℕ) → fault_of t ≡ Nothing → TextOver alphabet t
+over : (t : List ℕ) → fault_of t ≡ Ok tt → TextOver alphabet t
 over t e =
     let f = fair t e in
     record { short = f.short; spelt = all_spelt t (holds (all_known t) f.known); spaced = f.spaced }

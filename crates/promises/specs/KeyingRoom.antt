@@ -8,7 +8,7 @@ use Rattle.basics.specs.OneOutcome.{Leaves}
 use Rattle.basics.specs.Outcome.{Reply, reply}
 use Rattle.morse.specs.Answers.{done, no_room}
 use Rattle.morse.specs.Signs.{first_figure}
-use Rattle.morse.specs.Texts.{longest, fault_of, fault_number}
+use Rattle.morse.specs.Texts.{longest, fault_of, found_number}
 use Rattle.morse.specs.Units.{units_for}
 use Rattle.morse.specs.Keying.{key_reply, key_of}
 use Rattle.flight.specs.contracts.calls.ems_key
@@ -26,7 +26,7 @@ AtMost n units = (text room : List ℕ) → length text ≡ n → (keying text r
 abbrev pub Enough : (n bytes : ℕ) → Type 0
 Enough n bytes =
     (text room : List ℕ) → length text ≡ n → bytes ≤ length room →
-    (keying text room).number ≡ fault_number (fault_of text)
+    (keying text room).number ≡ found_number (fault_of text)
 
 -- a text needs so many: with room for them they are counted, and with less the answer is 14
 pub record Needs (text : List ℕ) (units : ℕ) : Type 0 where

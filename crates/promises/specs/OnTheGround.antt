@@ -2,7 +2,7 @@
 -- extended one among it; two states whose complete beacons sound alike have the same mode, tension, and modules on and
 -- failed, and two whose extended ones do have the same message too.
 -- Assumes nothing.
-use Rattle.std.specs.Prelude.{ℕ, ◌≤◌, ◌≡◌, List, T, length}
+use Rattle.std.specs.Prelude.{ℕ, ◌≤◌, ◌≡◌, List, Result, Ok, T, length}
 use Rattle.basics.specs.Outcome.{Outcome, outcome, written}
 use Rattle.modules.specs.Masks.{masks_of}
 use Rattle.supervisor.specs.Range.{in_range}
@@ -11,9 +11,7 @@ use Rattle.supervisor.specs.declared.state.State.{State}
 use Rattle.morse.specs.Units.{units_of}
 use Rattle.morse.specs.Keying.{key_of}
 use Rattle.hearing.specs.Reading.{Read}
-use Rattle.morse.specs.declared.keying.Keyed.TheVariants as keyed
-use Rattle.hearing.specs.declared.reading.Heard.{Heard}
-use Rattle.hearing.specs.declared.reading.Heard.TheVariants as heard
+use Rattle.hearing.specs.declared.reading.ReadFault.{ReadFault}
 use Rattle.beacon.specs.Text.{text_of, message_text, has_text}
 use Rattle.beacon.specs.Writing.{beacon_of}
 use Rattle.beacon.specs.declared.text.Form.{Form}
@@ -35,10 +33,10 @@ pub record IsHeard (form : Form) (s : State) (page air ground : List ℕ) : Type
   pub text : List ℕ
   pub wrote : beacon_of form s page ≡ outcome (wrote.Done (length text)) (written text page)
   pub units : List ℕ
-  pub keyed : key_of text air ≡ outcome (keyed.Done (length units)) (written units air)
+  pub keyed : key_of text air ≡ outcome (Ok (length units)) (written units air)
   pub heard :
-      (after : Outcome Heard) → Read units ground after →
-      after ≡ outcome (heard.Done (length text)) (written text ground)
+      (after : Outcome (Result ℕ ReadFault)) → Read units ground after →
+      after ≡ outcome (Ok (length text)) (written text ground)
 
 -- the beacon of a form is had: an extended one where a message is kept
 abbrev pub Has : Form → State → Type 0

@@ -1,6 +1,6 @@
 -- A refusal moves nothing: what a call leaves, by the number of its answer, and what 8, 9 and 10 are given to.
 -- Assumes nothing.
-use Rattle.std.specs.Prelude.{ℕ, ◌≤◌, ◌≡◌, Bool, true, not, List, ◌++◌, T, drop}
+use Rattle.std.specs.Prelude.{ℕ, ◌≤◌, ◌≡◌, Bool, true, not, List, ◌++◌, Result, T, drop}
 use Rattle.basics.specs.Choice.{within}
 use Rattle.basics.specs.Outcome.{Reply, Outcome}
 use Rattle.modules.specs.Groups.{is_mission}
@@ -18,7 +18,7 @@ use Rattle.supervisor.specs.declared.state.Mode.{Mode}
 use Rattle.supervisor.specs.declared.state.State.{State}
 use Rattle.morse.specs.Keying.{key_of, key_reply}
 use Rattle.hearing.specs.Reading.{Read, read_reply}
-use Rattle.hearing.specs.declared.reading.Heard.{Heard}
+use Rattle.hearing.specs.declared.reading.ReadFault.{ReadFault}
 use Rattle.beacon.specs.Writing.{beacon_of, written_reply}
 use Rattle.beacon.specs.declared.text.Form.{Form}
 use Rattle.promises.specs.AsTold.{SaysOn}
@@ -81,7 +81,7 @@ KeyingFrom first =
 -- reading back, whose contract is `Read`
 abbrev pub ReadingFrom : (first : ℕ) → Type 0
 ReadingFrom first =
-    (units room : List ℕ) (after : Outcome Heard) → Read units room after → first ≤ (read_reply after.result).number →
+    (units room : List ℕ) (after : Outcome (Result ℕ ReadFault)) → Read units room after → first ≤ (read_reply after.result).number →
     Unwritten (read_reply after.result) room after.room
 
 -- the beacon's text

@@ -2,8 +2,6 @@
 // mark, no sign or not read is a `!`, which is not of the alphabet.
 #![tactic(auto)]
 
-use hearing::Heard;
-use morse::Keyed;
 use morse::texts::LONGEST;
 use std::io;
 
@@ -43,9 +41,9 @@ fn say_marks(rt: &impl Print, units: &[u8]) -> io::Result<()> {
 fn say_heard(rt: &impl Print, units: &[u8]) -> io::Result<()> {
     let mut text = [0u8; LONGEST];
     match hearing::read(units, &mut text) {
-        Heard::Done(n) if n <= LONGEST => say(rt, &text[0..n]),
-        Heard::Done(_) => Ok(()),
-        _ => say(rt, b"!"),
+        Ok(n) if n <= LONGEST => say(rt, &text[..n]),
+        Ok(_) => Ok(()),
+        Err(_) => say(rt, b"!"),
     }
 }
 
@@ -64,9 +62,9 @@ fn say_sign(rt: &impl Print, byte: u8) -> io::Result<()> {
     say(rt, &text)?;
     say(rt, b" ")?;
     match morse::key(&text, &mut units) {
-        Keyed::Done(n) if n <= SIGN_ROOM => say_keyed(rt, &units[0..n]),
-        Keyed::Done(_) => Ok(()),
-        _ => say(rt, b"!\n"),
+        Ok(n) if n <= SIGN_ROOM => say_keyed(rt, &units[..n]),
+        Ok(_) => Ok(()),
+        Err(_) => say(rt, b"!\n"),
     }
 }
 

@@ -13,9 +13,10 @@ use Rattle.morse.specs.Signs.{dot, dash, Row, row, alphabet, sign_of}
 use Rattle.morse.specs.Texts.{fault_of}
 use Rattle.morse.specs.Units.{units_of}
 use Rattle.morse.specs.Keying.{key_units, key_of, key_reply}
-use Rattle.morse.specs.declared.keying.Keyed.{Keyed}
+use Rattle.std.specs.Prelude.{Result}
+use Rattle.morse.specs.declared.keying.KeyFault.{KeyFault}
 use Rattle.hearing.specs.Reading.{Keys, Read, read_text, read_reply}
-use Rattle.hearing.specs.declared.reading.Heard.{Heard}
+use Rattle.hearing.specs.declared.reading.ReadFault.{ReadFault}
 use Rattle.hearing.proofs.ReadBack.{same_keying}
 use Rattle.promises.specs.Spelling.{Has, Spelt, TextOver, KeyedOver, OnlyOver, TwelveOver}
 use Rattle.promises.specs.Spelling.{ReadOver, OneTextOver, FifteenOver}
@@ -43,7 +44,7 @@ pub not_keyed_with_a_row_more : KeyedOver with_semicolon → ⊥
 unfolding alphabet sign_of fault_of units_of key_of
 not_keyed_with_a_row_more says =
     let done : ◌≡◌ {A = ℕ} 12 0 =
-    ap (λ (o : Outcome Keyed). (key_reply o.result).number) (says semicolon [] semicolon_over (lit≤ tt)) in
+    ap (λ (o : Outcome (Result ℕ KeyFault)). (key_reply o.result).number) (says semicolon [] semicolon_over (lit≤ tt)) in
     omega arith
 
 -- it has no units, which are read as the empty text
@@ -53,7 +54,7 @@ not_read_with_a_row_more says =
     let after = read_text [] (0 ∷ []) in
     let nothing : Read (units_of semicolon) (0 ∷ []) after = reads [] (0 ∷ []) (record { passes = refl; same = refl }) in
     let long : ◌≡◌ {A = ℕ} 0 1 =
-    ap (λ (o : Outcome Heard). (read_reply o.result).count)
+    ap (λ (o : Outcome (Result ℕ ReadFault)). (read_reply o.result).count)
     (says semicolon (0 ∷ []) after semicolon_over nothing (lit≤ tt)) in
     omega arith
 
@@ -87,7 +88,7 @@ pub not_twelve_with_a_row_fewer : TwelveOver without_slash → ⊥
 unfolding alphabet sign_of fault_of units_of key_units key_of
 not_twelve_with_a_row_fewer says =
     let refused : ◌≡◌ {A = ℕ} 0 12 =
-    ap (λ (o : Outcome Keyed). (key_reply o.result).number)
+    ap (λ (o : Outcome (Result ℕ KeyFault)). (key_reply o.result).number)
     (says slash (replicate 13 0) (lit≤ tt) slash_not_spelt) in
     omega arith
 
@@ -115,6 +116,6 @@ not_fifteen_with_a_row_fewer says =
     let over : TextOver alphabet t = record { short = o.short; spelt = spelt_more 39 t o.spelt; spaced = o.spaced } in
     slash_not_spelt (rw (same_keying t slash (passes t over) keys.passes e) at o.spelt) in
     let refused : ◌≡◌ {A = ℕ} 0 15 =
-    ap (λ (o : Outcome Heard). (read_reply o.result).number)
+    ap (λ (o : Outcome (Result ℕ ReadFault)). (read_reply o.result).number)
     (says (units_of slash) (0 ∷ []) (read_text slash (0 ∷ [])) (reads slash (0 ∷ []) keys) none) in
     omega arith

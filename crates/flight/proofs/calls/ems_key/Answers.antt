@@ -1,7 +1,7 @@
--- `flight::calls::ems_key` meets its contract: the answer by the page's number and count.
-use Rattle.morse.specs.Keying.{key_reply}
-use Rattle.flight.proofs.CallsLaws.{replied_by}
+-- `flight::calls::ems_key` meets its contract: what keying gave, told by its number and its count.
+use Rattle.morse.specs.Keying.{key_fault_number, key_reply}
+use Rattle.flight.proofs.CallsLaws.{told_by, key_told}
 use Rattle.flight.proofs.calls.ems_key.Goals as goal
 
 pub returns : goal.returns
-returns c = replied_by key_reply c.number.ensures c.count.ensures c.key-keyed.ensures
+returns c = told_by key_fault_number key_reply key_told c.tell.ensures c.key.ensures

@@ -1,6 +1,6 @@
 -- `is_greeting` meets its contract: sixteen bytes by their type, and the tests are the rule's.
-use Rattle.std.proofs.Common.{◌≡◌, ◌-◌, eqb, length, drop, sym, ap, ◌∙◌, arith, length-drop, length-take-le, take_all, rules}
-use Rattle.morse.specs.Texts.{fault_number}
+use Rattle.std.specs.Prelude.{is_ok, true, false}
+use Rattle.std.proofs.Common.{◌≡◌, ◌-◌, length, drop, refl, sym, ap, ◌∙◌, arith, length-drop, length-take-le, take_all, rules}
 use Rattle.frames.specs.Greeting.{longest_greeting, all_zero, is_greeting}
 use Rattle.frames.proofs.GreetingLaws.{too_long, by_text, no_characters}
 use Rattle.frames.proofs.greeting.is_greeting.Goals as goal
@@ -18,9 +18,15 @@ returns-then-n-eq0 c =
 pub slice_bounds-fault_of-end : goal.slice_bounds-fault_of-end
 slice_bounds-fault_of-end c = sym (length-take-le c.args.length c.args.text (omega arith))
 
-pub returns : goal.returns
-returns c =
+pub returns-then-is_ok : goal.returns-then-is_ok
+returns-then-is_ok c =
     let args = c.args in
-    by_text _ args.text _ _ (search rules) c.if-n-gt-LONGEST.false
-    (ap (λ n. eqb n 0) (c.number.ensures ∙ ap fault_number c.fault_of-fault.ensures))
+    by_text _ args.text true _ (search rules) c.if-n-gt-LONGEST.false
+    (sym c.if-is_ok.true ∙ c.is_ok.ensures.value ∙ ap is_ok c.fault_of.ensures)
     (c.is_blank.ensures ∙ ap all_zero (take_all (longest_greeting - args.length) (drop args.length args.text) (rw (length-drop args.length args.text) (omega arith))))
+
+pub returns-else-is_ok : goal.returns-else-is_ok
+returns-else-is_ok c =
+    c.if-is_ok.false
+    ∙ by_text _ c.args.text false _ (search rules) c.if-n-gt-LONGEST.false
+    (sym c.if-is_ok.false ∙ c.is_ok.ensures.value ∙ ap is_ok c.fault_of.ensures) refl

@@ -3,9 +3,10 @@
 use mathlib.Core.Path.{◌≡◌, sym, ◌∙◌}
 use Prim.Native.Nat.{◌+◌, ◌-◌}
 use native.Mathlib.Omega.{arith}
+use Rattle.std.proofs.Math.Nat.{mul_comm}
 use borrow.Author.Rules.{rules}
 use Rattle.hearing.specs.Numbers.{four_marks}
-use Rattle.hearing.proofs.NumbersLaws.{past_on, past_here, past_never}
+use Rattle.hearing.proofs.NumbersLaws.{past_on, past_end}
 use Rattle.hearing.proofs.numbers.past.Goals as goal
 
 pub loop-rest-init : goal.loop-rest-init
@@ -21,18 +22,10 @@ loop-rest-preserved c =
     let turns = four_marks + a.first - l.byte in
     let e : turns - 1 ≡ four_marks + a.first - (l.byte + 1) = omega arith in
     let on = past_on turns l.byte l.rest (omega arith) c.loop-rest-test.true in
-    (search rules, search rules, search rules, rw e at (sym on ∙ l.invariant.3))
+    (search rules, search rules, search rules, rw (mul_comm l.rest 2) (rw e at (sym on ∙ l.invariant.3)))
 
-pub returns-then-rest-eq-FOUR_MARKS : goal.returns-then-rest-eq-FOUR_MARKS
-returns-then-rest-eq-FOUR_MARKS c =
+pub returns : goal.returns
+returns c =
     let a = c.args in
     let l = c.loop-rest in
-    let turns = four_marks + a.first - l.byte in
-    sym (past_here turns l.byte (omega arith)) ∙ rw c.if-rest-eq-FOUR_MARKS.true at l.invariant.3
-
-pub returns-else-rest-eq-FOUR_MARKS : goal.returns-else-rest-eq-FOUR_MARKS
-returns-else-rest-eq-FOUR_MARKS c =
-    let a = c.args in
-    let l = c.loop-rest in
-    let turns = four_marks + a.first - l.byte in
-    sym (past_never turns l.byte l.rest (omega arith)) ∙ l.invariant.3
+    c.then_some.ensures ∙ past_end (four_marks + a.first - l.byte) l.byte l.rest (λ e. omega arith) (omega arith) ∙ l.invariant.3

@@ -1,25 +1,27 @@
--- `morse::keying::key` meets its contract: each arm is the rule's case of the fault that was found.
-use mathlib.Core.Path.{sym, ◌∙◌}
-use Rattle.morse.specs.declared.texts.Fault.TheVariants.{Nothing, TextTooLong, NotKeyable, BadSpace}
+-- `morse::keying::key` meets its contract: a fault is the rule's case of it, and with none a first count tells whether the
+-- room is long enough.
+use mathlib.Core.Path.{sym, ap, ◌∙◌}
+use native.Mathlib.Omega.{arith}
+use Rattle.std.specs.Prelude.{Err}
+use Rattle.basics.specs.Outcome.{outcome}
 use Rattle.morse.proofs.TextsLaws.{fair}
-use Rattle.morse.proofs.KeyingLaws.{key_by_law}
+use Rattle.morse.proofs.KeyingLaws.{refused_by, key_by_law, keyed_short, keyed_stored}
 use Rattle.morse.proofs.keying.key.Goals as goal
 
-pub key_fair-requires : goal.key_fair-requires
-key_fair-requires c =
-    (fair _ (sym c.fault_of.ensures ∙ c.in-Nothing.is)).short
+pub returns-in_err-fault_of : goal.returns-in_err-fault_of
+returns-in_err-fault_of c =
+    let fault = c.in_err-fault_of.field-0.0 in
+    ap (λ answer. outcome answer c.args.units.now) (refused_by _ fault c.from_residual.ensures.1)
+    ∙ key_by_law _ _ (Err fault) (sym c.in_err-fault_of.was ∙ c.fault_of.ensures)
 
-pub returns-in-Nothing : goal.returns-in-Nothing
-returns-in-Nothing c =
-    let f = c.fault_of in
-    let nothing = c.in-Nothing.is in
-    c.key_fair.ensures ∙ key_by_law _ _ Nothing f.ensures nothing
+pub put_text-n-requires : goal.put_text-n-requires
+put_text-n-requires c = (fair _ (sym c.fault_of.ensures ∙ c.in_ok-fault_of.was)).short
 
-pub returns-in-TextTooLong : goal.returns-in-TextTooLong
-returns-in-TextTooLong c = key_by_law _ _ TextTooLong c.fault_of.ensures c.in-TextTooLong.is
+pub returns-then-units-n : goal.returns-then-units-n
+returns-then-units-n c = sym (keyed_short _ _ (sym c.fault_of.ensures ∙ c.in_ok-fault_of.was) (omega arith))
 
-pub returns-in-NotKeyable : goal.returns-in-NotKeyable
-returns-in-NotKeyable c = key_by_law _ _ NotKeyable c.fault_of.ensures c.in-NotKeyable.is
+pub put_text-requires : goal.put_text-requires
+put_text-requires c = (fair _ (sym c.fault_of.ensures ∙ c.in_ok-fault_of.was)).short
 
-pub returns-in-BadSpace : goal.returns-in-BadSpace
-returns-in-BadSpace c = key_by_law _ _ BadSpace c.fault_of.ensures c.in-BadSpace.is
+pub returns : goal.returns
+returns c = keyed_stored _ _ (sym c.fault_of.ensures ∙ c.in_ok-fault_of.was) c.put_text.ensures (omega arith)
