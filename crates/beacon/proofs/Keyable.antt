@@ -32,8 +32,8 @@ use Rattle.supervisor.specs.declared.state.State.{State}
 use Rattle.basics.specs.Bytes.{hex_digit, space}
 use Rattle.beacon.specs.Text.{mode_letter, figure, basic_text, complete_text, extended_text, text_of, has_text}
 use Rattle.beacon.proofs.TextLaws.{complete_length}
-use Rattle.beacon.specs.declared.text.Form.{Form}
-use Rattle.beacon.specs.declared.text.Form.TheVariants.{Basic, Complete, Extended}
+use Rattle.supervisor.specs.declared.form.Form.{Form}
+use Rattle.supervisor.specs.declared.form.Form.TheVariants.{Basic, Complete, Extended}
 
 -- a byte with a sign, and no space
 record Plain (c : ℕ) : Type 0 where

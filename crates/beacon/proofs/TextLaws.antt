@@ -12,8 +12,8 @@ use Rattle.frames.specs.Greeting.{longest_greeting}
 use Rattle.frames.proofs.GreetingLaws.{Fair}
 use Rattle.supervisor.specs.declared.state.State.{State}
 use Rattle.beacon.specs.Text.{basic_text, complete_text, extended_text, text_of, full_text, complete_bytes, most_bytes, form_bytes}
-use Rattle.beacon.specs.declared.text.Form.{Form}
-use Rattle.beacon.specs.declared.text.Form.TheVariants.{Basic, Complete, Extended}
+use Rattle.supervisor.specs.declared.form.Form.{Form}
+use Rattle.supervisor.specs.declared.form.Form.TheVariants.{Basic, Complete, Extended}
 
 -- no text is longer than what the code makes
 pub form_most : (form : Form) (n : ℕ) → n ≤ longest_greeting → form_bytes form n ≤ most_bytes

@@ -7,8 +7,8 @@ use Rattle.supervisor.specs.Message.{is_kept}
 use Rattle.supervisor.specs.declared.state.Mode.{Mode}
 use Rattle.supervisor.specs.declared.state.Mode.TheVariants.{DeployWait, Recovery, Safe}
 use Rattle.supervisor.specs.declared.state.State.{State}
-use Rattle.beacon.specs.declared.text.Form.{Form}
-use Rattle.beacon.specs.declared.text.Form.TheVariants.{Basic, Complete, Extended}
+use Rattle.supervisor.specs.declared.form.Form.{Form}
+use Rattle.supervisor.specs.declared.form.Form.TheVariants.{Basic, Complete, Extended}
 
 -- `EMS `
 abbrev pub call_sign : List ℕ

@@ -1,23 +1,14 @@
 // The bytes of the beacon's text: the basic one is the front of the complete one, and that of the extended one.
 ghost use Rattle.std.specs.Prelude.{◌≡◌, ◌∷◌, ◌++◌, ◌<◌};
-ghost use Rattle.basics.specs.Bytes.{hex_digit, space};
+ghost use Rattle.basics.specs.Bytes.{space};
 ghost use Rattle.supervisor.specs.State.{HasMasks};
 ghost use Rattle.beacon.specs.Text.{mode_letter, figure, has_text, form_bytes};
 ghost use Rattle.beacon.specs.Text.{complete_text, full_text};
 
+use basics::hex_digit;
 use frames::greeting::LONGEST;
+use supervisor::form::Form;
 use supervisor::state::{Mode, State};
-
-// How much a beacon tells.
-#[derive(Clone, Copy)]
-pub enum Form {
-    // mode and tension
-    Basic,
-    // these, and the masks of the modules on and failed
-    Complete,
-    // these, and the message
-    Extended,
-}
 
 // The bytes of the basic text.
 const BASIC_BYTES: usize = 10;
@@ -34,27 +25,24 @@ const MOST_BYTES: usize = 33;
 // The base of a mask's digits.
 const HEX: u8 = 16;
 
-impl Form {
-    // Whether a state with a message of this length has such a text: an extended one where the message is kept.
-    pub(crate) fn is_had(self, length: u8) -> bool
-        ensures { result ≡ has_text self length }
-    {
-        match self {
-            Form::Basic => true,
-            Form::Complete => true,
-            Form::Extended => 0 < length,
-        }
+// Whether a state with a message of this length has a text of this form: an extended one where the message is kept.
+pub(crate) fn has_text(form: Form, length: u8) -> bool
+    ensures { result ≡ has_text form length }
+{
+    match form {
+        Form::Basic | Form::Complete => true,
+        Form::Extended => 0 < length,
     }
+}
 
-    // The bytes of its text, with a message of this length.
-    pub(crate) fn bytes(self, length: u8) -> usize
-        ensures { result ≡ form_bytes self length }
-    {
-        match self {
-            Form::Basic => BASIC_BYTES,
-            Form::Complete => COMPLETE_BYTES,
-            Form::Extended => GREETED_BYTES + (length as usize),
-        }
+// The bytes of a text of this form, with a message of this length.
+pub(crate) fn form_bytes(form: Form, length: u8) -> usize
+    ensures { result ≡ form_bytes form length }
+{
+    match form {
+        Form::Basic => BASIC_BYTES,
+        Form::Complete => COMPLETE_BYTES,
+        Form::Extended => GREETED_BYTES + usize::from(length),
     }
 }
 
@@ -77,21 +65,12 @@ fn figure(n: u16) -> u8
     b'0' + (n as u8)
 }
 
-// An upper-case hex digit.
-fn digit(n: u8) -> u8
-    requires { n < 16 }
-    ensures { result ≡ hex_digit n }
-{
-    if n < 10 { b'0' + n } else { b'A' + (n - 10) }
-}
-
 // The complete text of a state, with the masks that it keeps.
+#[tactic(auto, unfolding(crate::specs::Text::basic_text, crate::specs::Text::complete_text))]
 fn complete_text(state: State) -> [u8; COMPLETE_BYTES]
     requires { HasMasks state }
     ensures { result ≡ complete_text state }
 {
-    let watch = state.watch;
-    let mode = watch.mode;
     let tension = state.battery.tension;
     let masks = state.masks;
     [
@@ -99,22 +78,23 @@ fn complete_text(state: State) -> [u8; COMPLETE_BYTES]
         b'M',
         b'S',
         b' ',
-        letter(mode),
+        letter(state.watch.mode),
         b' ',
         figure(tension / 1000),
         figure(tension / 100 % 10),
         figure(tension / 10 % 10),
         figure(tension % 10),
         b' ',
-        digit(masks.on / HEX),
-        digit(masks.on % HEX),
+        hex_digit(masks.on / HEX),
+        hex_digit(masks.on % HEX),
         b' ',
-        digit(masks.failed / HEX),
-        digit(masks.failed % HEX),
+        hex_digit(masks.failed / HEX),
+        hex_digit(masks.failed % HEX),
     ]
 }
 
 // A complete text, a space, and all bytes of a message.
+#[tactic(auto, using(crate::proofs::TextLaws::message_copied))]
 fn greeted(complete: [u8; COMPLETE_BYTES], message: [u8; LONGEST]) -> [u8; MOST_BYTES]
     ensures { result ≡ complete ++ (space ∷ message) }
 {
@@ -129,8 +109,5 @@ pub(crate) fn full_text(state: State) -> [u8; MOST_BYTES]
     requires { HasMasks state }
     ensures { result ≡ full_text state }
 {
-    let complete = complete_text(state);
-    let message = state.message;
-    let text = message.text;
-    greeted(complete, text)
+    greeted(complete_text(state), state.message.text)
 }

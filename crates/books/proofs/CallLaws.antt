@@ -9,20 +9,20 @@ use native.Mathlib.Omega.{arith}
 use native.Mathlib.Nat.{le_refl}
 use lib.Dec.{T, eqb}
 use lib.ListN.{get_or, length, take, drop, replicate, take-append-drop}
+use Rattle.std.specs.Prelude.{Ok}
 use Rattle.basics.specs.Choice.{within}
 use Rattle.basics.specs.Outcome.{Outcome, outcome}
 use Rattle.basics.proofs.ChoiceLaws.{holds, within_low, within_high, within_of}
 use Rattle.modules.specs.Masks.{masks_of}
 use Rattle.modules.specs.declared.masks.Masks.{Masks}
 use Rattle.frames.specs.Answer.{answer_number, is_reported}
-use Rattle.frames.specs.Kind.{report_bytes, tick_kind}
+use Rattle.frames.specs.Kind.{report_bytes, kind_number, tick_kind}
 use Rattle.frames.specs.Frame.{head_of}
 use Rattle.frames.specs.About.{about, is_tick}
 use Rattle.frames.specs.declared.answer.Answer.{Answer}
 use Rattle.frames.specs.declared.frame.Frame.{Frame}
 use Rattle.frames.specs.declared.frame.Frame.TheVariants as frame
 use Rattle.frames.specs.declared.command.Command.TheVariants as command
-use Rattle.frames.specs.declared.reading.Reading.TheVariants.{Accepted}
 use Rattle.frames.proofs.AnswerLaws.{refusal, unreported}
 use Rattle.supervisor.specs.Range.{in_range}
 use Rattle.supervisor.specs.Report.{report_of, shown_in}
@@ -88,7 +88,7 @@ module _ (s : State) (c : Call) where
 abbrev pub blank : List ℕ
 blank = replicate report_bytes 0
 
-kind_other : (f : Frame) → is_tick (about (Accepted f)) ≡ false → eqb (head_of f).kind tick_kind ≡ false
+kind_other : (f : Frame) → is_tick (about (Ok f)) ≡ false → eqb (kind_number (head_of f).kind) tick_kind ≡ false
 kind_other (frame.Tick shorts) e = absurd (true≢false e)
 kind_other (frame.Battery tension) e = refl
 kind_other (frame.Antennas deployed) e = refl

@@ -6,7 +6,7 @@ ghost use Rattle.books.specs.Step.{with_books, booked, is_early, step_books_of};
 use crate::answer::BookFault;
 use crate::numbers::{NUMBERS, keep};
 use frames::answer::Answer;
-use frames::kind::{REPORT_BYTES, TICK};
+use frames::kind::{Kind, REPORT_BYTES};
 use supervisor::state::State;
 use supervisor::step::{Stepped, step};
 
@@ -48,7 +48,7 @@ fn keep_step(
         return Ok(after);
     }
     // The bytes are zeros where no report was written, so the second is a tick's kind at a done tick alone.
-    keep(books, report[1] == TICK, after.state.masks)?;
+    keep(books, report[1] == Kind::Tick as u8, after.state.masks)?;
     if after.answer.is_reported() {
         basics::copy(&report, room);
     }

@@ -42,8 +42,10 @@ use Rattle.books.specs.declared.answer.BookAnswer.TheVariants.{NotBooks}
 use Rattle.books.specs.declared.step.Booked.{Booked}
 use Rattle.books.proofs.WaysLaws.{booked_valid, booked_in_range, booked_left, booked_outside}
 use Rattle.beacon.specs.Writing.{beacon_of}
-use Rattle.beacon.specs.declared.text.Form.{Form}
-use Rattle.beacon.specs.declared.writing.Written.TheVariants.{BadState}
+use Rattle.supervisor.specs.declared.form.Form.{Form}
+use Rattle.beacon.specs.Writing.{fault_number, written_reply}
+use Rattle.beacon.specs.declared.writing.WriteFault.{WriteFault}
+use Rattle.beacon.specs.declared.writing.WriteFault.TheVariants.{BadState}
 use Rattle.beacon.proofs.WritingLaws.{beacon_outside}
 use Rattle.tracker.specs.Tracker.{track_number}
 use Rattle.tracker.specs.declared.Tracked.{Tracked}
@@ -130,7 +132,7 @@ module _ (image room : List ℕ) (nothing : fields_say image ≡ None) where
   unfolding step_books_image loaded
   books_foreign frame books size = simp (other, eq-eqb (length books) book_numbers size)
 
-  pub beacon_foreign : (form : Form) → outcome BadState room ≡ beacon_image form image room
+  pub beacon_foreign : (form : Form) → outcome (Err BadState) room ≡ beacon_image form image room
   unfolding beacon_image loaded
   beacon_foreign form = simp other
 
@@ -281,6 +283,10 @@ told_by number_of by same {given} e f = rw (e, same given) (ap (replied by) f)
 pub key_told : (given : Result ℕ KeyFault) → told key_fault_number given ≡ key_reply given
 key_told (Ok written) = refl
 key_told (Err refusal) = refl
+
+pub written_told : (given : Result ℕ WriteFault) → told fault_number given ≡ written_reply given
+written_told (Ok written) = refl
+written_told (Err refusal) = refl
 
 -- an answer by its number and its count
 pub replied_by : {Answer : Type 0} (by : Answer → Reply) {answer : Answer} {n k : ℕ} {room : List ℕ} {o : Outcome Answer}

@@ -24,9 +24,9 @@ use Rattle.books.specs.Summary.{summary_of, put_into}
 use Rattle.books.specs.declared.answer.BookAnswer.TheVariants.{NotBooks}
 use Rattle.books.specs.declared.step.Booked.{Booked}
 use Rattle.beacon.specs.Writing.{beacon_of}
-use Rattle.beacon.specs.declared.text.Form.{Form}
-use Rattle.beacon.specs.declared.writing.Written.{Written}
-use Rattle.beacon.specs.declared.writing.Written.TheVariants.{BadState}
+use Rattle.supervisor.specs.declared.form.Form.{Form}
+use Rattle.beacon.specs.declared.writing.WriteFault.{WriteFault}
+use Rattle.beacon.specs.declared.writing.WriteFault.TheVariants.{BadState}
 use Rattle.tracker.specs.Tracker.{track_number, track_of}
 use Rattle.tracker.specs.declared.Tracked.{Tracked}
 use Rattle.flight.specs.Saving.{image_bytes, saved}
@@ -119,12 +119,12 @@ summary_reply books room =
     else outcome number (put_into summed.shares room)
 
 -- the beacon's text of what was loaded; where that is nothing, the room stays
-abbrev pub beacon_loaded : Form → Option State → (room : List ℕ) → Outcome Written
-beacon_loaded form None room = outcome BadState room
+abbrev pub beacon_loaded : Form → Option State → (room : List ℕ) → Outcome (Result ℕ WriteFault)
+beacon_loaded form None room = outcome (Err BadState) room
 beacon_loaded form (Some s) room = beacon_of form s room
 
 -- the beacon's text of an image
-unfoldable pub beacon_image : Form → (image room : List ℕ) → Outcome Written
+unfoldable pub beacon_image : Form → (image room : List ℕ) → Outcome (Result ℕ WriteFault)
 beacon_image form image room = beacon_loaded form (loaded image) room
 
 -- what a call gave, by the page's number, 0 where it is done, and the count of what it has written: none at a refusal

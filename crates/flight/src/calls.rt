@@ -5,7 +5,7 @@ ghost use Rattle.std.specs.Prelude.{◌≡◌};
 ghost use Rattle.basics.specs.Outcome.{outcome, reply};
 ghost use Rattle.morse.specs.Keying.{key_reply, key_of};
 ghost use Rattle.beacon.specs.Writing.{written_reply};
-ghost use Rattle.beacon.specs.declared.text.Form.TheVariants as form;
+ghost use Rattle.supervisor.specs.declared.form.Form.TheVariants as form;
 ghost use Rattle.books.specs.Step.{with_books};
 ghost use Rattle.flight.specs.Calls.{imaged, fresh_image, step_image, pass_image, step_books_image, summary_reply};
 ghost use Rattle.flight.specs.Calls.{modules_on_image, beacon_image, told, replied, ReadReplied};
@@ -14,8 +14,7 @@ ghost use Rattle.flight.specs.Calls.{tracks, tracks_of};
 use crate::loading::load;
 use crate::saving::{IMAGE_BYTES, save};
 use basics::Refusal;
-use beacon::text::Form;
-use beacon::writing::Written;
+use beacon::writing::WriteFault;
 use books::answer::BookAnswer;
 use books::numbers::{MODULES, NUMBERS};
 use books::shares::put;
@@ -23,6 +22,7 @@ use books::step::step_books;
 use books::summary::summary;
 use frames::answer::Answer;
 use morse::answers::{DONE, NO_ROOM};
+use supervisor::form::Form;
 use supervisor::fresh::fresh;
 use tracker::Reading;
 
@@ -138,11 +138,11 @@ pub extern "C" fn ems_summary(books: &[u64], shares: &mut [u16]) -> u8
 }
 
 // The beacon's text of an image's state.
-fn write_beacon(image: &[u8], form: Form, text: &mut [u8]) -> Written
+fn write_beacon(image: &[u8], form: Form, text: &mut [u8]) -> Result<usize, WriteFault>
     ensures { outcome result text.new ≡ beacon_image form image.now text.old }
 {
     let Some(state) = load(image) else {
-        return Written::BadState;
+        return Err(WriteFault::BadState);
     };
     beacon::writing::write(state, form, text)
 }
@@ -153,9 +153,7 @@ pub extern "C" fn ems_beacon_basic(image: &[u8], text: &mut [u8], count: &mut us
     ensures { outcome (reply result count.new) text.new
         ≡ replied written_reply (beacon_image form.Basic image.now text.old) }
 {
-    let written = write_beacon(image, Form::Basic, text);
-    *count = written.count();
-    written.number()
+    tell(write_beacon(image, Form::Basic, text), count)
 }
 
 // Writes the complete text of an image's state, and its length.
@@ -164,9 +162,7 @@ pub extern "C" fn ems_beacon_complete(image: &[u8], text: &mut [u8], count: &mut
     ensures { outcome (reply result count.new) text.new
         ≡ replied written_reply (beacon_image form.Complete image.now text.old) }
 {
-    let written = write_beacon(image, Form::Complete, text);
-    *count = written.count();
-    written.number()
+    tell(write_beacon(image, Form::Complete, text), count)
 }
 
 // Writes the extended text of an image's state, and its length.
@@ -175,9 +171,7 @@ pub extern "C" fn ems_beacon_extended(image: &[u8], text: &mut [u8], count: &mut
     ensures { outcome (reply result count.new) text.new
         ≡ replied written_reply (beacon_image form.Extended image.now text.old) }
 {
-    let written = write_beacon(image, Form::Extended, text);
-    *count = written.count();
-    written.number()
+    tell(write_beacon(image, Form::Extended, text), count)
 }
 
 // Tells the page's number of what a call gave, 0 where it is done, and how many it has written: none at a refusal.

@@ -7,7 +7,7 @@ ghost use Rattle.std.specs.Prelude.{◌≡◌};
 ghost use Rattle.basics.specs.Outcome.{outcome, reply};
 ghost use Rattle.morse.specs.Keying.{key_reply, key_of};
 ghost use Rattle.beacon.specs.Writing.{written_reply};
-ghost use Rattle.beacon.specs.declared.text.Form.TheVariants as form;
+ghost use Rattle.supervisor.specs.declared.form.Form.TheVariants as form;
 ghost use Rattle.books.specs.Step.{with_books};
 ghost use Rattle.flight.specs.Calls.{imaged, fresh_image, step_image, pass_image, step_books_image, summary_reply};
 ghost use Rattle.flight.specs.Calls.{modules_on_image, beacon_image, replied, ReadReplied};

@@ -1,14 +1,14 @@
 -- Laws of entries: what an entry counts lies within the bytes and the room.
 -- Assumes nothing.
-use Rattle.std.proofs.Common.{◌≡◌, ℕ, ◌<◌, ◌≤◌, Bool, true, false, leb, Option, Some, List, length, take, replicate, refl, le_refl, arith, length-append, length-drop, length-take-le, leb-true}
+use Rattle.std.proofs.Common.{◌≡◌, ℕ, ◌<◌, ◌≤◌, Bool, true, false, leb, Option, Some, List, length, take, replicate, Result, Ok, Err, refl, le_refl, arith, length-append, length-drop, length-take-le, leb-true}
 use Rattle.basics.specs.Outcome.{Outcome, outcome, written}
 use Rattle.basics.proofs.ChoiceLaws.{either, decided}
 use Rattle.frames.specs.Answer.{is_reported}
 use Rattle.frames.specs.Kind.{report_bytes}
 use Rattle.frames.specs.Cut.{cut_of}
 use Rattle.frames.specs.declared.answer.Answer.{Answer}
-use Rattle.frames.specs.declared.cut.Front.{Front}
-use Rattle.frames.specs.declared.cut.Front.TheVariants as front
+use Rattle.frames.specs.declared.cut.Uncut.{Uncut}
+use Rattle.frames.specs.declared.cut.Uncut.TheVariants as uncut
 use Rattle.frames.proofs.CutLaws.{FrontWithin, cut_within}
 use Rattle.supervisor.specs.declared.state.State.{State}
 use Rattle.supervisor.specs.Step.{step_of}
@@ -60,15 +60,15 @@ module _ (log : Log) (room : List ℕ) (fits : longest ≤ length room) where
       printed_within step.result.answer step.result.state step.room frame bytes some h
 
   entered_within :
-      (f : Front) (bytes : List ℕ) (ended : Bool) → FrontWithin f (length bytes) →
+      (f : Result ℕ Uncut) (bytes : List ℕ) (ended : Bool) → FrontWithin f (length bytes) →
       Within (entered_at f log bytes ended room).result.entry (length bytes) (length room)
-  entered_within (front.Frame total) bytes ended h =
+  entered_within (Ok total) bytes ended h =
       let e : length (take total bytes) ≡ total = length-take-le total bytes h.1 in
       worked_within (take total bytes) (length bytes) (rw e h.0) (rw e h.1)
-  entered_within front.Unknown bytes ended h = worked_within bytes (length bytes) h (le_refl (length bytes))
-  entered_within front.Short bytes true h = worked_within bytes (length bytes) h (le_refl (length bytes))
-  entered_within front.Short bytes false h = tt
-  entered_within front.Empty bytes ended h = tt
+  entered_within (Err uncut.Unknown) bytes ended h = worked_within bytes (length bytes) h (le_refl (length bytes))
+  entered_within (Err uncut.Short) bytes true h = worked_within bytes (length bytes) h (le_refl (length bytes))
+  entered_within (Err uncut.Short) bytes false h = tt
+  entered_within (Err uncut.Empty) bytes ended h = tt
 
 pub enter_within : (log : Log) (bytes : List ℕ) (ended : Bool) (room : List ℕ) → Within (enter_of log bytes ended room).result.entry (length bytes) (length room)
 unfolding enter_of
@@ -97,12 +97,12 @@ module _ (log : Log) (room : List ℕ) where
       let step = step_of log.state frame (replicate report_bytes 0) in
       printed_length step.result.answer step.result.state step.room frame
 
-  entered_length : (f : Front) (bytes : List ℕ) (ended : Bool) → length (entered_at f log bytes ended room).room ≡ length room
-  entered_length (front.Frame total) bytes ended = worked_length (take total bytes)
-  entered_length front.Unknown bytes ended = worked_length bytes
-  entered_length front.Short bytes true = worked_length bytes
-  entered_length front.Short bytes false = refl
-  entered_length front.Empty bytes ended = refl
+  entered_length : (f : Result ℕ Uncut) (bytes : List ℕ) (ended : Bool) → length (entered_at f log bytes ended room).room ≡ length room
+  entered_length (Ok total) bytes ended = worked_length (take total bytes)
+  entered_length (Err uncut.Unknown) bytes ended = worked_length bytes
+  entered_length (Err uncut.Short) bytes true = worked_length bytes
+  entered_length (Err uncut.Short) bytes false = refl
+  entered_length (Err uncut.Empty) bytes ended = refl
 
 pub enter_length : (log : Log) (bytes : List ℕ) (ended : Bool) (room : List ℕ) → length (enter_of log bytes ended room).room ≡ length room
 unfolding enter_of
@@ -111,7 +111,7 @@ enter_length log bytes ended room =
     {x = entered_at (cut_of bytes) log bytes ended room} (entered_length log room (cut_of bytes) bytes ended) refl
 
 -- a whole frame at the front
-pub frame_within : (bytes : List ℕ) (total : ℕ) → cut_of bytes ≡ front.Frame total → total ≤ length bytes
+pub frame_within : (bytes : List ℕ) (total : ℕ) → cut_of bytes ≡ Ok total → total ≤ length bytes
 frame_within bytes total e = (rw e at (cut_within bytes)).1
 
 -- what an entry counts, where the stream and the room are parts

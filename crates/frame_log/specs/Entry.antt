@@ -1,14 +1,14 @@
 -- The log's next entry: the frame at the front of a stream, worked, and its line.
 -- Assumes nothing.
-use Rattle.std.specs.Prelude.{ℕ, ◌+◌, ◌%◌, ◌^◌, Bool, List, length, take, replicate, nat_le, Option, Some, None}
+use Rattle.std.specs.Prelude.{ℕ, ◌+◌, ◌%◌, ◌^◌, Bool, List, length, take, replicate, nat_le, Option, Some, None, Result, Ok, Err}
 use Rattle.basics.specs.Choice.{when◌then◌else◌}
 use Rattle.basics.specs.Outcome.{Outcome, outcome}
 use Rattle.frames.specs.Answer.{is_reported}
 use Rattle.frames.specs.Kind.{report_bytes}
 use Rattle.frames.specs.Cut.{cut_of}
 use Rattle.frames.specs.declared.answer.Answer.{Answer}
-use Rattle.frames.specs.declared.cut.Front.{Front}
-use Rattle.frames.specs.declared.cut.Front.TheVariants as front
+use Rattle.frames.specs.declared.cut.Uncut.{Uncut}
+use Rattle.frames.specs.declared.cut.Uncut.TheVariants as uncut
 use Rattle.supervisor.specs.Fresh.{fresh_state}
 use Rattle.supervisor.specs.Step.{step_of}
 use Rattle.supervisor.specs.declared.step.Stepped.{Stepped}
@@ -56,11 +56,12 @@ worked log frame room = printed_step (step_of log.state frame (replicate report_
 
 -- a byte that is no kind is handed over with what follows it, and a frame cut off where the stream ends as it is:
 -- both are refused
-abbrev pub entered_at : Front → Log → (bytes : List ℕ) (ended : Bool) (room : List ℕ) → Outcome Entered
-entered_at (front.Frame total) log bytes ended room = worked log (take total bytes) room
-entered_at front.Unknown log bytes ended room = worked log bytes room
-entered_at front.Short log bytes ended room = when ended then worked log bytes room else outcome (entered entry.More log) room
-entered_at front.Empty log bytes ended room = outcome (entered entry.More log) room
+abbrev pub entered_at : Result ℕ Uncut → Log → (bytes : List ℕ) (ended : Bool) (room : List ℕ) → Outcome Entered
+entered_at (Ok total) log bytes ended room = worked log (take total bytes) room
+entered_at (Err uncut.Unknown) log bytes ended room = worked log bytes room
+entered_at (Err uncut.Short) log bytes ended room =
+    when ended then worked log bytes room else outcome (entered entry.More log) room
+entered_at (Err uncut.Empty) log bytes ended room = outcome (entered entry.More log) room
 
 -- the frame at the front of the bytes is entered, where the room has place for every line
 unfoldable pub enter_of : Log → (bytes : List ℕ) (ended : Bool) (room : List ℕ) → Outcome Entered

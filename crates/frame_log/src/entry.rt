@@ -4,7 +4,7 @@ ghost use Rattle.basics.specs.Outcome.{outcome};
 ghost use Rattle.frame_log.specs.Entry.{fresh_log, entered, worked, enter_of};
 
 use crate::line::{LONGEST, line, refused};
-use frames::cut::{Front, cut};
+use frames::cut::{Uncut, cut};
 use frames::kind::REPORT_BYTES;
 use supervisor::state::State;
 use supervisor::step::step;
@@ -86,7 +86,7 @@ fn work(log: Log, frame: &[u8], room: &mut [u8]) -> Entered
 
 // Enters the frame at the front of the bytes, which are the last of the stream if it has ended. A frame that is
 // cut off there, like one of unknown kind, is handed over as it is, to be refused.
-#[tactic(auto, unfolding(crate::specs::Entry::enter_of))]
+#[tactic(auto, using(crate::proofs::EntryLaws::frame_within), unfolding(crate::specs::Entry::enter_of))]
 pub fn enter(log: Log, bytes: &[u8], ended: bool, room: &mut [u8]) -> Entered
     ensures { outcome result room.new ≡ enter_of log bytes.now ended room.old }
 {
@@ -94,9 +94,9 @@ pub fn enter(log: Log, bytes: &[u8], ended: bool, room: &mut [u8]) -> Entered
         return log.stays(Entry::Full);
     }
     match cut(bytes) {
-        Front::Frame(total) => work(log, &bytes[..total], room),
-        Front::Unknown => work(log, bytes, room),
-        Front::Short if ended => work(log, bytes, room),
-        Front::Short | Front::Empty => log.stays(Entry::More),
+        Ok(total) => work(log, &bytes[..total], room),
+        Err(Uncut::Unknown) => work(log, bytes, room),
+        Err(Uncut::Short) if ended => work(log, bytes, room),
+        Err(Uncut::Short | Uncut::Empty) => log.stays(Entry::More),
     }
 }

@@ -1,51 +1,50 @@
 -- Laws of cutting: the front lies within the bytes, and what follows a whole frame doesn't change it.
 -- Assumes nothing.
-use Rattle.std.proofs.Common.{◌≡◌, ℕ, zero, suc, ◌<◌, ◌≤◌, true, eqb, ltb, List, [], ◌∷◌, ◌++◌, length, take, sym, refl, ◌∙◌, le_refl, arith, length-append, length-take-le, ltb-false, le-ltb, ne_eqb, eqb-true}
+use Rattle.std.proofs.Common.{◌≡◌, ℕ, zero, suc, ◌<◌, ◌≤◌, true, eqb, ltb, List, [], ◌∷◌, ◌++◌, length, take, Result, Ok, Err, sym, refl, ◌∙◌, le_refl, arith, length-append, length-take-le, ltb-false, le-ltb, ne_eqb, eqb-true}
 use mathlib.Core.Bool.{false≢true}
 use borrow.Author.Tests.{eqb-false}
 use lib.Seq.{take-append-le}
 use Rattle.basics.proofs.ChoiceLaws.{decided}
 use Rattle.frames.specs.Kind.{total_of}
-use Rattle.frames.specs.Reading.{byte_at, read_frame}
+use Rattle.frames.specs.Reading.{Reading, byte_at, read_frame}
 use Rattle.frames.specs.Cut.{cut_of, front_bytes, front_of}
-use Rattle.frames.specs.declared.reading.Reading.{Reading}
-use Rattle.frames.specs.declared.cut.Front.{Front}
-use Rattle.frames.specs.declared.cut.Front.TheVariants.{Frame, Short, Unknown, Empty}
+use Rattle.frames.specs.declared.cut.Uncut.{Uncut}
+use Rattle.frames.specs.declared.cut.Uncut.TheVariants.{Short, Unknown, Empty}
 use Rattle.frames.proofs.ReadingLaws.{is_accepted}
 
 -- a front is what the cut says of so many bytes
-abbrev pub FrontWithin : Front → (bytes : ℕ) → Type 0
-FrontWithin (Frame total) bytes = (0 < total) × (total ≤ bytes)
-FrontWithin Short bytes = 0 < bytes
-FrontWithin Unknown bytes = 0 < bytes
-FrontWithin Empty bytes = Unit {0}
+abbrev pub FrontWithin : Result ℕ Uncut → (bytes : ℕ) → Type 0
+FrontWithin (Ok total) bytes = (0 < total) × (total ≤ bytes)
+FrontWithin (Err Short) bytes = 0 < bytes
+FrontWithin (Err Unknown) bytes = 0 < bytes
+FrontWithin (Err Empty) bytes = Unit {0}
 
 pub cut_within : (bytes : List ℕ) → FrontWithin (cut_of bytes) (length bytes)
 unfolding cut_of
 cut_within bytes =
     let total = total_of (byte_at 0 bytes) in
-    decided (λ (f : Front). FrontWithin f (length bytes)) (eqb (length bytes) 0) (λ t. tt)
-    (λ some. decided (λ (f : Front). FrontWithin f (length bytes)) (eqb total 0)
+    decided (λ (f : Result ℕ Uncut). FrontWithin f (length bytes)) (eqb (length bytes) 0) (λ t. tt)
+    (λ some. decided (λ (f : Result ℕ Uncut). FrontWithin f (length bytes)) (eqb total 0)
     (λ t. omega (arith, eqb-false (length bytes) 0 some))
-    (λ known. decided (λ (f : Front). FrontWithin f (length bytes)) (ltb (length bytes) total)
+    (λ known. decided (λ (f : Result ℕ Uncut). FrontWithin f (length bytes)) (ltb (length bytes) total)
     (λ t. omega (arith, eqb-false (length bytes) 0 some))
     (λ whole. (omega (arith, eqb-false total 0 known), ltb-false (length bytes) total whole))))
 
 -- the frame at the front has no more bytes than there are, and one or more where there is one
-within : (f : Front) (bytes : ℕ) → FrontWithin f bytes → front_bytes f bytes ≤ bytes
-within (Frame total) bytes w = w.1
-within Short bytes w = le_refl bytes
-within Unknown bytes w = le_refl bytes
-within Empty bytes w = le_refl bytes
+within : (f : Result ℕ Uncut) (bytes : ℕ) → FrontWithin f bytes → front_bytes f bytes ≤ bytes
+within (Ok total) bytes w = w.1
+within (Err Short) bytes w = le_refl bytes
+within (Err Unknown) bytes w = le_refl bytes
+within (Err Empty) bytes w = le_refl bytes
 
 pub front_within : (bytes : List ℕ) → front_bytes (cut_of bytes) (length bytes) ≤ length bytes
 front_within bytes = within (cut_of bytes) (length bytes) (cut_within bytes)
 
-some : (f : Front) (bytes : ℕ) → FrontWithin f bytes → 0 < bytes → 0 < front_bytes f bytes
-some (Frame total) bytes w h = w.0
-some Short bytes w h = h
-some Unknown bytes w h = h
-some Empty bytes w h = h
+some : (f : Result ℕ Uncut) (bytes : ℕ) → FrontWithin f bytes → 0 < bytes → 0 < front_bytes f bytes
+some (Ok total) bytes w h = w.0
+some (Err Short) bytes w h = h
+some (Err Unknown) bytes w h = h
+some (Err Empty) bytes w h = h
 
 pub length_front : (bytes : List ℕ) → length (front_of bytes) ≡ front_bytes (cut_of bytes) (length bytes)
 unfolding front_of

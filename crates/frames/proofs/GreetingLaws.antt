@@ -1,15 +1,29 @@
 -- Laws of a greeting's text: one byte of a walk through its filler, the text of no greeting, and what a fair one has.
 -- Assumes nothing.
-use Rattle.std.proofs.Common.{◌≡◌, ℕ, ◌+◌, ◌<◌, ◌≤◌, Bool, true, false, ◌&&◌, T, eqb, leb, List, length, get_or, take, drop, Ok, refl, add-one, arith, eqb→eq, drop-cons, eq-eqb, le-leb, leb-true}
+use Rattle.std.proofs.Common.{◌≡◌, ℕ, ◌+◌, bit_or, ◌<◌, ◌≤◌, Bool, true, false, ◌&&◌, T, eqb, leb, List, length, get_or, take, drop, Ok, refl, add-one, arith, eqb→eq, drop-cons, eq-eqb, le-leb, leb-true}
 use mathlib.Core.Bool.{and-false}
 use borrow.Author.Tests.{lt-leb}
 use Rattle.basics.proofs.ChoiceLaws.{is_true, and_left, and_right}
+use Rattle.basics.proofs.BitLaws.{or_none}
 use Rattle.morse.specs.Texts.{is_keyable, fault_of}
 use Rattle.morse.proofs.TextsLaws.{keyable_fault}
 use Rattle.frames.specs.Greeting.{longest_greeting, all_zero, is_greeting}
 
-pub zero_step : (bytes : List ℕ) (i : ℕ) → i < length bytes → all_zero (drop i bytes) ≡ (eqb (get_or bytes i 0) 0 && all_zero (drop (i + 1) bytes))
+zero_step : (bytes : List ℕ) (i : ℕ) → i < length bytes → all_zero (drop i bytes) ≡ (eqb (get_or bytes i 0) 0 && all_zero (drop (i + 1) bytes))
 zero_step bytes i h = rw (add-one, drop-cons bytes i 0)
+
+-- one byte more: it is among what was found, or among what is left
+pub blank_step :
+    (any : ℕ) (bytes : List ℕ) (i : ℕ) → i < length bytes →
+    (eqb (bit_or any (get_or bytes i 0)) 0 && all_zero (drop (i + 1) bytes)) ≡ (eqb any 0 && all_zero (drop i bytes))
+blank_step any bytes i h =
+    rw (or_none any (get_or bytes i 0), zero_step bytes i h) (by (eqb any 0) (eqb (get_or bytes i 0) 0) (all_zero (drop (i + 1) bytes)))
+  where
+    by : (a b rest : Bool) → ((b && a) && rest) ≡ (a && (b && rest))
+    by true true rest = refl
+    by true false rest = refl
+    by false true rest = refl
+    by false false rest = refl
 
 module _ (characters : ℕ) (text : List ℕ) where
   -- more characters than sixteen are no greeting

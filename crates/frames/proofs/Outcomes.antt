@@ -16,8 +16,8 @@ use Rattle.frames.specs.contracts.serial.Serials.class
 use Rattle.frames.proofs.serial.Serials.class.Reads as class_reads
 use Rattle.frames.specs.contracts.serial.Serials.moved
 use Rattle.frames.proofs.serial.Serials.moved.Reads as moved_reads
-use Rattle.frames.specs.contracts.cut.Front.bytes as front_Bytes
-use Rattle.frames.proofs.cut.Front.bytes.Reads as front_bytes_reads
+use Rattle.frames.specs.contracts.cut.front_bytes
+use Rattle.frames.proofs.cut.front_bytes.Reads as front_bytes_reads
 use Rattle.frames.specs.contracts.cut.cut
 use Rattle.frames.proofs.cut.cut.Reads as cut_reads
 use Rattle.frames.specs.contracts.kind.total
@@ -49,15 +49,15 @@ pub head_one : OneOutcome head.ended head_reads.Asked head_reads.Learnt
 head_one = record { taken = λ κs a. tt; one = λ κs a x y p q i. ((p ∙ sym q) i, (tt, tt)) }
 
 pub class_one : OneOutcome class.ended class_reads.Asked class_reads.Learnt
-class_one = record { taken = λ κs a. tt; one = λ κs a x y p q i. ((p ∙ sym q) i, (tt, (tt, (tt, tt)))) }
+class_one = record { taken = λ κs a. tt; one = λ κs a x y p q i. ((p ∙ sym q) i, (tt, (tt, tt))) }
 
 pub moved_one : OneOutcome moved.ended moved_reads.Asked moved_reads.Learnt
-moved_one = record { taken = λ κs a. tt; one = λ κs a x y p q i. ((p ∙ sym q) i, (tt, (tt, (tt, tt)))) }
+moved_one = record { taken = λ κs a. tt; one = λ κs a x y p q i. ((p ∙ sym q) i, (tt, (tt, tt))) }
 
 pub cut_one : OneOutcome cut.ended cut_reads.Asked cut_reads.Learnt
 cut_one = record { taken = λ κs a. tt; one = λ κs a x y p q i. ((p ∙ sym q) i, (tt, tt)) }
 
-pub front_bytes_one : OneOutcome front_Bytes.ended front_bytes_reads.Asked front_bytes_reads.Learnt
+pub front_bytes_one : OneOutcome front_bytes.ended front_bytes_reads.Asked front_bytes_reads.Learnt
 front_bytes_one = record { taken = λ κs a. tt; one = λ κs a x y p q i. ((p ∙ sym q) i, (tt, (tt, tt))) }
 
 pub total_one : OneOutcome total.ended total_reads.Asked total_reads.Learnt

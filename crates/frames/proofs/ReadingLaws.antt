@@ -1,58 +1,24 @@
 -- Laws of reading: the totals, when the fields of a kind are read, which numbers a refusal has, and what an accepted frame holds.
 -- Assumes nothing.
-use Rattle.std.proofs.Common.{◌≡◌, ℕ, ◌<◌, Bool, true, false, ◌&&◌, T, eqb, leb, List, [], ◌∷◌, length, refl, ◌∙◌, arith, eq-eqb, ne_eqb, eqb-true}
-use borrow.Author.Tests.{eqb-false}
-use Rattle.basics.specs.Choice.{when◌then◌else◌, within, word}
+use Rattle.std.proofs.Common.{◌≡◌, ℕ, ◌<◌, Bool, true, false, ◌&&◌, T, eqb, leb, List, [], ◌∷◌, length, Ok, Err, refl, true≢false, arith, eqb-true}
+use Rattle.basics.specs.Choice.{within, word}
 use Rattle.basics.proofs.ChoiceLaws.{is_true, holds, either, decided, and_left, and_right, within_low, within_high, within_of}
 use Rattle.modules.specs.Groups.{is_mission}
 use Rattle.frames.specs.Answer.{answer_number}
-use Rattle.frames.specs.Kind.{greeting_bytes}
-use Rattle.frames.specs.Kind.{total_of, tick_kind, battery_kind, antennas_kind, order_kind, thresholds_kind, timed_kind, greeting_kind}
-use Rattle.frames.specs.Sender.{ground_origin, payload_origin, is_origin, origin_from}
+use Rattle.frames.specs.Kind.{total_of}
+use Rattle.frames.specs.Kind.{tick_kind, battery_kind, antennas_kind, order_kind, thresholds_kind, timed_kind}
+use Rattle.frames.specs.Sender.{payload_origin, is_origin, origin_number, origin_from}
 use Rattle.frames.specs.Reading.{byte_at, word_at, last_module, is_reading, are_thresholds, are_minutes, is_foreign}
-use Rattle.frames.specs.Reading.{sender_from, of_ground, fields_of, read_frame}
+use Rattle.frames.specs.Reading.{Reading, sender_from, of_ground, fields_of, read_frame}
 use Rattle.frames.specs.Reading.{battery_fields, antennas_fields, order_fields, timed_fields, thresholds_fields, greeting_fields}
 use Rattle.frames.specs.Greeting.{is_greeting, greeting_text}
 use Rattle.frames.specs.declared.sender.Sender.{Sender}
-use Rattle.frames.specs.declared.sender.Origin.TheVariants.{Ground}
+use Rattle.frames.specs.declared.sender.Origin.{Origin}
+use Rattle.frames.specs.declared.sender.Origin.TheVariants.{Ground, Payload}
 use Rattle.frames.specs.declared.command.Command.{Command}
 use Rattle.frames.specs.declared.command.Command.TheVariants.{Order, Timed, Thresholds, Greeting}
 use Rattle.frames.specs.declared.frame.Frame.{Frame}
 use Rattle.frames.specs.declared.frame.Frame.TheVariants as frame
-use Rattle.frames.specs.declared.reading.Reading.{Reading}
-use Rattle.frames.specs.declared.reading.Reading.TheVariants.{Refused, Accepted}
-
--- past the last kind there is no total
-pub no_total : (kind : ℕ) → greeting_kind < kind → 0 ≡ total_of kind
-unfolding total_of
-no_total kind h =
-    rw (
-      ne_eqb kind tick_kind (omega arith),
-      ne_eqb kind battery_kind (omega arith),
-      ne_eqb kind antennas_kind (omega arith),
-      ne_eqb kind order_kind (omega arith),
-      ne_eqb kind thresholds_kind (omega arith),
-      ne_eqb kind timed_kind (omega arith),
-      ne_eqb kind greeting_kind (omega arith),
-    )
-
--- a kind that has a total and is none of the first six is the seventh
-pub last_total :
-    (kind : ℕ) → (kind ≡ tick_kind → ⊥) → (kind ≡ battery_kind → ⊥) → (kind ≡ antennas_kind → ⊥) → (kind ≡ order_kind → ⊥) →
-    (kind ≡ thresholds_kind → ⊥) → (kind ≡ timed_kind → ⊥) → (total_of kind ≡ 0 → ⊥) → total_of kind ≡ total_of greeting_kind
-unfolding total_of
-last_total kind a b c d e f known =
-    let none : total_of kind ≡ (when eqb kind greeting_kind then greeting_bytes else 0) =
-    simp (ne_eqb kind tick_kind a, ne_eqb kind battery_kind b, ne_eqb kind antennas_kind c, ne_eqb kind order_kind d, ne_eqb kind thresholds_kind e, ne_eqb kind timed_kind f) in
-    none ∙ decided (λ (n : ℕ). n ≡ greeting_bytes) (eqb kind greeting_kind) (λ t. refl) (λ t. absurd (known (none ∙ rw t)))
-
--- bytes that pass checks 3 to 5 are read by their kind's fields
-pub read_fields :
-    (bytes : List ℕ) → (length bytes ≡ 0 → ⊥) → (total_of (byte_at 0 bytes) ≡ 0 → ⊥) → length bytes ≡ total_of (byte_at 0 bytes) →
-    read_frame bytes ≡ fields_of (byte_at 0 bytes) bytes
-unfolding read_frame
-read_fields bytes some known whole =
-    simp (ne_eqb (length bytes) 0 some, ne_eqb (total_of (byte_at 0 bytes)) 0 known, eq-eqb (length bytes) (total_of (byte_at 0 bytes)) whole)
 
 -- the fields of a command, and the text beside it, are in their ranges; a timed order is for one of the mission four, and
 -- thresholds and greetings are ground's: those of the payload are never read
@@ -71,13 +37,13 @@ Fits (frame.Command sender command) text = FitsCommand sender command text
 
 -- a frame that passes checks 3 to 7
 abbrev pub is_accepted : Reading → Bool
-is_accepted (Refused answer) = false
-is_accepted (Accepted f) = true
+is_accepted (Err answer) = false
+is_accepted (Ok f) = true
 
 -- what is refused has an answer from one to 7, what is accepted has its fields in range
 abbrev SoundFrom : (lowest : ℕ) (text : List ℕ) → Reading → Type 0
-SoundFrom lowest text (Refused answer) = T (within lowest 7 (answer_number answer))
-SoundFrom lowest text (Accepted f) = Fits f text
+SoundFrom lowest text (Err answer) = T (within lowest 7 (answer_number answer))
+SoundFrom lowest text (Ok f) = Fits f text
 
 -- from 3
 abbrev pub Sound : (text : List ℕ) → Reading → Type 0
@@ -88,9 +54,9 @@ abbrev pub SoundPast : (text : List ℕ) → Reading → Type 0
 SoundPast text r = SoundFrom 4 text r
 
 past_sound : (text : List ℕ) (r : Reading) → SoundPast text r → Sound text r
-past_sound text (Refused answer) h =
+past_sound text (Err answer) h =
     within_of 3 7 (answer_number answer) (omega (arith, within_low 4 7 (answer_number answer) h)) (within_high 4 7 (answer_number answer) h)
-past_sound text (Accepted f) h = h
+past_sound text (Ok f) h = h
 
 -- the fields of each kind
 module _ (text bytes : List ℕ) where
@@ -109,7 +75,7 @@ module _ (text bytes : List ℕ) where
   unfolding order_fields
   order_sound =
       either SoundFields (is_origin (byte_at 1 bytes) && leb (byte_at 4 bytes) last_module && leb (byte_at 5 bytes) 1)
-      (either SoundFields (is_foreign (byte_at 1 bytes) (byte_at 4 bytes)) tt tt) tt
+      (either SoundFields (is_foreign (origin_from (byte_at 1 bytes)) (byte_at 4 bytes)) tt tt) tt
 
   timed_sound : SoundFields (timed_fields bytes)
   unfolding timed_fields
@@ -118,7 +84,7 @@ module _ (text bytes : List ℕ) where
       let mission : Bool = is_mission (byte_at 4 bytes) in
       let fair : Bool = are_minutes (word_at 5 bytes) in
       decided SoundFields (origin && mission && fair)
-      (λ e. either SoundFields (is_foreign (byte_at 1 bytes) (byte_at 4 bytes)) tt
+      (λ e. either SoundFields (is_foreign (origin_from (byte_at 1 bytes)) (byte_at 4 bytes)) tt
       (record {
         mission = and_right origin mission (and_left (origin && mission) fair (holds (origin && mission && fair) e));
         minutes = and_right (origin && mission) fair (holds (origin && mission && fair) e);
@@ -126,19 +92,15 @@ module _ (text bytes : List ℕ) where
       (λ e. tt)
 
 -- an origin that is not the payload's is ground's
-origin_ground : (byte : ℕ) → T (is_origin byte) → eqb byte payload_origin ≡ false → origin_from byte ≡ Ground
-origin_ground byte h e =
-    let low : byte ≡ ground_origin =
-    omega (arith, within_low ground_origin payload_origin byte h, within_high ground_origin payload_origin byte h, eqb-false byte payload_origin e) in
-    simp (eq-eqb byte ground_origin low)
+is_ground : (origin : Origin) → eqb (origin_number origin) payload_origin ≡ false → origin ≡ Ground
+is_ground Ground e = refl
+is_ground Payload e = absurd (true≢false e)
 
 -- what is ground's alone, if it fits from there
-ground_sound :
-    (text bytes : List ℕ) (command : Command) → T (is_origin (byte_at 1 bytes)) →
-    (origin_from (byte_at 1 bytes) ≡ Ground → FitsCommand (sender_from bytes) command text) → SoundPast text (of_ground command bytes)
+ground_sound : (text : List ℕ) (sender : Sender) (command : Command) → (sender.origin ≡ Ground → FitsCommand sender command text) → SoundPast text (of_ground command sender)
 unfolding of_ground
-ground_sound text bytes command h fits =
-    decided (SoundPast text) (eqb (byte_at 1 bytes) payload_origin) (λ p. tt) (λ p. fits (origin_ground (byte_at 1 bytes) h p))
+ground_sound text sender command fits =
+    decided (SoundPast text) (eqb (origin_number sender.origin) payload_origin) (λ p. tt) (λ p. fits (is_ground sender.origin p))
 
 thresholds_sound : (text bytes : List ℕ) → SoundPast text (thresholds_fields bytes)
 unfolding thresholds_fields
@@ -146,7 +108,7 @@ thresholds_sound text bytes =
     let origin : Bool = is_origin (byte_at 1 bytes) in
     let fair : Bool = are_thresholds (word_at 4 bytes) (word_at 6 bytes) in
     decided (SoundPast text) (origin && fair)
-    (λ e. ground_sound text bytes (Thresholds (word_at 4 bytes) (word_at 6 bytes)) (and_left origin fair (holds (origin && fair) e))
+    (λ e. ground_sound text (sender_from bytes) (Thresholds (word_at 4 bytes) (word_at 6 bytes))
     (λ ground. record { fair = and_right origin fair (holds (origin && fair) e); ground = ground }))
     (λ e. tt)
 
@@ -156,7 +118,7 @@ greeting_sound bytes =
     let origin : Bool = is_origin (byte_at 1 bytes) in
     let fair : Bool = is_greeting (byte_at 5 bytes) (greeting_text bytes) in
     decided (SoundPast (greeting_text bytes)) (origin && fair)
-    (λ e. ground_sound (greeting_text bytes) bytes (Greeting (byte_at 4 bytes) (byte_at 5 bytes)) (and_left origin fair (holds (origin && fair) e))
+    (λ e. ground_sound (greeting_text bytes) (sender_from bytes) (Greeting (byte_at 4 bytes) (byte_at 5 bytes))
     (λ ground. record { fair = and_right origin fair (holds (origin && fair) e); ground = ground }))
     (λ e. tt)
 
@@ -191,6 +153,6 @@ module _ (bytes : List ℕ) where
 
 -- a battery frame in range is read as such
 pub battery_read :
-    (high low : ℕ) → T (is_reading (word high low)) → read_frame (battery_kind ∷ high ∷ low ∷ []) ≡ Accepted (frame.Battery (word high low))
+    (high low : ℕ) → T (is_reading (word high low)) → read_frame (battery_kind ∷ high ∷ low ∷ []) ≡ Ok (frame.Battery (word high low))
 unfolding read_frame total_of battery_fields
 battery_read high low r = rw (is_true (is_reading (word high low)) r)

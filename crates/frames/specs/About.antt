@@ -1,14 +1,13 @@
 -- What a reading is about, for whoever looks at a flight from outside.
 -- Assumes nothing.
-use Rattle.std.specs.Prelude.{ℕ, Bool, true, false, List, [], ◌∷◌}
+use Rattle.std.specs.Prelude.{ℕ, Bool, true, false, List, [], ◌∷◌, Ok, Err}
 use Rattle.basics.specs.Choice.{when◌then◌else◌}
+use Rattle.frames.specs.Reading.{Reading}
 use Rattle.frames.specs.declared.sender.Origin.{Origin}
 use Rattle.frames.specs.declared.sender.Origin.TheVariants.{Ground, Payload}
 use Rattle.frames.specs.declared.sender.Sender.{Sender}
 use Rattle.frames.specs.declared.command.Command.{Command}
 use Rattle.frames.specs.declared.frame.Frame.TheVariants as frame
-use Rattle.frames.specs.declared.reading.Reading.{Reading}
-use Rattle.frames.specs.declared.reading.Reading.TheVariants.{Refused, Accepted}
 
 -- a tick, a command, or neither
 pub data About : Type 0 where
@@ -21,11 +20,11 @@ pub data About : Type 0 where
 
 -- what a reading is about
 abbrev pub about : Reading → About
-about (Refused answer) = neither
-about (Accepted (frame.Tick shorts)) = a_tick shorts
-about (Accepted (frame.Battery tension)) = neither
-about (Accepted (frame.Antennas deployed)) = neither
-about (Accepted (frame.Command sender command)) = a_command sender command
+about (Err answer) = neither
+about (Ok (frame.Tick shorts)) = a_tick shorts
+about (Ok (frame.Battery tension)) = neither
+about (Ok (frame.Antennas deployed)) = neither
+about (Ok (frame.Command sender command)) = a_command sender command
 
 -- whether it is a tick
 abbrev pub is_tick : About → Bool

@@ -2,7 +2,7 @@
 ghost use Rattle.std.specs.Prelude.{◌≡◌};
 ghost use Rattle.frames.specs.Command.{command_kind};
 
-use crate::kind::{GREETING, ORDER, THRESHOLDS, TIMED};
+use crate::kind::Kind;
 
 // A command that passed checks 3 to 7.
 #[derive(Clone, Copy)]
@@ -18,24 +18,15 @@ pub enum Command {
 }
 
 impl Command {
-    // The number of its kind.
-    pub fn kind(self) -> u8
+    // Its kind.
+    pub fn kind(self) -> Kind
         ensures { result ≡ command_kind self }
     {
         match self {
-            Command::Order { which: _, on: _ } => ORDER,
-            Command::Timed {
-                which: _,
-                minutes: _,
-            } => TIMED,
-            Command::Thresholds {
-                ascend: _,
-                descend: _,
-            } => THRESHOLDS,
-            Command::Greeting {
-                repeats: _,
-                length: _,
-            } => GREETING,
+            Command::Order { .. } => Kind::Order,
+            Command::Timed { .. } => Kind::Timed,
+            Command::Thresholds { .. } => Kind::Thresholds,
+            Command::Greeting { .. } => Kind::Greeting,
         }
     }
 }

@@ -4,46 +4,33 @@ ghost use Rattle.frames.specs.Cut.{cut_of, front_bytes};
 
 use crate::kind::total;
 
-// What stands at the front of bytes.
-#[derive(Clone, Copy)]
-pub enum Front {
-    // a whole frame of so many bytes
-    Frame(usize),
+// Why no whole frame stands at the front of bytes.
+#[derive(Clone, Copy, PartialEq, Eq)]
+pub enum Uncut {
     // the start of a frame
     Short,
-    // a byte that is no kind
+    // a byte that is no kind's number
     Unknown,
     // no bytes
     Empty,
 }
 
-impl Front {
-    // How many of so many bytes are the frame's: where its kind is unknown, or it is cut off, all of them.
-    pub fn bytes(self, all: usize) -> usize
-        ensures { result ≡ front_bytes self all }
-    {
-        match self {
-            Front::Frame(bytes) => bytes,
-            Front::Short => all,
-            Front::Unknown => all,
-            Front::Empty => all,
-        }
-    }
-}
-
-// Cuts the frame at the front of the bytes.
-pub fn cut(bytes: &[u8]) -> Front
+// Cuts the frame at the front of the bytes: how many of them it has.
+#[tactic(auto, unfolding(crate::specs::Cut::cut_of, crate::specs::Kind::known_total))]
+pub fn cut(bytes: &[u8]) -> Result<usize, Uncut>
     ensures { result ≡ cut_of bytes.now }
 {
-    if bytes.len() == 0 {
-        return Front::Empty;
-    }
-    let total = total(bytes[0]);
-    if total == 0 {
-        return Front::Unknown;
-    }
+    let first = bytes.first().ok_or(Uncut::Empty)?;
+    let total = total(*first).ok_or(Uncut::Unknown)?;
     if bytes.len() < total {
-        return Front::Short;
+        return Err(Uncut::Short);
     }
-    Front::Frame(total)
+    Ok(total)
+}
+
+// How many of so many bytes are the frame's at their front: where its kind is unknown, or it is cut off, all of them.
+pub fn front_bytes(front: Result<usize, Uncut>, all: usize) -> usize
+    ensures { result ≡ front_bytes front all }
+{
+    front.unwrap_or(all)
 }

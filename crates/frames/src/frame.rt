@@ -3,7 +3,7 @@ ghost use Rattle.std.specs.Prelude.{◌≡◌};
 ghost use Rattle.frames.specs.Frame.{bare_head, head_of};
 
 use crate::command::Command;
-use crate::kind::{ANTENNAS, BATTERY, TICK};
+use crate::kind::Kind;
 use crate::sender::Sender;
 
 // A frame that passed checks 3 to 7.
@@ -22,13 +22,13 @@ pub enum Frame {
 // How a report names a frame: the kind answered, its origin and its serial.
 #[derive(Clone, Copy)]
 pub struct Head {
-    pub kind: u8,
+    pub kind: Kind,
     pub origin: u8,
     pub serial: u16,
 }
 
-// A head without origin and serial.
-fn bare(kind: u8) -> Head
+// A head without origin and serial: a report has zeros for them.
+fn bare(kind: Kind) -> Head
     ensures { result ≡ bare_head kind }
 {
     Head {
@@ -44,17 +44,14 @@ impl Frame {
         ensures { result ≡ head_of self }
     {
         match self {
-            Frame::Tick(_) => bare(TICK),
-            Frame::Battery(_) => bare(BATTERY),
-            Frame::Antennas(_) => bare(ANTENNAS),
-            Frame::Command { sender, command } => {
-                let origin = sender.origin;
-                Head {
-                    kind: command.kind(),
-                    origin: origin.number(),
-                    serial: sender.serial,
-                }
-            }
+            Frame::Tick(_) => bare(Kind::Tick),
+            Frame::Battery(_) => bare(Kind::Battery),
+            Frame::Antennas(_) => bare(Kind::Antennas),
+            Frame::Command { sender, command } => Head {
+                kind: command.kind(),
+                origin: sender.origin.number(),
+                serial: sender.serial,
+            },
         }
     }
 }

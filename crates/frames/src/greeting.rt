@@ -11,30 +11,15 @@ pub const LONGEST: usize = 16;
 // The place of the text in a frame.
 const TEXT_PLACE: usize = 6;
 
-// Whether every byte is 0.
+// Whether every byte is 0. Each is looked at, whatever the others are, so that a compiler takes sixteen at once: a board
+// that keeps no message is asked this in every frame (docs/PERFORMANCE.md).
+#[tactic(auto, using(crate::proofs::GreetingLaws::blank_step))]
 fn is_blank(bytes: &[u8]) -> bool
     ensures { result ≡ all_zero bytes.now }
 {
-    let mut i = 0;
-    while i < bytes.len() {
-        if bytes[i] != 0 {
-            return false;
-        }
-        i += 1;
-    }
-    true
-}
-
-// Whether all sixteen bytes are 0. Each is looked at, whatever the others are, so that a compiler takes them at once: a
-// board that keeps no message is asked this in every frame (docs/PERFORMANCE.md).
-fn is_empty(text: [u8; LONGEST]) -> bool
-    ensures { result ≡ all_zero text }
-{
-    let mut any: u8 = 0;
-    let mut i: usize = LONGEST;
-    while 0 < i {
-        i -= 1;
-        any = any | text[i];
+    let mut any = 0;
+    for byte in bytes {
+        any |= byte;
     }
     any == 0
 }
@@ -48,18 +33,19 @@ pub fn is_greeting(length: u8, text: [u8; LONGEST]) -> bool
         return false;
     }
     if n == 0 {
-        return is_empty(text);
+        return is_blank(&text);
     }
     fault_of(&text[..n]).is_ok() && is_blank(&text[n..])
 }
 
 // The text of a frame that is as long as a greeting; beside any other, zeros.
+#[tactic(auto, unfolding(crate::specs::Greeting::greeting_text))]
 pub fn text_of(bytes: &[u8]) -> [u8; LONGEST]
     ensures { result ≡ greeting_text bytes.now }
 {
     let mut text = [0u8; LONGEST];
     if bytes.len() == GREETING_BYTES {
-        basics::copy(&bytes[TEXT_PLACE..], &mut text);
+        text.copy_from_slice(&bytes[TEXT_PLACE..]);
     }
     text
 }

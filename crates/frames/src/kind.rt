@@ -1,38 +1,40 @@
 // The kinds of frames: their numbers, and their total lengths.
 ghost use Rattle.std.specs.Prelude.{◌≡◌};
-ghost use Rattle.frames.specs.Kind.{total_of, HasTotals};
+ghost use Rattle.frames.specs.Kind.{kind_number, known_total, total_of, HasTotals, ReadsKind};
 
-// The mask of shorts seen in a second.
-pub const TICK: u8 = 1;
+// What a frame is, by its first byte.
+#[derive(Clone, Copy, PartialEq, Eq)]
+pub enum Kind {
+    // the mask of shorts seen in a second
+    Tick = 1,
+    // a reading of the battery
+    Battery = 2,
+    // whether the antennas are deployed
+    Antennas = 3,
+    // a module is to be requested on or off
+    Order = 4,
+    // both thresholds
+    Thresholds = 5,
+    // a module is to be requested on for so many minutes
+    Timed = 6,
+    // a message for the beacon
+    Greeting = 7,
+}
 
-// A reading of the battery.
-pub const BATTERY: u8 = 2;
-
-// Whether the antennas are deployed.
-pub const ANTENNAS: u8 = 3;
-
-// A module is to be requested on or off.
-pub const ORDER: u8 = 4;
-
-// Both thresholds.
-pub const THRESHOLDS: u8 = 5;
-
-// A module is to be requested on for so many minutes.
-pub const TIMED: u8 = 6;
-
-// A message for the beacon.
-pub const GREETING: u8 = 7;
+// A byte that is no kind's number.
+#[derive(Clone, Copy, PartialEq, Eq)]
+pub struct NoKind(pub u8);
 
 // The bytes of a greeting.
 pub(crate) const GREETING_BYTES: usize = 22;
 
-// A report, which is only written.
+// The number of a report, which is only written.
 pub const REPORT: u8 = 0x81;
 
 // The bytes of a report.
 pub const REPORT_BYTES: usize = 11;
 
-// How many numbers there are up to the last kind that is read.
+// How many numbers there are up to the last kind's.
 const NUMBERS: usize = 8;
 
 // The total of each number; 0 where it is no kind.
@@ -54,14 +56,48 @@ fn totals() -> [u8; NUMBERS]
     TOTALS
 }
 
-// The total length of a frame of this kind; 0 where the kind is unknown. By place in a table of bytes: a match that gives
-// lengths costs eight bytes of constants a kind.
-pub fn total(kind: u8) -> usize
-    ensures { result ≡ total_of kind }
-{
-    if GREETING < kind {
-        return 0;
+impl Kind {
+    // Its number in a frame and in a report.
+    pub fn number(self) -> u8
+        ensures { result ≡ kind_number self }
+    {
+        self as u8
     }
-    let table = totals();
-    table[kind as usize] as usize
+
+    // The total length of its frames. By place in a table of bytes: a match that gives lengths costs eight bytes of
+    // constants a kind.
+    pub fn total(self) -> usize
+        ensures { result ≡ total_of (kind_number self) }
+    {
+        let table = totals();
+        table[self.number() as usize] as usize
+    }
+}
+
+impl TryFrom<u8> for Kind {
+    type Error = NoKind;
+
+    ghost try_from_gives = { ReadsKind };
+
+    fn try_from(byte: u8) -> Result<Self, NoKind> {
+        match byte {
+            1 => Ok(Kind::Tick),
+            2 => Ok(Kind::Battery),
+            3 => Ok(Kind::Antennas),
+            4 => Ok(Kind::Order),
+            5 => Ok(Kind::Thresholds),
+            6 => Ok(Kind::Timed),
+            7 => Ok(Kind::Greeting),
+            _ => Err(NoKind(byte)),
+        }
+    }
+}
+
+// The total length of a frame that begins with this byte, if it is a kind's number.
+#[tactic(auto, unfolding(crate::specs::Kind::known_total, crate::specs::Kind::total_of))]
+pub fn total(byte: u8) -> Option<usize>
+    ensures { result ≡ known_total byte }
+{
+    let kind = Kind::try_from(byte).ok()?;
+    Some(kind.total())
 }

@@ -1,15 +1,19 @@
 // Who sends a command, and the serial that it bears.
 ghost use Rattle.std.specs.Prelude.{◌≡◌};
-ghost use Rattle.frames.specs.Sender.{is_origin, origin_number, origin_from};
+ghost use Rattle.frames.specs.Sender.{origin_number, ReadsOrigin};
 
-// Who sent a command.
-#[derive(Clone, Copy)]
+// Who sent a command, by its number in a frame.
+#[derive(Clone, Copy, PartialEq, Eq)]
 pub enum Origin {
-    // 1: ground, through MCS
-    Ground,
-    // 2: the payload
-    Payload,
+    // ground, through MCS
+    Ground = 1,
+    // the payload
+    Payload = 2,
 }
+
+// A byte that is no origin's number.
+#[derive(Clone, Copy, PartialEq, Eq)]
+pub struct NoOrigin(pub u8);
 
 // A command's sender: its origin, and the serial that it has from there.
 #[derive(Clone, Copy)]
@@ -18,38 +22,25 @@ pub struct Sender {
     pub serial: u16,
 }
 
-// The ground's number in a frame.
-const GROUND: u8 = 1;
-
-// The payload's.
-pub(crate) const PAYLOAD: u8 = 2;
-
 impl Origin {
     // Its number in a frame and in a report.
     pub fn number(self) -> u8
         ensures { result ≡ origin_number self }
     {
-        match self {
-            Origin::Ground => GROUND,
-            Origin::Payload => PAYLOAD,
-        }
+        self as u8
     }
 }
 
-// Whether a byte is an origin's number.
-pub(crate) fn is_origin(byte: u8) -> bool
-    ensures { result ≡ is_origin byte }
-{
-    (GROUND <= byte) & (byte <= PAYLOAD)
-}
+impl TryFrom<u8> for Origin {
+    type Error = NoOrigin;
 
-// The origin of a byte that is one's number.
-pub(crate) fn origin_from(byte: u8) -> Origin
-    ensures { result ≡ origin_from byte }
-{
-    if byte == GROUND {
-        Origin::Ground
-    } else {
-        Origin::Payload
+    ghost try_from_gives = { ReadsOrigin };
+
+    fn try_from(byte: u8) -> Result<Self, NoOrigin> {
+        match byte {
+            1 => Ok(Origin::Ground),
+            2 => Ok(Origin::Payload),
+            _ => Err(NoOrigin(byte)),
+        }
     }
 }

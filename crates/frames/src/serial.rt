@@ -2,7 +2,7 @@
 ghost use Rattle.std.specs.Prelude.{◌≡◌};
 ghost use Rattle.frames.specs.Serial.{class_of, last_of, moved_to};
 
-use crate::sender::Origin;
+use crate::sender::{Origin, Sender};
 
 // Each origin's last serial.
 #[derive(Clone, Copy)]
@@ -25,43 +25,36 @@ pub enum Class {
 // The distance from which on a serial is stale.
 const STALE_FROM: u16 = 32768;
 
-// The class of a serial, by its distance from the last.
-#[tactic(auto, unfolding(crate::specs::Serial::class_of))]
-fn classify(serial: u16, last: u16) -> Class
-    ensures { result ≡ class_of serial last }
-{
-    let distance = std::num::wrapping_sub_u16(serial, last);
-    if distance == 0 {
-        Class::Repeat
-    } else if distance < STALE_FROM {
-        Class::Fresh
-    } else {
-        Class::Stale
-    }
-}
-
 impl Serials {
-    // The class of a serial from an origin.
-    pub fn class(self, origin: Origin, serial: u16) -> Class
-        ensures { result ≡ class_of serial (last_of origin self) }
+    // An origin's last serial.
+    fn last(self, origin: Origin) -> u16
+        ensures { result ≡ last_of origin self }
     {
         match origin {
-            Origin::Ground => classify(serial, self.ground),
-            Origin::Payload => classify(serial, self.payload),
+            Origin::Ground => self.ground,
+            Origin::Payload => self.payload,
+        }
+    }
+
+    // The class of a sender's serial, by its distance from the last one of its origin.
+    #[tactic(auto, unfolding(crate::specs::Serial::class_of))]
+    pub fn class(self, sender: Sender) -> Class
+        ensures { result ≡ class_of sender.serial (last_of sender.origin self) }
+    {
+        match sender.serial.wrapping_sub(self.last(sender.origin)) {
+            0 => Class::Repeat,
+            1..STALE_FROM => Class::Fresh,
+            _ => Class::Stale,
         }
     }
 
     // The serials once a fresh one has become the last of its origin.
-    pub fn moved(mut self, origin: Origin, serial: u16) -> Serials
-        ensures { result ≡ moved_to origin serial self }
+    pub fn moved(mut self, sender: Sender) -> Serials
+        ensures { result ≡ moved_to sender.origin sender.serial self }
     {
-        match origin {
-            Origin::Ground => {
-                self.ground = serial;
-            }
-            Origin::Payload => {
-                self.payload = serial;
-            }
+        match sender.origin {
+            Origin::Ground => self.ground = sender.serial,
+            Origin::Payload => self.payload = sender.serial,
         }
         self
     }

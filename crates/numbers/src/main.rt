@@ -3,7 +3,7 @@
 #![tactic(auto)]
 
 use frames::answer::Answer;
-use frames::kind::{ANTENNAS, BATTERY, ORDER, REPORT_BYTES, TICK};
+use frames::kind::{Kind, REPORT_BYTES};
 use frames::sender::Origin;
 use morse::MOST_UNITS;
 use std::io;
@@ -28,7 +28,8 @@ const COMM2: u8 = 2;
 
 // A reading of the battery, as a frame.
 fn battery(millivolts: u16) -> [u8; 3] {
-    [BATTERY, (millivolts / 256) as u8, (millivolts % 256) as u8]
+    let [high, low] = millivolts.to_be_bytes();
+    [Kind::Battery.number(), high, low]
 }
 
 // The state after a frame, worked a number of times.
@@ -43,13 +44,13 @@ fn after(mut state: State, frame: &[u8], times: u32) -> State {
 
 // The state after a number of ticks that see no short.
 fn after_ticks(state: State, times: u32) -> State {
-    let frame = [TICK, 0];
+    let frame = [Kind::Tick.number(), 0];
     after(state, &frame, times)
 }
 
 // The state after the antennas are reported deployed.
 fn after_deployed(state: State) -> State {
-    let frame = [ANTENNAS, 1];
+    let frame = [Kind::Antennas.number(), 1];
     after(state, &frame, 1)
 }
 
@@ -61,7 +62,14 @@ fn after_reading(state: State, millivolts: u16) -> State {
 
 // The state after an order of the ground's for COMM2, 0 off or 1 on, and a tick.
 fn after_comm2(state: State, serial: u8, on: u8) -> State {
-    let frame = [ORDER, Origin::Ground.number(), 0, serial, COMM2, on];
+    let frame = [
+        Kind::Order.number(),
+        Origin::Ground.number(),
+        0,
+        serial,
+        COMM2,
+        on,
+    ];
     after_ticks(after(state, &frame, 1), 1)
 }
 

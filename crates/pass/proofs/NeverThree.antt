@@ -7,17 +7,16 @@ use mathlib.Core.List.{List, [], ◌∷◌}
 use native.Mathlib.Omega.{arith}
 use lib.Dec.{leb}
 use lib.ListN.{length, drop}
+use Rattle.std.specs.Prelude.{Ok, Err}
 use Rattle.basics.specs.Choice.{within}
 use Rattle.basics.specs.Outcome.{Outcome}
 use Rattle.basics.proofs.ChoiceLaws.{either, within_low}
 use Rattle.frames.specs.Answer.{answer_number, is_reported}
 use Rattle.frames.specs.Kind.{report_bytes}
 use Rattle.frames.specs.Greeting.{greeting_text}
-use Rattle.frames.specs.Reading.{read_frame}
+use Rattle.frames.specs.Reading.{Reading, read_frame}
 use Rattle.frames.specs.declared.answer.Answer.{Answer}
 use Rattle.frames.specs.declared.answer.Answer.TheVariants.{NoInput}
-use Rattle.frames.specs.declared.reading.Reading.{Reading}
-use Rattle.frames.specs.declared.reading.Reading.TheVariants.{Refused, Accepted}
 use Rattle.frames.proofs.CutLaws.{front_some}
 use Rattle.frames.proofs.ReadingLaws.{SoundPast, some_sound}
 use Rattle.supervisor.specs.Range.{in_range}
@@ -51,8 +50,8 @@ three : (a : Answer) → a ≡ NoInput → answer_number a ≡ 3
 three a e = ap answer_number e
 
 read_not_three : (text : List ℕ) (r : Reading) → SoundPast text r → (s : State) (room : List ℕ) → NotThree (step_read r text s room)
-read_not_three text (Refused answer) w s room e = omega (arith, three answer e, within_low 4 7 (answer_number answer) w)
-read_not_three text (Accepted f) w s room e =
+read_not_three text (Err answer) w s room e = omega (arith, three answer e, within_low 4 7 (answer_number answer) w)
+read_not_three text (Ok f) w s room e =
     let given : answer_number (act_of f text s).answer ≡ 3 = three (act_of f text s).answer e in
     true≢false (ap (λ n. within 1 7 n) (sym given) ∙ unrefused f s (act_of f text s) (act_answers f text s))
 

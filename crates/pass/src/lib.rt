@@ -32,7 +32,7 @@ struct Worked {
 fn work(state: State, rest: &[u8], room: &mut [u8]) -> Worked
     ensures { outcome result room.new ≡ work_of state rest.now room.old }
 {
-    let bytes = cut(rest).bytes(rest.len());
+    let bytes = cut(rest).unwrap_or(rest.len());
     let stepped = step(state, &rest[..bytes], room);
     Worked {
         answer: stepped.answer,

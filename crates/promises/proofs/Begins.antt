@@ -6,6 +6,7 @@ use mathlib.Core.List.{List}
 use mathlib.Core.Path.{◌≡◌, refl, sym, ap, ◌∙◌}
 use mathlib.Core.Bool.{Bool, true, false, not, ◌&&◌, true≢false}
 use borrow.Author.Tests.{eq-eqb, lt-ltb}
+use Rattle.std.specs.Prelude.{Ok}
 use Rattle.basics.proofs.ChoiceLaws.{is_true, decided, within_low}
 use Rattle.modules.specs.Groups.{is_mission}
 use Rattle.frames.specs.Greeting.{greeting_text}
@@ -16,7 +17,6 @@ use Rattle.frames.specs.declared.answer.Answer.TheVariants.{NotNow}
 use Rattle.frames.specs.declared.sender.Sender.{Sender}
 use Rattle.frames.specs.declared.command.Command.TheVariants.{Timed}
 use Rattle.frames.specs.declared.frame.Frame.{Frame}
-use Rattle.frames.specs.declared.reading.Reading.TheVariants.{Accepted}
 use Rattle.frames.specs.declared.frame.Frame.TheVariants as frame
 use Rattle.frames.proofs.ReadingLaws.{Fits, FitsCommand}
 use Rattle.supervisor.specs.State.{is_deploy_wait, is_safe, in_deploy_wait}
@@ -71,7 +71,7 @@ module _ (which minutes : ℕ) where
       })
 
   act_begins :
-      (sender : Sender) (f : Frame) (text : List ℕ) → Fits f text → about (Accepted f) ≡ a_command sender (Timed which minutes) → (s : State) → Eight s →
+      (sender : Sender) (f : Frame) (text : List ℕ) → Fits f text → about (Ok f) ≡ a_command sender (Timed which minutes) → (s : State) → Eight s →
       Does (act_of f text s)
   unfolding act_of
   act_begins sender (frame.Tick shorts) text fits e s n = let z : ◌≡◌ {A = ℕ} 0 1 = cc in absurd (omega arith)

@@ -8,6 +8,7 @@ use mathlib.Core.List.{List, [], ◌∷◌, ◌++◌}
 use lib.Dec.{eqb, ltb}
 use lib.ListN.{get_or}
 use borrow.Author.Tests.{eqb-true, ne_eqb, ltb-true, ltb-false}
+use Rattle.std.specs.Prelude.{Option, Some, Ok}
 use Rattle.basics.specs.Choice.{when◌then◌else◌}
 use Rattle.basics.proofs.ChoiceLaws.{decided, within_low}
 use Rattle.frames.specs.Answer.{answer_number}
@@ -17,7 +18,6 @@ use Rattle.frames.specs.declared.sender.Sender.{Sender}
 use Rattle.frames.specs.declared.command.Command.TheVariants.{Greeting}
 use Rattle.frames.specs.declared.frame.Frame.{Frame}
 use Rattle.frames.specs.declared.frame.Frame.TheVariants as frame
-use Rattle.frames.specs.declared.reading.Reading.TheVariants.{Accepted}
 use Rattle.supervisor.specs.State.{mode_number, no_message}
 use Rattle.supervisor.specs.Acted.{due_number}
 use Rattle.supervisor.specs.Range.{basic_ticks, complete_ticks}
@@ -32,8 +32,8 @@ use Rattle.supervisor.specs.declared.state.Mode.TheVariants.{DeployWait, Recover
 use Rattle.supervisor.specs.declared.state.Message.{Message}
 use Rattle.supervisor.specs.declared.state.State.{State}
 use Rattle.supervisor.specs.declared.acted.Acted.{Acted}
-use Rattle.supervisor.specs.declared.acted.Due.{Due}
-use Rattle.supervisor.specs.declared.acted.Due.TheVariants.{Complete, Extended}
+use Rattle.supervisor.specs.declared.form.Form.{Form}
+use Rattle.supervisor.specs.declared.form.Form.TheVariants.{Complete, Extended}
 use Rattle.supervisor.proofs.CommandLaws.{by_serial_law}
 use Rattle.supervisor.proofs.HistoryLaws.{Works, Comes, stopped, ticking, other, comes}
 use Rattle.supervisor.proofs.ReportLaws.{report_due, report_mode}
@@ -52,20 +52,20 @@ abbrev with_left : ℕ → Message → Message
 with_left repeats m = record { repeats = repeats; length = m.length; text = m.text }
 
 -- a beacon that may fall due in a tick: none, and as many are left; or the one that is due, and as many as there should be
-data Falls (mode before : ℕ) (due : Due) (after : ℕ) : Type 0 where
+data Falls (mode before : ℕ) (due : Option Form) (after : ℕ) : Type 0 where
   none : due_number due ≡ 0 → after ≡ before → Falls mode before due after
   some : eqb (due_number due) 0 ≡ false → due_number due ≡ number_with before mode → after ≡ left_after in_safe before mode → Falls mode before due after
 
 -- in SAFE, with a beacon due: with none left it is a complete one
-none_left : (n : ℕ) → n ≡ 0 → Falls 2 n Complete n
+none_left : (n : ℕ) → n ≡ 0 → Falls 2 n (Some Complete) n
 none_left n e = rw e (some refl refl refl)
 
 -- an extended one if the message is to be sent, and then one fewer is left
-abbrev Sends : Message → Due → Type 0
+abbrev Sends : Message → Option Form → Type 0
 Sends m d = Falls 2 (left m) d (left (with_left (repeats_after d m.repeats) m))
 
 sends_by :
-    (m : Message) (kept more : Bool) → ltb 0 m.length ≡ kept → ltb 0 m.repeats ≡ more → Sends m (when kept && more then Extended else Complete)
+    (m : Message) (kept more : Bool) → ltb 0 m.length ≡ kept → ltb 0 m.repeats ≡ more → Sends m (Some (when kept && more then Extended else Complete))
 sends_by m true true k r =
     rw (ne_eqb m.length 0 (omega (arith, ltb-true 0 m.length k)))
     (some refl (rw (ne_eqb m.repeats 0 (omega (arith, ltb-true 0 m.repeats r)))) refl)
@@ -80,10 +80,10 @@ due_falls : (mode : Mode) (m : Message) (count : ℕ) →
     Falls (mode_number mode) (left m) (due_at mode (is_to_be_sent m) count) (left (with_left (repeats_after (due_at mode (is_to_be_sent m) count) m.repeats) m))
 due_falls (DeployWait phase) m count = none refl refl
 due_falls Recovery m count =
-    decided (λ (d : Due). Falls 1 (left m) d (left (with_left (repeats_after d m.repeats) m))) (eqb count basic_ticks)
+    decided (λ (d : Option Form). Falls 1 (left m) d (left (with_left (repeats_after d m.repeats) m))) (eqb count basic_ticks)
     (λ e. some refl refl refl) (λ e. none refl refl)
 due_falls Safe m count =
-    decided (λ (d : Due). Falls 2 (left m) d (left (with_left (repeats_after d m.repeats) m))) (eqb (count % complete_ticks) 0)
+    decided (λ (d : Option Form). Falls 2 (left m) d (left (with_left (repeats_after d m.repeats) m))) (eqb (count % complete_ticks) 0)
     (λ e. sends_by m (ltb 0 m.length) (ltb 0 m.repeats) refl refl) (λ e. none refl refl)
 
 -- a tick
@@ -147,7 +147,7 @@ module _ (repeats length : ℕ) where
   abbrev Does : Acted → Type 0
   Does a = answer_number a.answer ≡ 0 → left a.state.message ≡ asked_for repeats length
 
-  act_greets : (sender : Sender) (f : Frame) (text : List ℕ) → about (Accepted f) ≡ a_command sender (Greeting repeats length) → (s : State) → Does (act_of f text s)
+  act_greets : (sender : Sender) (f : Frame) (text : List ℕ) → about (Ok f) ≡ a_command sender (Greeting repeats length) → (s : State) → Does (act_of f text s)
   unfolding act_of
   act_greets sender (frame.Tick shorts) text e s = let z : ◌≡◌ {A = ℕ} 0 1 = cc in absurd (omega arith)
   act_greets sender (frame.Battery tension) text e s = let z : ◌≡◌ {A = ℕ} 0 1 = cc in absurd (omega arith)

@@ -7,6 +7,7 @@ use mathlib.Core.Bool.{Bool, true, false}
 use mathlib.Core.List.{List, [], ◌∷◌}
 use lib.Dec.{T, eqb}
 use borrow.Author.Tests.{eqb-true, ne_eqb}
+use Rattle.std.specs.Prelude.{Ok}
 use Rattle.basics.specs.Choice.{when◌then◌else◌, within}
 use Rattle.basics.proofs.ChoiceLaws.{is_true, within_low, within_high}
 use Rattle.frames.specs.Greeting.{greeting_text}
@@ -17,7 +18,6 @@ use Rattle.frames.specs.declared.sender.Origin.{Origin}
 use Rattle.frames.specs.declared.serial.Class.{Class}
 use Rattle.frames.specs.declared.serial.Class.TheVariants.{Repeat, Fresh, Stale}
 use Rattle.frames.specs.declared.frame.Frame.{Frame}
-use Rattle.frames.specs.declared.reading.Reading.TheVariants.{Accepted}
 use Rattle.frames.specs.declared.frame.Frame.TheVariants as frame
 use Rattle.frames.proofs.SerialLaws.{fresh_ahead, moved_on_law}
 use Rattle.supervisor.specs.Range.{in_range}
@@ -101,9 +101,9 @@ module _ (origin : Origin) where
   view_last :
       (f : Frame) (s : State) (c : Call) (a : Acted) (serial : ℕ) → serial_from origin (about_of c) ≡ serial ∷ [] → T (is_taken (answered s c)) →
       Works s c f a → View origin f s a → last_of origin (called s c).result.state.serials ≡ serial
-  view_last f s c a serial b t w (foreign z e) = let read : serial_from origin (about (Accepted f)) ≡ serial ∷ [] = rw w.read at b in cc
+  view_last f s c a serial b t w (foreign z e) = let read : serial_from origin (about (Ok f)) ≡ serial ∷ [] = rw w.read at b in cc
   view_last f s c a serial b t w (own n z d) =
-      let read : serial_from origin (about (Accepted f)) ≡ serial ∷ [] = rw w.read at b in
+      let read : serial_from origin (about (Ok f)) ≡ serial ∷ [] = rw w.read at b in
       let e : n ≡ serial = cc in
       rw w.leaves (last_by (class_of n (last_of origin s.serials)) n s a (rw w.leaves at t) d ∙ e)
 

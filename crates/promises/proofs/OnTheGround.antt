@@ -31,8 +31,8 @@ use Rattle.hearing.proofs.ReadBack.{same_keying}
 use Rattle.beacon.specs.Text.{basic_text, complete_text, message_text, extended_text, text_of, has_text, form_bytes}
 use Rattle.beacon.specs.Text.{mode_letter, figure}
 use Rattle.beacon.specs.Writing.{beacon_of}
-use Rattle.beacon.specs.declared.text.Form.{Form}
-use Rattle.beacon.specs.declared.text.Form.TheVariants.{Basic, Complete, Extended}
+use Rattle.supervisor.specs.declared.form.Form.{Form}
+use Rattle.supervisor.specs.declared.form.Form.TheVariants.{Basic, Complete, Extended}
 use Rattle.beacon.proofs.Keyable.{keyable}
 use Rattle.beacon.proofs.TextLaws.{form_most, text_length}
 use Rattle.promises.specs.OnTheGround.{OnTheGround, Whole, Has, HeardWith, sound}

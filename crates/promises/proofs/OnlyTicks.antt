@@ -6,6 +6,7 @@ use mathlib.Core.Bool.{Bool, true, false, ◌&&◌, true≢false}
 use mathlib.Core.List.{List}
 use lib.Dec.{T}
 use lib.ListN.{get_or}
+use Rattle.std.specs.Prelude.{Ok}
 use Rattle.basics.proofs.ChoiceLaws.{either}
 use Rattle.modules.specs.Groups.{is_core}
 use Rattle.modules.specs.declared.ends.Ends.{Ends}
@@ -18,7 +19,6 @@ use Rattle.frames.specs.declared.sender.Sender.{Sender}
 use Rattle.frames.specs.declared.command.Command.{Command}
 use Rattle.frames.specs.declared.command.Command.TheVariants.{Order, Timed, Thresholds, Greeting}
 use Rattle.frames.specs.declared.frame.Frame.{Frame}
-use Rattle.frames.specs.declared.reading.Reading.TheVariants.{Accepted}
 use Rattle.frames.specs.declared.frame.Frame.TheVariants as frame
 use Rattle.frames.proofs.ReadingLaws.{Fits}
 use Rattle.supervisor.specs.State.{off_module, module_at}
@@ -56,7 +56,7 @@ turn s c = turn_by s c (comes s c)
 
 module _ {Part : Type 0} (part : State → Part) where
   -- what every frame other than a tick leaves
-  module _ (frame_leaves : (f : Frame) (text : List ℕ) → Fits f text → is_tick (about (Accepted f)) ≡ false → (s : State) → part (act_of f text s).state ≡ part s) where
+  module _ (frame_leaves : (f : Frame) (text : List ℕ) → Fits f text → is_tick (about (Ok f)) ≡ false → (s : State) → part (act_of f text s).state ≡ part s) where
     by_others : (s : State) (c : Call) → done_tick s c ≡ false → Comes s c → part (called s c).result.state ≡ part s
     by_others s c e (stopped answer w) = rw w.leaves
     by_others s c e (ticking shorts w) = absurd (true≢false (sym w.tick ∙ e))
@@ -76,7 +76,7 @@ module _ {Part : Type 0} (part : State → Part) where
 
 -- a frame other than a tick switches nothing
 pub power_still :
-    (i : ℕ) (f : Frame) (text : List ℕ) → Fits f text → is_tick (about (Accepted f)) ≡ false → (s : State) →
+    (i : ℕ) (f : Frame) (text : List ℕ) → Fits f text → is_tick (about (Ok f)) ≡ false → (s : State) →
     (module_at i (act_of f text s).state).power ≡ (module_at i s).power
 power_still i f text fits e s =
     act_still (λ t. (module_at i t).power ≡ (module_at i s).power)
@@ -119,9 +119,9 @@ message_by shorts s (runs e w) = rw w (ap (λ m. m.length) (staged_message short
 -- a frame that passes a test may change a part of the state, if it is done; no other frame but a tick does
 module _ {Part : Type 0} (part : State → Part) (test : About → Bool) where
   abbrev Leaves : Frame → State → Acted → Type 0
-  Leaves f s a = test (about (Accepted f)) && is_done (answer_number a.answer) ≡ false → part a.state ≡ part s
+  Leaves f s a = test (about (Ok f)) && is_done (answer_number a.answer) ≡ false → part a.state ≡ part s
 
-  module _ (act_leaves : (f : Frame) (text : List ℕ) → is_tick (about (Accepted f)) ≡ false → (s : State) → Leaves f s (act_of f text s)) where
+  module _ (act_leaves : (f : Frame) (text : List ℕ) → is_tick (about (Ok f)) ≡ false → (s : State) → Leaves f s (act_of f text s)) where
     by_rest :
         (s : State) (c : Call) → done_tick s c ≡ false → test (about_of c) && is_done (answered s c) ≡ false → Comes s c →
         part (called s c).result.state ≡ part s
@@ -142,7 +142,7 @@ module _ {Part : Type 0} (look : Ends → List Module → Part) where
   Unordered = Leaves part (is_order any)
 
   order_leaves :
-      (f : Frame) → is_order any (about (Accepted f)) ≡ true → (which : ℕ) (on : Bool) (end : ℕ) (s t : State) → part t ≡ part s →
+      (f : Frame) → is_order any (about (Ok f)) ≡ true → (which : ℕ) (on : Bool) (end : ℕ) (s t : State) → part t ≡ part s →
       Unordered f s (order_taken which on end t)
   order_leaves f order which on end s t same =
       either (Unordered f s) (is_ill_timed which on t.watch.mode) {x = silent NotNow t} {y = done (request_set which on end t)} (λ e. same)
@@ -156,7 +156,7 @@ module _ {Part : Type 0} (look : Ends → List Module → Part) where
   taken_leaves sender (Thresholds ascend descend) text s t same = λ e. same
   taken_leaves sender (Greeting repeats length) text s t same = λ e. same
 
-  act_leaves : (f : Frame) (text : List ℕ) → is_tick (about (Accepted f)) ≡ false → (s : State) → Unordered f s (act_of f text s)
+  act_leaves : (f : Frame) (text : List ℕ) → is_tick (about (Ok f)) ≡ false → (s : State) → Unordered f s (act_of f text s)
   unfolding act_of
   act_leaves (frame.Tick shorts) text t s = absurd (true≢false t)
   act_leaves (frame.Battery tension) text t s = λ e. refl
@@ -187,7 +187,7 @@ taken_ungreeted sender (Timed which minutes) text s t same =
 taken_ungreeted sender (Thresholds ascend descend) text s t same = λ e. same
 taken_ungreeted sender (Greeting repeats length) text s t same = λ e. absurd (true≢false e)
 
-act_ungreeted : (f : Frame) (text : List ℕ) → is_tick (about (Accepted f)) ≡ false → (s : State) → Ungreeted f s (act_of f text s)
+act_ungreeted : (f : Frame) (text : List ℕ) → is_tick (about (Ok f)) ≡ false → (s : State) → Ungreeted f s (act_of f text s)
 unfolding act_of
 act_ungreeted (frame.Tick shorts) text t s = absurd (true≢false t)
 act_ungreeted (frame.Battery tension) text t s = λ e. refl

@@ -7,6 +7,7 @@ use mathlib.Core.Path.{◌≡◌, refl}
 use mathlib.Core.Bool.{Bool, true, false, not, ◌&&◌, true≢false, false≢true}
 use lib.Dec.{T}
 use borrow.Author.Tests.{eq-eqb, lt-ltb}
+use Rattle.std.specs.Prelude.{None, Ok}
 use Rattle.basics.specs.Choice.{within}
 use Rattle.basics.proofs.ChoiceLaws.{decided, within_low, within_high, within_of}
 use Rattle.modules.specs.Groups.{is_mission}
@@ -18,7 +19,6 @@ use Rattle.frames.specs.declared.answer.Answer.TheVariants.{NotNow}
 use Rattle.frames.specs.declared.command.Command.{Command}
 use Rattle.frames.specs.declared.command.Command.TheVariants.{Order, Timed, Thresholds, Greeting}
 use Rattle.frames.specs.declared.frame.Frame.{Frame}
-use Rattle.frames.specs.declared.reading.Reading.TheVariants.{Accepted}
 use Rattle.frames.specs.declared.sender.Sender.{Sender}
 use Rattle.frames.specs.declared.frame.Frame.TheVariants as frame
 use Rattle.frames.proofs.ReadingLaws.{FitsCommand}
@@ -29,7 +29,6 @@ use Rattle.supervisor.specs.Command.{is_ill_timed, request_set, order_taken, min
 use Rattle.supervisor.specs.History.{Call, answered}
 use Rattle.supervisor.specs.Report.{report_of}
 use Rattle.supervisor.specs.declared.acted.Acted.{Acted}
-use Rattle.supervisor.specs.declared.acted.Due.TheVariants.{Nothing}
 use Rattle.supervisor.specs.declared.state.State.{State}
 use Rattle.supervisor.proofs.CommandLaws.{by_serial_law, act_answers, unrefused}
 use Rattle.supervisor.proofs.HistoryLaws.{Works, Comes, stopped, ticking, other, comes}
@@ -47,7 +46,7 @@ Ill command s = record { which : ℕ; mission : is_mission which ≡ true; on : 
 abbrev Turns : Sender → Command → State → Acted → Type 0
 Turns sender command s a =
     record {
-      silent : a.due ≡ Nothing;
+      silent : a.due ≡ None;
       old : T (within 8 9 (answer_number a.answer)) → a.state ≡ s;
       ten : answer_number a.answer ≡ 10 → a.state ≡ serial_used sender s;
       ill : answer_number a.answer ≡ 10 → Ill command s;
@@ -95,7 +94,7 @@ abbrev Commanded : State → Call → Type 0
 Commanded s c = record { sender : Sender; command : Command; works : Works s c (frame.Command sender command) (by_serial sender command (greeting_text c.input) s) }
 
 module _ (s : State) (c : Call) where
-  by_frame : (f : Frame) → is_tick (about (Accepted f)) ≡ false → Works s c f (act_of f (greeting_text c.input) s) → T (within 8 10 (answered s c)) → Commanded s c
+  by_frame : (f : Frame) → is_tick (about (Ok f)) ≡ false → Works s c f (act_of f (greeting_text c.input) s) → T (within 8 10 (answered s c)) → Commanded s c
   unfolding act_of
   by_frame (frame.Tick shorts) e w h = absurd (true≢false e)
   by_frame (frame.Battery tension) e w h = absurd (rw w.leaves at h)

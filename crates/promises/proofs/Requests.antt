@@ -7,6 +7,7 @@ use mathlib.Core.Path.{◌≡◌, refl, sym, ap, ◌∙◌}
 use mathlib.Core.Bool.{Bool, true, false, true≢false}
 use lib.Dec.{eqb}
 use borrow.Author.Tests.{eqb-true, eqb-false, ne_eqb, lt-ltb}
+use Rattle.std.specs.Prelude.{Ok}
 use Rattle.basics.specs.Choice.{when◌then◌else◌}
 use Rattle.basics.proofs.ChoiceLaws.{is_true, either, within_low}
 use Rattle.modules.specs.Groups.{mission_four, is_mission, module_count}
@@ -17,7 +18,6 @@ use Rattle.frames.specs.About.{is_tick, about}
 use Rattle.frames.specs.Reading.{most_minutes}
 use Rattle.frames.specs.declared.answer.Answer.TheVariants.{NotNow}
 use Rattle.frames.specs.declared.frame.Frame.{Frame}
-use Rattle.frames.specs.declared.reading.Reading.TheVariants.{Accepted}
 use Rattle.frames.specs.declared.sender.Sender.{Sender}
 use Rattle.frames.specs.declared.command.Command.{Command}
 use Rattle.frames.specs.declared.command.Command.TheVariants.{Order, Timed, Thresholds, Greeting}
@@ -81,7 +81,7 @@ module _ (i : ℕ) (low : i < module_count) where
 
   -- a frame other than a tick: the word that it orders, if it is done
   abbrev Told : Frame → Word → Acted → Type 0
-  Told f word a = Held i a.state (when is_done (answer_number a.answer) then orders i (about (Accepted f)) word else word)
+  Told f word a = Held i a.state (when is_done (answer_number a.answer) then orders i (about (Ok f)) word else word)
 
   -- a command that is taken
   taken_told :
@@ -101,7 +101,7 @@ module _ (i : ℕ) (low : i < module_count) where
   taken_told sender (Greeting repeats length) text fits word t n h = h
 
   act_told :
-      (f : Frame) (text : List ℕ) → Fits f text → is_tick (about (Accepted f)) ≡ false → (word : Word) (s : State) → Eight s → Held i s word →
+      (f : Frame) (text : List ℕ) → Fits f text → is_tick (about (Ok f)) ≡ false → (word : Word) (s : State) → Eight s → Held i s word →
       Told f word (act_of f text s)
   unfolding act_of
   act_told (frame.Tick shorts) text fits e word s n h = absurd (true≢false e)
@@ -155,7 +155,7 @@ module _ (i : ℕ) (low : i < module_count) where
     by_comes c (ticking shorts w) = rw (w.tick, w.leaves, w.read, ticked_done shorts s) (tick_held shorts (ticks shorts s))
     by_comes c (other f t w) =
         rw (w.tick, t, w.leaves, w.read, watch_still f (greeting_text c.input) w.fits t s)
-        (rw (no_crossing (is_mission i) s.watch.mode (when is_done (answer_number (act_of f (greeting_text c.input) s).answer) then orders i (about (Accepted f)) word else word))
+        (rw (no_crossing (is_mission i) s.watch.mode (when is_done (answer_number (act_of f (greeting_text c.input) s).answer) then orders i (about (Ok f)) word else word))
         (act_told f (greeting_text c.input) w.fits t word s eight held))
 
     -- what a call says is held after it

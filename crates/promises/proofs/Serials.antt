@@ -6,17 +6,16 @@ use mathlib.Core.Path.{◌≡◌, refl, sym, ap, ◌∙◌}
 use mathlib.Core.List.{List, [], ◌∷◌, ◌++◌}
 use mathlib.Core.Logic.{⊎_elim}
 use lib.Dec.{T}
+use Rattle.std.specs.Prelude.{Ok, Err}
 use Rattle.frames.specs.Greeting.{greeting_text}
 use Rattle.frames.specs.Answer.{answer_number}
 use Rattle.frames.specs.Serial.{class_of, last_of}
 use Rattle.frames.specs.About.{serial_from, about}
-use Rattle.frames.specs.Reading.{read_frame}
+use Rattle.frames.specs.Reading.{Reading, read_frame}
 use Rattle.frames.specs.declared.sender.Origin.{Origin}
 use Rattle.frames.specs.declared.serial.Class.{Class}
 use Rattle.frames.specs.declared.serial.Class.TheVariants.{Repeat, Fresh, Stale}
 use Rattle.frames.specs.declared.frame.Frame.{Frame}
-use Rattle.frames.specs.declared.reading.Reading.{Reading}
-use Rattle.frames.specs.declared.reading.Reading.TheVariants.{Refused, Accepted}
 use Rattle.supervisor.specs.Range.{in_range}
 use Rattle.supervisor.specs.Fresh.{fresh_state}
 use Rattle.supervisor.specs.Act.{act_of}
@@ -47,7 +46,7 @@ module _ (origin : Origin) where
   -- one frame
   view_last :
       (f : Frame) (s : State) (a : Acted) → View origin f s a →
-      last_of origin a.state.serials ≡ last_after (last_of origin s.serials) (serial_from origin (about (Accepted f)))
+      last_of origin a.state.serials ≡ last_after (last_of origin s.serials) (serial_from origin (about (Ok f)))
   view_last f s a (foreign b e) = rw b e
   view_last f s a (own serial b d) = rw b (judged_last origin (class_of serial (last_of origin s.serials)) serial s a d)
 
@@ -59,7 +58,7 @@ module _ (origin : Origin) where
       (λ (e : answer_number a.answer ≡ 10). rw e (record { judged = tt; says = refl })) (zero_or_ten (answer_number a.answer) d.taken)
 
   view_tells :
-      (serial : ℕ) (f : Frame) (s : State) (a : Acted) → View origin f s a → serial_from origin (about (Accepted f)) ≡ serial ∷ [] →
+      (serial : ℕ) (f : Frame) (s : State) (a : Acted) → View origin f s a → serial_from origin (about (Ok f)) ≡ serial ∷ [] →
       Tells (answer_number a.answer) (class_of serial (last_of origin s.serials))
   view_tells serial f s a (foreign b e) h = let z : ◌≡◌ {A = ℕ} 0 1 = cc in absurd (omega arith)
   view_tells serial f s a (own n b d) h =
@@ -70,14 +69,14 @@ module _ (origin : Origin) where
   read_last :
       (text : List ℕ) (r : Reading) (s : State) (room : List ℕ) →
       last_of origin (step_read r text s room).result.state.serials ≡ last_after (last_of origin s.serials) (serial_from origin (about r))
-  read_last text (Refused answer) s room = refl
-  read_last text (Accepted f) s room = view_last f s (act_of f text s) (view origin f s (act_of f text s) (act_answers f text s))
+  read_last text (Err answer) s room = refl
+  read_last text (Ok f) s room = view_last f s (act_of f text s) (view origin f s (act_of f text s) (act_answers f text s))
 
   read_tells :
       (text : List ℕ) (serial : ℕ) (r : Reading) (s : State) (room : List ℕ) → serial_from origin (about r) ≡ serial ∷ [] →
       Tells (answer_number (step_read r text s room).result.answer) (class_of serial (last_of origin s.serials))
-  read_tells text serial (Refused answer) s room h = let z : ◌≡◌ {A = ℕ} 0 1 = cc in absurd (omega arith)
-  read_tells text serial (Accepted f) s room h = view_tells serial f s (act_of f text s) (view origin f s (act_of f text s) (act_answers f text s)) h
+  read_tells text serial (Err answer) s room h = let z : ◌≡◌ {A = ℕ} 0 1 = cc in absurd (omega arith)
+  read_tells text serial (Ok f) s room h = view_tells serial f s (act_of f text s) (view origin f s (act_of f text s) (act_answers f text s)) h
 
   pub call_tells :
       (serial : ℕ) (c : Call) → HasRoom c → serial_from origin (about_of c) ≡ serial ∷ [] → (s : State) → T (in_range s) →

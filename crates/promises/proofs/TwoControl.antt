@@ -4,6 +4,7 @@ use Prim.Native.Nat.{ℕ, ◌+◌, ◌≤◌}
 use mathlib.Core.Path.{◌≡◌, refl, ap}
 use mathlib.Core.Bool.{true}
 use lib.Dec.{T, eqb}
+use Rattle.std.specs.Prelude.{Option, Some}
 use Rattle.basics.proofs.ChoiceLaws.{same_test}
 use Rattle.modules.specs.Groups.{mission_four, is_mission}
 use Rattle.modules.specs.declared.power.Module.{Module}
@@ -48,13 +49,13 @@ Beside i a b = record { shared : Shared a b; flown : Flown i a b }
 
 module _ (i : ℕ) (mission : is_mission i ≡ true) where
   -- a crossing down drops a mission module's request
-  down_asked : (s : State) → T (module_at i (crossed Downward (with_control 0 s))).requested → ⊥
+  down_asked : (s : State) → T (module_at i (crossed (Some Downward) (with_control 0 s))).requested → ⊥
   down_asked s t = rw (at_unasked s i mission_four, mission) at t
 
   module _ (a b : State) where
     -- control: upward leaves every request
     crossed_beside :
-        (m n : Mode) (x y : Crossing) → a.watch.mode ≡ m → b.watch.mode ≡ n → Cross m n x y → Shared a b → Flown i a b →
+        (m n : Mode) (x y : Option Crossing) → a.watch.mode ≡ m → b.watch.mode ≡ n → Cross m n x y → Shared a b → Flown i a b →
         Beside i (crossed x (with_control 0 a)) (crossed y (with_control 0 b))
     crossed_beside m n x y e f (both_level o) s h =
         record { shared = s; flown = record { modes = h.modes; counts = refl; eight = h.eight; eight' = h.eight'; asked = h.asked } }

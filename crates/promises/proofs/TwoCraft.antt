@@ -7,6 +7,7 @@ use mathlib.Core.Bool.{true, false}
 use mathlib.Core.List.{List}
 use lib.ListN.{take}
 use lib.Dec.{T}
+use Rattle.std.specs.Prelude.{Ok, Err}
 use Rattle.basics.specs.Choice.{word}
 use Rattle.basics.specs.Each.{each, each_from}
 use Rattle.basics.proofs.TablesLaws.{upto}
@@ -14,10 +15,8 @@ use Rattle.modules.specs.Groups.{is_core, is_mission, module_count, adcs_module}
 use Rattle.modules.specs.Power.{is_on}
 use Rattle.modules.specs.Stage.{requested_by}
 use Rattle.frames.specs.Greeting.{greeting_text}
-use Rattle.frames.specs.Reading.{read_frame}
+use Rattle.frames.specs.Reading.{Reading, read_frame}
 use Rattle.frames.specs.About.{about}
-use Rattle.frames.specs.declared.reading.Reading.{Reading}
-use Rattle.frames.specs.declared.reading.Reading.TheVariants.{Refused, Accepted}
 use Rattle.frames.proofs.ReadingLaws.{Sound, read_sound, battery_read}
 use Rattle.supervisor.specs.Range.{in_range}
 use Rattle.supervisor.specs.Fresh.{fresh_state}
@@ -41,16 +40,16 @@ module _ (i : ℕ) (mission : is_mission i ≡ true) where
   reading_beside :
       (text : List ℕ) (r : Reading) → Sound text r → (room room' : List ℕ) (a b : State) → Beside i a b →
       Beside i (step_read r text a room).result.state (step_read r text b room').result.state
-  reading_beside text (Refused answer) sound room room' a b h = h
-  reading_beside text (Accepted f) sound room room' a b h = act_beside i mission f text sound a b h
+  reading_beside text (Err answer) sound room room' a b h = h
+  reading_beside text (Ok f) sound room room' a b h = act_beside i mission f text sound a b h
 
   module _ (n : ℕ) where
     reading_lit :
         (text : List ℕ) (r : Reading) → Sound text r → n + one_more (shorted i (about r)) ≤ shorts_borne → (room room' : List ℕ) (a b : State) → Beside i a b →
         Bright i mission n a b →
         Bright i mission (n + one_more (shorted i (about r))) (step_read r text a room).result.state (step_read r text b room').result.state
-    reading_lit text (Refused answer) sound few room room' a b h l = lit_later n (n + 0) (omega arith) (module_at i a).power (module_at i b).power l
-    reading_lit text (Accepted f) sound few room room' a b h l = act_lit i mission n f text sound few a b h l
+    reading_lit text (Err answer) sound few room room' a b h l = lit_later n (n + 0) (omega arith) (module_at i a).power (module_at i b).power l
+    reading_lit text (Ok f) sound few room room' a b h l = act_lit i mission n f text sound few a b h l
 
   -- two inputs, as good on the second
   good_beside :
@@ -120,8 +119,8 @@ module _ (i : ℕ) (core : is_core i ≡ true) (j : ℕ) where
   reading_alike :
       (text : List ℕ) (r : Reading) (room room' : List ℕ) (a b : State) → Beside j a b → Alike i core a b →
       Alike i core (step_read r text a room).result.state (step_read r text b room').result.state
-  reading_alike text (Refused answer) room room' a b h l = l
-  reading_alike text (Accepted f) room room' a b h l =
+  reading_alike text (Err answer) room room' a b h l = l
+  reading_alike text (Ok f) room room' a b h l =
       act_alike i core f text a b h.flown.modes h.shared.serials h.flown.eight h.flown.eight' l
 
   good_alike :

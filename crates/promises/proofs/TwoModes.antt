@@ -5,11 +5,12 @@ use native.Mathlib.Omega.{arith}
 use mathlib.Core.Path.{◌≡◌, refl}
 use mathlib.Core.Bool.{Bool, true, false}
 use lib.Dec.{T, ltb, ltb→lt, lt→ltb}
+use Rattle.std.specs.Prelude.{Option, None, Some}
 use Rattle.basics.specs.Choice.{when◌then◌else◌}
 use Rattle.supervisor.specs.State.{mode_number, is_safe}
 use Rattle.supervisor.specs.Control.{crossing_of}
 use Rattle.supervisor.specs.declared.control.Crossing.{Crossing}
-use Rattle.supervisor.specs.declared.control.Crossing.TheVariants.{Level, Upward, Downward}
+use Rattle.supervisor.specs.declared.control.Crossing.TheVariants.{Upward, Downward}
 use Rattle.supervisor.specs.declared.state.Mode.{Mode}
 use Rattle.supervisor.specs.declared.state.Mode.TheVariants.{DeployWait, Recovery, Safe}
 use Rattle.supervisor.specs.declared.state.Battery.{Battery}
@@ -28,20 +29,20 @@ safe_at_most even t = t
 safe_at_most behind t = tt
 
 -- the crossings of two craft judged in the same tick
-pub data Cross : Mode → Mode → Crossing → Crossing → Type 0 where
-  both_level : {m n : Mode} → AtMost m n → Cross m n Level Level
-  both_up : Cross Recovery Recovery Upward Upward
-  second_up : Cross Recovery Recovery Level Upward
-  both_down : Cross Safe Safe Downward Downward
-  first_down : Cross Safe Safe Downward Level
-  first_up : Cross Recovery Safe Upward Level
-  second_down : Cross Recovery Safe Level Downward
+pub data Cross : Mode → Mode → Option Crossing → Option Crossing → Type 0 where
+  both_level : {m n : Mode} → AtMost m n → Cross m n None None
+  both_up : Cross Recovery Recovery (Some Upward) (Some Upward)
+  second_up : Cross Recovery Recovery None (Some Upward)
+  both_down : Cross Safe Safe (Some Downward) (Some Downward)
+  first_down : Cross Safe Safe (Some Downward) None
+  first_up : Cross Recovery Safe (Some Upward) None
+  second_down : Cross Recovery Safe None (Some Downward)
 
 -- by whether each tension is above ascend, and behind descend
-judged : Mode → (above beneath : Bool) → Crossing
-judged (DeployWait phase) above beneath = Level
-judged Recovery above beneath = when above then Upward else Level
-judged Safe above beneath = when beneath then Downward else Level
+judged : Mode → (above beneath : Bool) → Option Crossing
+judged (DeployWait phase) above beneath = None
+judged Recovery above beneath = when above then Some Upward else None
+judged Safe above beneath = when beneath then Some Downward else None
 
 crossing_judged : (m : Mode) (b : Battery) → crossing_of m b ≡ judged m (ltb b.ascend b.tension) (ltb b.tension b.descend)
 unfolding judged

@@ -6,6 +6,7 @@ use mathlib.Core.List.{List}
 use mathlib.Core.Path.{◌≡◌, refl}
 use mathlib.Core.Bool.{Bool, true, false, ◌&&◌}
 use lib.Dec.{T, leb, leb→le, le→leb}
+use Rattle.std.specs.Prelude.{Ok}
 use Rattle.basics.specs.Choice.{when◌then◌else◌, bit}
 use Rattle.basics.proofs.ChoiceLaws.{and_left, and_right}
 use Rattle.modules.specs.Power.{switched, is_on, is_failed, tries_left, full_tries}
@@ -16,7 +17,6 @@ use Rattle.modules.specs.declared.power.Module.{Module}
 use Rattle.modules.proofs.PowerLaws.{on_switched_law, switched_reason, switched_least}
 use Rattle.frames.specs.About.{is_tick, about}
 use Rattle.frames.specs.declared.frame.Frame.{Frame}
-use Rattle.frames.specs.declared.reading.Reading.TheVariants.{Accepted}
 use Rattle.frames.specs.declared.frame.Frame.TheVariants as frame
 use Rattle.frames.proofs.ReadingLaws.{Fits}
 use Rattle.supervisor.specs.Tick.{ticked, ticked_in, before_modules, module_stage, stages}
@@ -120,14 +120,14 @@ module _ (i : ℕ) (mission : is_mission i ≡ true) where
   module _ (n : ℕ) where
     -- a frame other than a tick switches nothing
     still_lit :
-        (f : Frame) (text : List ℕ) → Fits f text → is_tick (about (Accepted f)) ≡ false → (a b : State) → Bright n a b →
+        (f : Frame) (text : List ℕ) → Fits f text → is_tick (about (Ok f)) ≡ false → (a b : State) → Bright n a b →
         Bright (n + 0) (act_of f text a).state (act_of f text b).state
     still_lit f text fits e a b l =
         rw (power_still i f text fits e a, power_still i f text fits e b) (lit_later n (n + 0) (omega arith) (module_at i a).power (module_at i b).power l)
 
     pub act_lit :
-        (f : Frame) (text : List ℕ) → Fits f text → n + one_more (shorted i (about (Accepted f))) ≤ shorts_borne → (a b : State) → Beside i a b → Bright n a b →
-        Bright (n + one_more (shorted i (about (Accepted f)))) (act_of f text a).state (act_of f text b).state
+        (f : Frame) (text : List ℕ) → Fits f text → n + one_more (shorted i (about (Ok f))) ≤ shorts_borne → (a b : State) → Beside i a b → Bright n a b →
+        Bright (n + one_more (shorted i (about (Ok f)))) (act_of f text a).state (act_of f text b).state
     unfolding act_of ticked
     act_lit (frame.Tick shorts) text fits few a b h l = in_modes n shorts few a.watch.mode b.watch.mode h.flown.modes a b h l
     act_lit (frame.Battery tension) text fits few a b h l = still_lit (frame.Battery tension) text fits refl a b l

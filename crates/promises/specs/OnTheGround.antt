@@ -14,9 +14,8 @@ use Rattle.hearing.specs.Reading.{Read}
 use Rattle.hearing.specs.declared.reading.ReadFault.{ReadFault}
 use Rattle.beacon.specs.Text.{text_of, message_text, has_text}
 use Rattle.beacon.specs.Writing.{beacon_of}
-use Rattle.beacon.specs.declared.text.Form.{Form}
-use Rattle.beacon.specs.declared.text.Form.TheVariants.{Basic, Complete, Extended}
-use Rattle.beacon.specs.declared.writing.Written.TheVariants as wrote
+use Rattle.supervisor.specs.declared.form.Form.{Form}
+use Rattle.supervisor.specs.declared.form.Form.TheVariants.{Basic, Complete, Extended}
 
 -- in range, with eight modules, as every state of the code has
 pub record Whole (s : State) : Type 0 where
@@ -31,7 +30,7 @@ sound form s = units_of (text_of form s)
 -- of the three is done, and leaves what it wrote at the front of its room
 pub record IsHeard (form : Form) (s : State) (page air ground : List ℕ) : Type 0 where
   pub text : List ℕ
-  pub wrote : beacon_of form s page ≡ outcome (wrote.Done (length text)) (written text page)
+  pub wrote : beacon_of form s page ≡ outcome (Ok (length text)) (written text page)
   pub units : List ℕ
   pub keyed : key_of text air ≡ outcome (Ok (length units)) (written units air)
   pub heard :

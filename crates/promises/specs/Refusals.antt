@@ -20,7 +20,7 @@ use Rattle.morse.specs.Keying.{key_of, key_reply}
 use Rattle.hearing.specs.Reading.{Read, read_reply}
 use Rattle.hearing.specs.declared.reading.ReadFault.{ReadFault}
 use Rattle.beacon.specs.Writing.{beacon_of, written_reply}
-use Rattle.beacon.specs.declared.text.Form.{Form}
+use Rattle.supervisor.specs.declared.form.Form.{Form}
 use Rattle.promises.specs.AsTold.{SaysOn}
 
 -- nothing was moved, and nothing written

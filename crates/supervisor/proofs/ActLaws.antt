@@ -6,6 +6,7 @@ use mathlib.Core.Path.{◌≡◌, refl}
 use mathlib.Core.Bool.{Bool, true, false, true≢false}
 use mathlib.Core.List.{List}
 use lib.Dec.{T}
+use Rattle.std.specs.Prelude.{Ok}
 use Rattle.basics.proofs.ChoiceLaws.{decided, within_high}
 use Rattle.modules.specs.Ends.{longest_end}
 use Rattle.frames.specs.Reading.{is_reading, are_thresholds, are_minutes, most_minutes}
@@ -15,7 +16,6 @@ use Rattle.frames.specs.declared.sender.Sender.{Sender}
 use Rattle.frames.specs.declared.command.Command.{Command}
 use Rattle.frames.specs.declared.command.Command.TheVariants.{Order, Timed, Thresholds, Greeting}
 use Rattle.frames.specs.declared.frame.Frame.{Frame}
-use Rattle.frames.specs.declared.reading.Reading.TheVariants.{Accepted}
 use Rattle.frames.specs.declared.frame.Frame.TheVariants as frame
 use Rattle.frames.proofs.ReadingLaws.{Fits, FitsCommand}
 use Rattle.supervisor.specs.State.{with_tension, with_antennas, with_thresholds, with_message}
@@ -56,7 +56,7 @@ module _ (P : State → Type 0) (still : Still P) where
   taken_still sender (Thresholds ascend descend) text fits s p = still.thresholds ascend descend fits.fair s p
   taken_still sender (Greeting repeats length) text fits s p = still.message repeats length text fits.fair s p
 
-  pub act_still : (f : Frame) (text : List ℕ) → Fits f text → is_tick (about (Accepted f)) ≡ false → (s : State) → P s → P (act_of f text s).state
+  pub act_still : (f : Frame) (text : List ℕ) → Fits f text → is_tick (about (Ok f)) ≡ false → (s : State) → P s → P (act_of f text s).state
   unfolding act_of
   act_still (frame.Tick shorts) text fits e s p = absurd (true≢false e)
   act_still (frame.Battery tension) text fits e s p = still.tension tension fits s p
@@ -65,7 +65,7 @@ module _ (P : State → Type 0) (still : Still P) where
       by_serial_law sender command text s (λ class a. P a.state) p p (taken_still sender command text fits (serial_used sender s) (still.serial sender s p))
 
 -- a frame other than a tick leaves the mode and both counts
-pub watch_still : (f : Frame) (text : List ℕ) → Fits f text → is_tick (about (Accepted f)) ≡ false → (s : State) → (act_of f text s).state.watch ≡ s.watch
+pub watch_still : (f : Frame) (text : List ℕ) → Fits f text → is_tick (about (Ok f)) ≡ false → (s : State) → (act_of f text s).state.watch ≡ s.watch
 unfolding request_set
 watch_still f text fits e s =
     act_still (λ t. t.watch ≡ s.watch)

@@ -7,6 +7,7 @@ use mathlib.Core.Bool.{Bool, true, false, ◌||◌}
 use mathlib.Core.List.{List, [], ◌∷◌}
 use mathlib.Core.Logic.{◌⊎◌, inl, inr, ⊎_elim}
 use lib.Dec.{T, eqb, eqb→eq}
+use Rattle.std.specs.Prelude.{Ok}
 use Rattle.basics.specs.Choice.{when◌then◌else◌, within}
 use Rattle.basics.proofs.ChoiceLaws.{either}
 use Rattle.frames.specs.Answer.{answer_number}
@@ -19,7 +20,6 @@ use Rattle.frames.specs.declared.serial.Class.TheVariants.{Repeat, Fresh, Stale}
 use Rattle.frames.specs.declared.command.Command.{Command}
 use Rattle.frames.specs.declared.command.Command.TheVariants.{Order, Timed, Thresholds, Greeting}
 use Rattle.frames.specs.declared.frame.Frame.{Frame}
-use Rattle.frames.specs.declared.reading.Reading.TheVariants.{Accepted}
 use Rattle.frames.specs.declared.answer.Answer.TheVariants as answer
 use Rattle.frames.specs.declared.frame.Frame.TheVariants as frame
 use Rattle.supervisor.specs.Acted.{silent, done}
@@ -70,10 +70,10 @@ Judged Fresh sender s a =
 
 -- news bears no serial, is done and moves none; a command bears its sender's, and is judged by it
 pub data Answers (f : Frame) (s : State) (a : Acted) : Type 0 where
-  news : ((origin : Origin) → serial_from origin (about (Accepted f)) ≡ []) → a.answer ≡ answer.Done → a.state.serials ≡ s.serials → Answers f s a
+  news : ((origin : Origin) → serial_from origin (about (Ok f)) ≡ []) → a.answer ≡ answer.Done → a.state.serials ≡ s.serials → Answers f s a
   judged :
       (sender : Sender) →
-      ((origin : Origin) → serial_from origin (about (Accepted f)) ≡ (when same_origin origin sender.origin then sender.serial ∷ [] else [])) →
+      ((origin : Origin) → serial_from origin (about (Ok f)) ≡ (when same_origin origin sender.origin then sender.serial ∷ [] else [])) →
       Judged (class_in s sender) sender s a → Answers f s a
 
 not_ten : ◌≡◌ {A = ℕ} 0 10 → ⊥

@@ -6,13 +6,14 @@ use mathlib.Core.Path.{◌≡◌, refl}
 use mathlib.Core.Bool.{Bool, true, false}
 use lib.Dec.{eqb, ltb, lit<}
 use borrow.Author.Tests.{eqb-true, eqb-false, ltb-true}
+use Rattle.std.specs.Prelude.{None, Some}
 use Rattle.supervisor.specs.State.{with_control}
 use Rattle.supervisor.specs.Range.{judge_ticks}
 use Rattle.supervisor.specs.Control.{crossing_of, crossed, controlled}
 use Rattle.supervisor.specs.declared.state.Mode.{Mode}
 use Rattle.supervisor.specs.declared.state.Mode.TheVariants.{DeployWait, Recovery, Safe}
 use Rattle.supervisor.specs.declared.state.State.{State}
-use Rattle.supervisor.specs.declared.control.Crossing.TheVariants.{Level, Upward, Downward}
+use Rattle.supervisor.specs.declared.control.Crossing.TheVariants.{Upward, Downward}
 
 -- this tick's count is 30: the mode is judged
 abbrev pub IsJudged : State → Type 0
@@ -22,14 +23,14 @@ IsJudged s = s.watch.control + 1 ≡ judge_ticks
 -- Upward and downward: the mode was judged, and by which comparison
 pub data Controls (s : State) : Type 0 where
   level :
-      (count : ℕ) → (s.watch.control < judge_ticks → count < judge_ticks) → (IsJudged s → crossing_of s.watch.mode s.battery ≡ Level) →
+      (count : ℕ) → (s.watch.control < judge_ticks → count < judge_ticks) → (IsJudged s → crossing_of s.watch.mode s.battery ≡ None) →
       controlled s ≡ with_control count s → Controls s
   upward :
       IsJudged s → s.watch.mode ≡ Recovery → s.battery.ascend < s.battery.tension →
-      controlled s ≡ crossed Upward (with_control 0 s) → Controls s
+      controlled s ≡ crossed (Some Upward) (with_control 0 s) → Controls s
   downward :
       IsJudged s → s.watch.mode ≡ Safe → s.battery.tension < s.battery.descend →
-      controlled s ≡ crossed Downward (with_control 0 s) → Controls s
+      controlled s ≡ crossed (Some Downward) (with_control 0 s) → Controls s
 
 module _ (s : State) where
   at_thirty :

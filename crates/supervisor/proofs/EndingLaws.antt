@@ -4,6 +4,7 @@ use Prim.Native.Nat.{◌+◌}
 use mathlib.Core.Path.{◌≡◌, refl, sym, ap, ◌∙◌}
 use mathlib.Core.Bool.{Bool, true, false}
 use lib.Dec.{eqb}
+use Rattle.std.specs.Prelude.{Option, None, Some}
 use Rattle.modules.specs.Groups.{mission_four}
 use Rattle.modules.specs.Ends.{no_ends, ends_fallen, ends_over}
 use Rattle.modules.specs.Stage.{requested_by}
@@ -15,14 +16,14 @@ use Rattle.supervisor.specs.Ending.{ended}
 use Rattle.supervisor.specs.Control.{crossing_of, crossed, controlled}
 use Rattle.supervisor.specs.declared.state.Mode.TheVariants.{Recovery}
 use Rattle.supervisor.specs.declared.control.Crossing.{Crossing}
-use Rattle.supervisor.specs.declared.control.Crossing.TheVariants.{Level, Upward, Downward}
+use Rattle.supervisor.specs.declared.control.Crossing.TheVariants.{Upward, Downward}
 use Rattle.supervisor.specs.declared.state.State.{State}
 
-crossed_either : (x : Crossing) (s : State) → crossed x (ended s) ≡ ended (crossed x s)
+crossed_either : (x : Option Crossing) (s : State) → crossed x (ended s) ≡ ended (crossed x s)
 unfolding ended ends_fallen ends_over
-crossed_either Level s = refl
-crossed_either Upward s = refl
-crossed_either Downward s =
+crossed_either None s = refl
+crossed_either (Some Upward) s = refl
+crossed_either (Some Downward) s =
     ap (λ ms. with_modules ms (with_ends no_ends (with_mode Recovery s)))
     (requested_wider mission_four (ends_over s.ends) false (λ i e. over_mission i s.ends e) s.modules
     ∙ sym (requested_none false (requested_by mission_four false s.modules)))

@@ -8,18 +8,17 @@ use mathlib.Core.List.{List, [], ◌∷◌, ◌++◌}
 use lib.ListN.{length, take}
 use lib.Dec.{T, eqb, leb}
 use borrow.Author.Tests.{ne_eqb, le-leb}
+use Rattle.std.specs.Prelude.{Ok, Err}
 use Rattle.basics.specs.Choice.{within}
 use Rattle.basics.proofs.ChoiceLaws.{is_true, holds, within_low, within_high, within_of}
 use Rattle.frames.specs.Answer.{answer_number}
 use Rattle.frames.specs.Kind.{report_bytes}
 use Rattle.frames.specs.Greeting.{greeting_text}
-use Rattle.frames.specs.Reading.{read_frame}
+use Rattle.frames.specs.Reading.{Reading, read_frame}
 use Rattle.frames.specs.About.{about, is_tick}
 use Rattle.frames.specs.declared.answer.Answer.{Answer}
 use Rattle.frames.specs.declared.answer.Answer.TheVariants.{BadState, ShortRoom}
 use Rattle.frames.specs.declared.frame.Frame.{Frame}
-use Rattle.frames.specs.declared.reading.Reading.{Reading}
-use Rattle.frames.specs.declared.reading.Reading.TheVariants.{Refused, Accepted}
 use Rattle.frames.specs.declared.frame.Frame.TheVariants as frame
 use Rattle.frames.proofs.ReadingLaws.{Fits, Sound, read_sound}
 use Rattle.supervisor.specs.Range.{in_range}
@@ -45,14 +44,14 @@ pub record Stops (s : State) (c : Call) (answer : Answer) : Type 0 where
 pub record Works (s : State) (c : Call) (f : Frame) (acted : Acted) : Type 0 where
   pub fits : Fits f (greeting_text c.input)
   pub valid : T (in_range s)
-  pub read : read_frame c.input ≡ Accepted f
+  pub read : read_frame c.input ≡ Ok f
   pub leaves : called s c ≡ reported f acted c.room
-  pub tick : done_tick s c ≡ is_tick (about (Accepted f))
+  pub tick : done_tick s c ≡ is_tick (about (Ok f))
 
 pub data Comes (s : State) (c : Call) : Type 0 where
   stopped : (answer : Answer) → Stops s c answer → Comes s c
   ticking : (shorts : ℕ) → Works s c (frame.Tick shorts) (ticked shorts s) → Comes s c
-  other : (f : Frame) → is_tick (about (Accepted f)) ≡ false → Works s c f (act_of f (greeting_text c.input) s) → Comes s c
+  other : (f : Frame) → is_tick (about (Ok f)) ≡ false → Works s c f (act_of f (greeting_text c.input) s) → Comes s c
 
 -- refusals 3 to 7 are among 1 to 7
 pub wider : (n : ℕ) → T (within 3 7 n) → T (within 1 7 n)
@@ -72,7 +71,7 @@ module _ (s : State) (c : Call) where
       (record { number = number; outside = outside; leaves = leaves; tick = rw leaves (not_zero (is_tick (about_of c)) (answer_number answer) number) })
 
   works :
-      (f : Frame) → is_tick (about (Accepted f)) ≡ false → Fits f (greeting_text c.input) → read_frame c.input ≡ Accepted f → T (in_range s) →
+      (f : Frame) → is_tick (about (Ok f)) ≡ false → Fits f (greeting_text c.input) → read_frame c.input ≡ Ok f → T (in_range s) →
       called s c ≡ reported f (act_of f (greeting_text c.input) s) c.room → Comes s c
   works f e fits read valid leaves = other f e (record { fits = fits; valid = valid; read = read; leaves = leaves; tick = rw (read, e) })
 
@@ -80,13 +79,13 @@ module _ (s : State) (c : Call) where
       (r : Reading) → Sound (greeting_text c.input) r → read_frame c.input ≡ r → T (in_range s) →
       called s c ≡ step_read r (greeting_text c.input) s c.room → Comes s c
   unfolding act_of
-  by_reading (Refused answer) sound e h w =
+  by_reading (Err answer) sound e h w =
       stops answer (wider (answer_number answer) sound) (λ one. absurd (omega (arith, within_low 3 7 (answer_number answer) sound))) w
-  by_reading (Accepted (frame.Tick shorts)) sound e h w =
+  by_reading (Ok (frame.Tick shorts)) sound e h w =
       ticking shorts (record { fits = tt; valid = h; read = e; leaves = w; tick = rw (e, w, ticked_done shorts s) })
-  by_reading (Accepted (frame.Battery tension)) sound e h w = works (frame.Battery tension) refl sound e h w
-  by_reading (Accepted (frame.Antennas deployed)) sound e h w = works (frame.Antennas deployed) refl sound e h w
-  by_reading (Accepted (frame.Command sender command)) sound e h w = works (frame.Command sender command) refl sound e h w
+  by_reading (Ok (frame.Battery tension)) sound e h w = works (frame.Battery tension) refl sound e h w
+  by_reading (Ok (frame.Antennas deployed)) sound e h w = works (frame.Antennas deployed) refl sound e h w
+  by_reading (Ok (frame.Command sender command)) sound e h w = works (frame.Command sender command) refl sound e h w
 
   by_room : (t : Bool) → leb report_bytes (length c.room) ≡ t → in_range s ≡ true → Comes s c
   unfolding step_of
@@ -126,7 +125,7 @@ module _
     (P : State → Type 0)
     (tick_keeps : (shorts : ℕ) (s : State) → T (in_range s) → P s → P (ticked shorts s).state)
     (frame_keeps :
-    (f : Frame) (text : List ℕ) → Fits f text → is_tick (about (Accepted f)) ≡ false → (s : State) → T (in_range s) → P s → P (act_of f text s).state) where
+    (f : Frame) (text : List ℕ) → Fits f text → is_tick (about (Ok f)) ≡ false → (s : State) → T (in_range s) → P s → P (act_of f text s).state) where
   keeps_by : (s : State) (c : Call) → P s → Comes s c → P (called s c).result.state
   keeps_by s c p (stopped answer w) = rw w.leaves p
   keeps_by s c p (ticking shorts w) = rw w.leaves (tick_keeps shorts s w.valid p)
@@ -150,7 +149,7 @@ pub after_in_range : (cs : List Call) (s : State) → T (in_range s) → T (in_r
 after_in_range = after_keeps InRange (λ shorts s v h. ticked_in_range shorts s h) (λ f text fits e s v h. act_in_range f text fits e s h)
 
 -- eight modules
-act_eight : (f : Frame) (text : List ℕ) → Fits f text → is_tick (about (Accepted f)) ≡ false → (s : State) → Eight s → Eight (act_of f text s).state
+act_eight : (f : Frame) (text : List ℕ) → Fits f text → is_tick (about (Ok f)) ≡ false → (s : State) → Eight s → Eight (act_of f text s).state
 act_eight f text fits e s n =
     act_still Eight
     (record { tension = λ v r t h. h; antennas = λ d t h. h; serial = λ o t h. h; request = λ which on end low t i h. asked_eight t h which on end; thresholds = λ a d r t h. h; message = λ r n x g t h. h })

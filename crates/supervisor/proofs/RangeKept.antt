@@ -7,6 +7,7 @@ use mathlib.Core.Bool.{Bool, false, ◌||◌}
 use mathlib.Core.List.{List}
 use lib.Dec.{T, eqb, ltb→lt, lt→ltb}
 use borrow.Author.Tests.{eqb-false}
+use Rattle.std.specs.Prelude.{Ok}
 use Rattle.basics.proofs.ChoiceLaws.{and_left, and_right, and_both, or_right, neither_right, within_high, within_of, decided}
 use Rattle.modules.specs.Ends.{ends_in_range}
 use Rattle.modules.proofs.EndsLaws.{set_in_range}
@@ -16,7 +17,6 @@ use Rattle.frames.specs.Reading.{is_reading, are_thresholds}
 use Rattle.frames.specs.About.{about, is_tick}
 use Rattle.frames.specs.declared.frame.Frame.{Frame}
 use Rattle.frames.specs.declared.frame.Frame.TheVariants as frame
-use Rattle.frames.specs.declared.reading.Reading.TheVariants.{Accepted}
 use Rattle.frames.proofs.ReadingLaws.{Fits}
 use Rattle.supervisor.specs.State.{is_deploy_wait, HasMasks}
 use Rattle.supervisor.specs.Range.{in_range, watch_in_range, phase_in_range, battery_in_range, message_in_range, wait_seconds, settle_seconds}
@@ -179,7 +179,7 @@ valid_still =
     }
 
 pub act_in_range :
-    (f : Frame) (text : List ℕ) → Fits f text → is_tick (about (Accepted f)) ≡ false → (s : State) → T (in_range s) → T (in_range (act_of f text s).state)
+    (f : Frame) (text : List ℕ) → Fits f text → is_tick (about (Ok f)) ≡ false → (s : State) → T (in_range s) → T (in_range (act_of f text s).state)
 act_in_range f text fits e s h = whole (act_of f text s).state (act_still Valid valid_still f text fits e s (parts s h))
 
 -- every frame leaves the masks true

@@ -2,9 +2,9 @@
 -- Assumes nothing.
 use Prim.Native.Nat.{ℕ, ◌<◌}
 use mathlib.Core.Path.{◌≡◌}
-use mathlib.Core.Bool.{false, ◌&&◌, true≢false}
+use mathlib.Core.Bool.{true, false, ◌&&◌, true≢false}
 use lib.Dec.{T, ltb, ltb→lt, lt→ltb, eqb→eq}
-use Rattle.basics.proofs.ChoiceLaws.{and_left, and_right, and_both}
+use Rattle.basics.proofs.ChoiceLaws.{holds, and_left, and_right, and_both}
 use Rattle.modules.specs.Ends.{ends_in_range}
 use Rattle.modules.specs.Stage.{modules_in_range}
 use Rattle.modules.specs.Masks.{are_masks_of}
@@ -46,6 +46,10 @@ unfolding in_range
 whole s v =
     let agree : T (are_masks_of s.modules s.masks) = rw v.masks (masks_own s.modules) in
     search (and_both, v, agree) depth 12
+
+-- in range, the masks are true
+pub masks_true : (s : State) → in_range s ≡ true → HasMasks s
+masks_true s e = (parts s (holds (in_range s) e)).masks
 
 -- in DEPLOY_WAIT: the phase, and both counts 0
 pub phase_in_range_law : (phase : Phase) (control beacon : ℕ) → T (watch_in_range (DeployWait phase) control beacon) → T (phase_in_range phase)

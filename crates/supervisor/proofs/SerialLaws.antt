@@ -3,6 +3,7 @@
 use Prim.Native.Nat.{ℕ}
 use mathlib.Core.Path.{◌≡◌, refl, ap, ◌∙◌}
 use mathlib.Core.List.{[], ◌∷◌}
+use Rattle.std.specs.Prelude.{Ok}
 use Rattle.basics.specs.Choice.{when◌then◌else◌}
 use Rattle.frames.specs.Serial.{last_of, moved_to}
 use Rattle.frames.specs.About.{about, same_origin, serial_from}
@@ -12,7 +13,6 @@ use Rattle.frames.specs.declared.sender.Sender.{Sender}
 use Rattle.frames.specs.declared.serial.Class.{Class}
 use Rattle.frames.specs.declared.serial.Class.TheVariants.{Repeat, Fresh, Stale}
 use Rattle.frames.specs.declared.frame.Frame.{Frame}
-use Rattle.frames.specs.declared.reading.Reading.TheVariants.{Accepted}
 use Rattle.supervisor.specs.Command.{class_in}
 use Rattle.supervisor.specs.declared.acted.Acted.{Acted}
 use Rattle.supervisor.specs.declared.state.State.{State}
@@ -23,9 +23,9 @@ abbrev pub from : Origin → (serial : ℕ) → Sender
 from origin serial = record { origin = origin; serial = serial }
 
 pub data View (origin : Origin) (f : Frame) (s : State) (a : Acted) : Type 0 where
-  foreign : serial_from origin (about (Accepted f)) ≡ [] → last_of origin a.state.serials ≡ last_of origin s.serials → View origin f s a
+  foreign : serial_from origin (about (Ok f)) ≡ [] → last_of origin a.state.serials ≡ last_of origin s.serials → View origin f s a
   own :
-      (serial : ℕ) → serial_from origin (about (Accepted f)) ≡ serial ∷ [] → Judged (class_in s (from origin serial)) (from origin serial) s a →
+      (serial : ℕ) → serial_from origin (about (Ok f)) ≡ serial ∷ [] → Judged (class_in s (from origin serial)) (from origin serial) s a →
       View origin f s a
 
 other_last :
@@ -38,7 +38,7 @@ other_last Fresh origin sender s a e d = ap (last_of origin) d.serials ∙ e
 
 by_origin :
     (origin by : Origin) (serial : ℕ) (f : Frame) (s : State) (a : Acted) →
-    serial_from origin (about (Accepted f)) ≡ (when same_origin origin by then serial ∷ [] else []) →
+    serial_from origin (about (Ok f)) ≡ (when same_origin origin by then serial ∷ [] else []) →
     Judged (class_in s (from by serial)) (from by serial) s a → View origin f s a
 by_origin Ground Ground serial f s a b d = own serial b d
 by_origin Payload Payload serial f s a b d = own serial b d

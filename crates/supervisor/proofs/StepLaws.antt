@@ -8,15 +8,14 @@ use native.Mathlib.Omega.{arith}
 use borrow.Author.Tests.{le-leb, lt-leb, leb-true}
 use lib.Dec.{T, leb}
 use lib.ListN.{length, take, drop, length-append, length-drop}
+use Rattle.std.specs.Prelude.{Ok, Err}
 use Rattle.basics.specs.Outcome.{Outcome}
 use Rattle.basics.proofs.ChoiceLaws.{is_true, either, decided, same_test}
 use Rattle.frames.specs.Answer.{answer_number, is_reported}
 use Rattle.frames.specs.Kind.{report_bytes}
 use Rattle.frames.specs.Greeting.{greeting_text}
-use Rattle.frames.specs.Reading.{read_frame}
+use Rattle.frames.specs.Reading.{Reading, read_frame}
 use Rattle.frames.specs.declared.answer.Answer.TheVariants.{BadState, ShortRoom}
-use Rattle.frames.specs.declared.reading.Reading.{Reading}
-use Rattle.frames.specs.declared.reading.Reading.TheVariants.{Refused, Accepted}
 use Rattle.frames.proofs.AnswerLaws.{reported_number, refusal}
 use Rattle.frames.proofs.ReadingLaws.{is_accepted, Sound, read_sound}
 use Rattle.supervisor.specs.Range.{in_range}
@@ -37,8 +36,8 @@ step_outside s frame room e = simp e
 
 -- what is accepted gets a report, and nothing else does
 pub read_reported : (r : Reading) (text : List ℕ) → Sound text r → (s : State) (room : List ℕ) → is_reported (step_read r text s room).result.answer ≡ is_accepted r
-read_reported (Refused answer) text sound s room = refusal answer (wider (answer_number answer) sound)
-read_reported (Accepted f) text sound s room = reported_number (act_of f text s).answer ∙ ap not (unrefused f s (act_of f text s) (act_answers f text s))
+read_reported (Err answer) text sound s room = refusal answer (wider (answer_number answer) sound)
+read_reported (Ok f) text sound s room = reported_number (act_of f text s).answer ∙ ap not (unrefused f s (act_of f text s) (act_answers f text s))
 
 module _ (s : State) (c : Call) where
   valid_by : Comes s c → is_reported (called s c).result.answer ≡ true → T (in_range s)
@@ -53,7 +52,7 @@ module _ (s : State) (c : Call) where
   left_by : Comes s c → is_reported (called s c).result.answer ≡ false → called s c ≡ refused (called s c).result.answer s c.room
   left_by (stopped a w) e = rw w.leaves
   left_by (ticking shorts w) e = absurd (false≢true (sym e ∙ rw (w.leaves, ticked_done shorts s)))
-  left_by (other f t w) e = absurd (false≢true (sym e ∙ rw w.leaves (read_reported (Accepted f) (greeting_text c.input) w.fits s c.room)))
+  left_by (other f t w) e = absurd (false≢true (sym e ∙ rw w.leaves (read_reported (Ok f) (greeting_text c.input) w.fits s c.room)))
 
   -- with none, state and room are the same
   pub refused_left : is_reported (called s c).result.answer ≡ false → called s c ≡ refused (called s c).result.answer s c.room
@@ -67,8 +66,8 @@ pub record Written (room : List ℕ) (after : Outcome Stepped) : Type 0 where
 
 read_written : (r : Reading) (text : List ℕ) (s : State) (room : List ℕ) → report_bytes ≤ length room → Written room (step_read r text s room)
 unfolding report_of
-read_written (Refused answer) text s room h = record { fits = λ e. h; past = refl; same_length = refl }
-read_written (Accepted f) text s room h =
+read_written (Err answer) text s room h = record { fits = λ e. h; past = refl; same_length = refl }
+read_written (Ok f) text s room h =
     record {
       fits = λ e. h;
       past = refl;
@@ -92,8 +91,8 @@ pub record Alike (left right : Outcome Stepped) : Type 0 where
 module _ (s : State) (room room' : List ℕ) where
   read_alike : (r : Reading) (text : List ℕ) → Sound text r → Alike (step_read r text s room) (step_read r text s room')
   unfolding report_of
-  read_alike (Refused answer) text w = record { result = refl; report = λ e. absurd (true≢false (sym e ∙ read_reported (Refused answer) text w s room)) }
-  read_alike (Accepted f) text w = record { result = refl; report = λ e. refl }
+  read_alike (Err answer) text w = record { result = refl; report = λ e. absurd (true≢false (sym e ∙ read_reported (Err answer) text w s room)) }
+  read_alike (Ok f) text w = record { result = refl; report = λ e. refl }
 
   pub step_alike : (frame : List ℕ) → report_bytes ≤ length room → report_bytes ≤ length room' → Alike (step_of s frame room) (step_of s frame room')
   unfolding step_of

@@ -4,7 +4,7 @@ use Rattle.std.specs.Prelude.{ℕ, ◌/◌, ◌%◌, List, [], ◌∷◌, get_or
 use Rattle.modules.specs.Masks.{masks_of}
 use Rattle.modules.specs.declared.masks.Masks.{Masks}
 use Rattle.frames.specs.Answer.{answer_number}
-use Rattle.frames.specs.Kind.{report_kind}
+use Rattle.frames.specs.Kind.{report_kind, kind_number}
 use Rattle.frames.specs.Frame.{head_of}
 use Rattle.frames.specs.declared.frame.Frame.{Frame}
 use Rattle.frames.specs.declared.frame.Head.{Head}
@@ -15,7 +15,7 @@ use Rattle.supervisor.specs.declared.acted.Acted.{Acted}
 -- kind answered, origin, serial (2), answer, mode, requested mask, on mask, failed mask, beacon
 abbrev pub bytes_of : Head → (answer mode : ℕ) → Masks → (due : ℕ) → List ℕ
 bytes_of head answer mode masks due =
-    report_kind ∷ head.kind ∷ head.origin ∷ head.serial / 256 ∷ head.serial % 256 ∷ answer ∷ mode
+    report_kind ∷ kind_number head.kind ∷ head.origin ∷ head.serial / 256 ∷ head.serial % 256 ∷ answer ∷ mode
     ∷ masks.requested ∷ masks.on ∷ masks.failed ∷ due ∷ []
 
 -- mode and masks show the state after the frame

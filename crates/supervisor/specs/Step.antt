@@ -1,16 +1,14 @@
 -- The whole call: the answer, the next state, and the later content of the reply room.
 -- Assumes nothing.
-use Rattle.std.specs.Prelude.{ℕ, List, ◌++◌, leb, length, drop}
+use Rattle.std.specs.Prelude.{ℕ, List, ◌++◌, leb, length, drop, Ok, Err}
 use Rattle.basics.specs.Choice.{when◌then◌else◌}
 use Rattle.basics.specs.Outcome.{Outcome, outcome}
 use Rattle.frames.specs.Kind.{report_bytes}
 use Rattle.frames.specs.Greeting.{greeting_text}
-use Rattle.frames.specs.Reading.{read_frame}
+use Rattle.frames.specs.Reading.{Reading, read_frame}
 use Rattle.frames.specs.declared.answer.Answer.{Answer}
 use Rattle.frames.specs.declared.answer.Answer.TheVariants.{BadState, ShortRoom}
 use Rattle.frames.specs.declared.frame.Frame.{Frame}
-use Rattle.frames.specs.declared.reading.Reading.{Reading}
-use Rattle.frames.specs.declared.reading.Reading.TheVariants.{Refused, Accepted}
 use Rattle.supervisor.specs.Range.{in_range}
 use Rattle.supervisor.specs.Act.{act_of}
 use Rattle.supervisor.specs.Report.{report_of}
@@ -29,8 +27,8 @@ reported frame acted room =
 
 -- checks 3 to 7, then what the frame does, with the text beside it
 abbrev pub step_read : Reading → (text : List ℕ) → State → (room : List ℕ) → Outcome Stepped
-step_read (Refused answer) text s room = refused answer s room
-step_read (Accepted frame) text s room = reported frame (act_of frame text s) room
+step_read (Err answer) text s room = refused answer s room
+step_read (Ok frame) text s room = reported frame (act_of frame text s) room
 
 -- check 1: the state outside its ranges; check 2: fewer than 11 bytes of reply room
 unfoldable pub step_of : State → (input room : List ℕ) → Outcome Stepped

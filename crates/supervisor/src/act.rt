@@ -10,6 +10,7 @@ use frames::frame::Frame;
 use frames::greeting::LONGEST;
 
 // A frame that passed checks 1 to 7, worked, with the text beside it.
+#[tactic(auto, using(crate::proofs::RangeLaws::masks_true), unfolding(crate::specs::Act::act_of))]
 pub(crate) fn act(state: State, frame: Frame, text: [u8; LONGEST]) -> Acted
     requires { in_range state ≡ true }
     ensures { result ≡ act_of frame text state }

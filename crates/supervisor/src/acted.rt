@@ -2,38 +2,28 @@
 ghost use Rattle.std.specs.Prelude.{◌≡◌};
 ghost use Rattle.supervisor.specs.Acted.{due_number, silent};
 
+use crate::form::Form;
 use crate::state::State;
 use frames::answer::Answer;
 
-// The beacon that a tick makes due.
-#[derive(Clone, Copy)]
-pub enum Due {
-    Nothing,
-    Basic,
-    Complete,
-    Extended,
-}
-
-impl Due {
-    // Its number in a report.
-    pub(crate) fn number(self) -> u8
-        ensures { result ≡ due_number self }
-    {
-        match self {
-            Due::Nothing => 0,
-            Due::Basic => 1,
-            Due::Complete => 2,
-            Due::Extended => 3,
-        }
-    }
-}
-
-// The next state, the answer (0, 8, 9 or 10), and the beacon due.
+// The next state, the answer (0, 8, 9 or 10), and the beacon that a tick makes due.
 #[derive(Clone, Copy)]
 pub struct Acted {
     pub state: State,
     pub answer: Answer,
-    pub due: Due,
+    pub due: Option<Form>,
+}
+
+impl Acted {
+    // The due beacon's number in a report.
+    pub(crate) fn due_number(self) -> u8
+        ensures { result ≡ due_number self.due }
+    {
+        match self.due {
+            None => 0,
+            Some(form) => form as u8,
+        }
+    }
 }
 
 // An answer with no beacon due.
@@ -43,6 +33,6 @@ pub(crate) fn silent(answer: Answer, state: State) -> Acted
     Acted {
         state,
         answer,
-        due: Due::Nothing,
+        due: None,
     }
 }

@@ -21,6 +21,7 @@ const MINUTE: u32 = 60;
 
 impl Mode {
     // "On" for one of the mission four while not in SAFE.
+    #[tactic(auto, unfolding(crate::specs::Command::is_ill_timed))]
     fn is_ill_timed(self, which: u8, on: bool) -> bool
         ensures { result ≡ is_ill_timed which on self }
     {
@@ -34,20 +35,13 @@ impl State {
         requires { HasMasks self }
         ensures { result ≡ order_taken which on seconds self }
     {
-        let watch = self.watch;
-        let mode = watch.mode;
-        let modules = self.modules;
-        let kept = self.masks;
-        let mut asked = modules;
-        let mut masks = kept;
-        let mut answer = Answer::NotNow;
-        if !mode.is_ill_timed(which, on) {
-            asked = modules::stage::request_one(modules, which, on);
-            masks = kept.request(one_bit(which), on);
-            self.ends = self.ends.with_end(which, seconds);
-            answer = Answer::Done;
+        if self.watch.mode.is_ill_timed(which, on) {
+            return silent(Answer::NotNow, self);
         }
-        silent(answer, self.with_modules(asked, masks))
+        self.ends = self.ends.with_end(which, seconds);
+        let modules = modules::stage::request_one(self.modules, which, on);
+        let masks = self.masks.request(one_bit(which), on);
+        silent(Answer::Done, self.with_modules(modules, masks))
     }
 
     // Thresholds: both are stored.
@@ -74,25 +68,23 @@ impl State {
     {
         match command {
             Command::Order { which, on } => self.order(which, on, 0),
-            Command::Timed { which, minutes } => self.order(which, true, MINUTE * (minutes as u32)),
+            Command::Timed { which, minutes } => self.order(which, true, MINUTE * u32::from(minutes)),
             Command::Thresholds { ascend, descend } => self.thresholds(ascend, descend),
             Command::Greeting { repeats, length } => self.greeting(repeats, length, text),
         }
     }
 
     // 8 or 9 by the serial; a fresh one is used up, and the command is taken.
+    #[tactic(auto, unfolding(crate::specs::Command::by_serial))]
     pub(crate) fn command(mut self, sender: Sender, command: Command, text: [u8; LONGEST]) -> Acted
         requires { HasMasks self }
         ensures { result ≡ by_serial sender command text self }
     {
-        let origin = sender.origin;
-        let serial = sender.serial;
-        match self.serials.class(origin, serial) {
+        match self.serials.class(sender) {
             Class::Repeat => silent(Answer::Repeat, self),
             Class::Stale => silent(Answer::Stale, self),
             Class::Fresh => {
-                let serials = self.serials.moved(origin, serial);
-                self.serials = serials;
+                self.serials = self.serials.moved(sender);
                 self.take(command, text)
             }
         }

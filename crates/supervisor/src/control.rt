@@ -1,5 +1,5 @@
 // The control stage of a tick: the mode is judged by the battery.
-ghost use Rattle.std.specs.Prelude.{◌≡◌, ◌<◌};
+ghost use Rattle.std.specs.Prelude.{◌≡◌, ◌<◌, Some};
 ghost use Rattle.supervisor.specs.State.{HasMasks};
 ghost use Rattle.supervisor.specs.Range.{judge_ticks};
 ghost use Rattle.supervisor.specs.Control.{crossing_of, crossed, controlled};
@@ -9,11 +9,9 @@ use crate::range::JUDGE_TICKS;
 use crate::state::{Battery, Mode, State};
 use modules::groups::MISSION;
 
-// How a judged mode crosses.
+// How a judged mode crosses, if it does.
 #[derive(Clone, Copy)]
 pub enum Crossing {
-    // it stays
-    Level,
     // from RECOVERY to SAFE
     Upward,
     // from SAFE to RECOVERY
@@ -22,44 +20,38 @@ pub enum Crossing {
 
 impl Mode {
     // How this mode crosses, judged by the battery. Equality crosses nothing.
-    fn crossing(self, battery: Battery) -> Crossing
+    fn crossing(self, battery: Battery) -> Option<Crossing>
         ensures { result ≡ crossing_of self battery }
     {
         match self {
-            Mode::DeployWait(_) => Crossing::Level,
-            Mode::Recovery => if battery.ascend < battery.tension {
-                Crossing::Upward
-            } else {
-                Crossing::Level
-            },
-            Mode::Safe => if battery.tension < battery.descend {
-                Crossing::Downward
-            } else {
-                Crossing::Level
-            },
+            Mode::Recovery if battery.ascend < battery.tension => Some(Crossing::Upward),
+            Mode::Safe if battery.tension < battery.descend => Some(Crossing::Downward),
+            _ => None,
         }
     }
 }
 
 impl State {
     // The state after a crossing upward.
-    fn risen(self) -> State
-        ensures { result ≡ crossed Upward self }
+    fn risen(mut self) -> State
+        ensures { result ≡ crossed (Some Upward) self }
     {
-        self.with_mode(Mode::Safe)
+        self.watch.mode = Mode::Safe;
+        self
     }
 
     // The state after a crossing downward.
     fn fallen(mut self) -> State
         requires { HasMasks self }
-        ensures { result ≡ crossed Downward self }
+        ensures { result ≡ crossed (Some Downward) self }
     {
+        self.watch.mode = Mode::Recovery;
         self.ends = modules::ends::none();
-        let moved = self.with_mode(Mode::Recovery);
-        moved.without_requests(MISSION)
+        self.without_requests(MISSION)
     }
 
     // Control.
+    #[tactic(auto, unfolding(crate::specs::Control::controlled))]
     pub(crate) fn control(mut self) -> State
         requires { (self.watch.control < judge_ticks) × HasMasks self }
         ensures { result ≡ controlled self }
@@ -70,12 +62,10 @@ impl State {
             return self;
         }
         self.watch.control = 0;
-        let watch = self.watch;
-        let mode = watch.mode;
-        match mode.crossing(self.battery) {
-            Crossing::Level => self,
-            Crossing::Upward => self.risen(),
-            Crossing::Downward => self.fallen(),
+        match self.watch.mode.crossing(self.battery) {
+            None => self,
+            Some(Crossing::Upward) => self.risen(),
+            Some(Crossing::Downward) => self.fallen(),
         }
     }
 }

@@ -7,6 +7,7 @@ use crate::state::State;
 
 impl State {
     // Ends.
+    #[tactic(auto, using(modules::proofs::StageLaws::requested_none), unfolding(crate::specs::Ending::ended))]
     pub(crate) fn end_stage(mut self) -> State
         requires { HasMasks self }
         ensures { result ≡ ended self }

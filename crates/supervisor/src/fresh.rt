@@ -23,8 +23,6 @@ pub fn fresh() -> State
         power: Power::Off(TRIES),
         requested: false,
     };
-    let all = [off; 8];
-    let modules = modules::stage::request(all, CORE, true);
     State {
         watch: Watch {
             mode: Mode::DeployWait(Phase::Waiting(0)),
@@ -48,6 +46,6 @@ pub fn fresh() -> State
         },
         message: none(),
         ends: modules::ends::none(),
-        modules,
+        modules: modules::stage::request([off; 8], CORE, true),
     }
 }

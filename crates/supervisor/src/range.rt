@@ -38,7 +38,7 @@ impl Phase {
     {
         match self {
             Phase::Waiting(waited) => waited < WAIT_SECONDS,
-            Phase::Settling(left) => (1 <= left) & (left <= SETTLE_SECONDS),
+            Phase::Settling(left) => (1..=SETTLE_SECONDS).contains(&left),
         }
     }
 }
@@ -48,13 +48,9 @@ impl Watch {
     fn in_range(self) -> bool
         ensures { result ≡ watch_in_range self.mode self.control self.beacon }
     {
-        let mode = self.mode;
-        let control = self.control;
-        let beacon = self.beacon;
-        match mode {
-            Mode::DeployWait(phase) => phase.in_range() & (control == 0) & (beacon == 0),
-            Mode::Recovery => (control < JUDGE_TICKS) & (beacon < BASIC_TICKS),
-            Mode::Safe => (control < JUDGE_TICKS) & (beacon < BASIC_TICKS),
+        match self.mode {
+            Mode::DeployWait(phase) => phase.in_range() & (self.control == 0) & (self.beacon == 0),
+            Mode::Recovery | Mode::Safe => (self.control < JUDGE_TICKS) & (self.beacon < BASIC_TICKS),
         }
     }
 }
@@ -64,8 +60,7 @@ impl Message {
     fn in_range(self) -> bool
         ensures { result ≡ message_in_range self }
     {
-        let text = self.text;
-        is_greeting(self.length, text)
+        is_greeting(self.length, self.text)
     }
 }
 
@@ -74,13 +69,8 @@ impl State {
     pub fn in_range(self) -> bool
         ensures { result ≡ in_range self }
     {
-        if !(self.watch.in_range() & self.battery.in_range() & self.ends.in_range()) {
-            return false;
-        }
-        let modules = self.modules;
-        if !modules::masks::in_range(modules, self.masks) {
-            return false;
-        }
-        self.message.in_range()
+        (self.watch.in_range() & self.battery.in_range() & self.ends.in_range())
+            && modules::masks::in_range(self.modules, self.masks)
+            && self.message.in_range()
     }
 }

@@ -9,26 +9,26 @@ use frames::frame::Frame;
 use frames::kind::REPORT;
 
 // Writes the report of a frame that was worked, with the masks that the state keeps. Bytes past it stay.
+#[tactic(auto, unfolding(crate::specs::Report::report_of))]
 pub(crate) fn write(room: &mut [u8], frame: Frame, acted: Acted)
     requires { (report_bytes ≤ length room.old) × HasMasks acted.state }
     ensures { room.new ≡ report_of frame acted ++ drop report_bytes room.old }
 {
     let head = frame.head();
-    let state = acted.state;
-    let watch = state.watch;
-    let mode = watch.mode;
-    let masks = state.masks;
-    let answer = acted.answer;
-    let due = acted.due;
-    room[0] = REPORT;
-    room[1] = head.kind;
-    room[2] = head.origin;
-    room[3] = (head.serial / 256) as u8;
-    room[4] = (head.serial % 256) as u8;
-    room[5] = answer.number();
-    room[6] = mode.number();
-    room[7] = masks.requested;
-    room[8] = masks.on;
-    room[9] = masks.failed;
-    room[10] = due.number();
+    let [high, low] = head.serial.to_be_bytes();
+    let masks = acted.state.masks;
+    let report = [
+        REPORT,
+        head.kind.number(),
+        head.origin,
+        high,
+        low,
+        acted.answer.number(),
+        acted.state.watch.mode.number(),
+        masks.requested,
+        masks.on,
+        masks.failed,
+        acted.due_number(),
+    ];
+    basics::copy(&report, room);
 }

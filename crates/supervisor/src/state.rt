@@ -1,7 +1,7 @@
 // The supervisor's state.
 ghost use Rattle.std.specs.Prelude.{◌≡◌};
 ghost use Rattle.modules.specs.Masks.{masks_of};
-ghost use Rattle.supervisor.specs.State.{mode_number, is_safe, HasMasks, with_mode, with_modules, without_requests};
+ghost use Rattle.supervisor.specs.State.{mode_number, is_safe, HasMasks, with_modules, without_requests};
 
 use frames::greeting::LONGEST;
 use frames::serial::Serials;
@@ -81,28 +81,11 @@ impl Mode {
     pub(crate) fn is_safe(self) -> bool
         ensures { result ≡ is_safe self }
     {
-        match self {
-            Mode::DeployWait(_) => false,
-            Mode::Recovery => false,
-            Mode::Safe => true,
-        }
+        matches!(self, Mode::Safe)
     }
 }
 
 impl State {
-    // The state in another mode.
-    pub(crate) fn with_mode(mut self, mode: Mode) -> State
-        ensures { result ≡ with_mode mode self }
-    {
-        let watch = Watch {
-            mode,
-            control: self.watch.control,
-            beacon: self.watch.beacon,
-        };
-        self.watch = watch;
-        self
-    }
-
     // The state with other modules, and the masks that are theirs.
     pub(crate) fn with_modules(mut self, modules: [Module; 8], masks: Masks) -> State
         requires { masks ≡ masks_of modules }
@@ -120,9 +103,7 @@ impl State {
         ensures { result ≡ without_requests mask self }
     {
         let asked = self.masks.requested & mask;
-        let modules = self.modules;
-        let next = modules::stage::request(modules, asked, false);
-        let masks = self.masks.request(asked, false);
-        self.with_modules(next, masks)
+        let modules = modules::stage::request(self.modules, asked, false);
+        self.with_modules(modules, self.masks.request(asked, false))
     }
 }

@@ -9,7 +9,7 @@ use crate::state::State;
 use frames::answer::Answer;
 use frames::greeting::text_of;
 use frames::kind::REPORT_BYTES;
-use frames::reading::{Reading, read};
+use frames::reading::read;
 
 // The answer, and the next state.
 #[derive(Clone, Copy)]
@@ -35,20 +35,15 @@ pub fn step(state: State, input: &[u8], room: &mut [u8]) -> Stepped
             state,
         };
     }
-    let reading = read(input);
-    match reading {
-        Reading::Refused(answer) => {
-            return Stepped { answer, state };
-        }
-        Reading::Accepted(frame) => {
+    match read(input) {
+        Err(answer) => Stepped { answer, state },
+        Ok(frame) => {
             let acted = act(state, frame, text_of(input));
             write(room, frame, acted);
-            let answer = acted.answer;
-            let next = acted.state;
-            return Stepped {
-                answer,
-                state: next,
-            };
+            Stepped {
+                answer: acted.answer,
+                state: acted.state,
+            }
         }
     }
 }

@@ -25,6 +25,7 @@ impl Mode {
 
 impl State {
     // The state as the module stage finds it: after ends and control.
+    #[tactic(auto, unfolding(crate::specs::Tick::before_modules, crate::specs::Ending::ended))]
     fn before_modules(self) -> State
         requires { (self.watch.control < judge_ticks) × HasMasks self }
         ensures { result ≡ before_modules self }
@@ -37,18 +38,14 @@ impl State {
         requires { HasMasks self }
         ensures { result ≡ module_stage shorts self }
     {
-        let watch = self.watch;
-        let mode = watch.mode;
         let requested = self.masks.requested;
-        let modules = self.modules;
-        let after = modules::stage::stage(modules, requested & mode.allowed(), shorts);
+        let after = modules::stage::stage(self.modules, requested & self.watch.mode.allowed(), shorts);
         let masks = Masks {
             requested,
             on: after.on,
             failed: after.failed,
         };
-        let next = after.modules;
-        self.with_modules(next, masks)
+        self.with_modules(after.modules, masks)
     }
 
     // One second, with the mask of the shorts seen in it.
@@ -56,19 +53,12 @@ impl State {
         requires { in_range self ≡ true }
         ensures { result ≡ ticked shorts self }
     {
-        let watch = self.watch;
-        let mode = watch.mode;
-        match mode {
+        match self.watch.mode {
             Mode::DeployWait(phase) => {
-                let next = phase.tick(self.antennas);
-                self = self.with_mode(next);
+                self.watch.mode = phase.tick(self.antennas);
                 silent(Answer::Done, self)
             }
-            _ => {
-                let judged = self.before_modules();
-                let switched = judged.module_stage(shorts);
-                switched.beacon_stage()
-            }
+            _ => self.before_modules().module_stage(shorts).beacon_stage(),
         }
     }
 }

@@ -7,6 +7,7 @@ use mathlib.Core.Path.{◌≡◌, refl, ap}
 use mathlib.Core.List.{List, [], ◌∷◌}
 use lib.Dec.{lit≤}
 use lib.ListN.{length, replicate}
+use Rattle.std.specs.Prelude.{Result}
 use Rattle.basics.specs.Outcome.{Outcome}
 use Rattle.modules.specs.Masks.{masks_of}
 use Rattle.supervisor.specs.Fresh.{fresh_state}
@@ -19,13 +20,13 @@ use Rattle.morse.specs.Signs.{alphabet, sign_of}
 use Rattle.morse.specs.Units.{units_of}
 use Rattle.beacon.specs.Text.{basic_text, complete_text, message_text, extended_text}
 use Rattle.beacon.specs.Writing.{beacon_of, written_reply}
-use Rattle.beacon.specs.declared.text.Form.TheVariants.{Basic, Complete, Extended}
-use Rattle.beacon.specs.declared.writing.Written.{Written}
+use Rattle.supervisor.specs.declared.form.Form.TheVariants.{Basic, Complete, Extended}
+use Rattle.beacon.specs.declared.writing.WriteFault.{WriteFault}
 use Rattle.promises.specs.OnTheGround.{HeardWith, Tells}
 use Rattle.promises.proofs.Edge.Flights.{quiet, comm2_off, greeting, hi, send}
 
 -- the number that writing answers
-abbrev number : Outcome Written → ℕ
+abbrev number : Outcome (Result ℕ WriteFault) → ℕ
 number o = (written_reply o.result).number
 
 -- the fresh board's basic text into a page of 9 bytes is refused with 14

@@ -20,7 +20,7 @@ use Rattle.hearing.specs.Reading.{Keys, Read, read_text}
 use Rattle.hearing.proofs.ReadBack.{same_keying}
 use Rattle.beacon.specs.Text.{basic_text}
 use Rattle.beacon.specs.Writing.{beacon_of}
-use Rattle.beacon.specs.declared.text.Form.TheVariants.{Basic}
+use Rattle.supervisor.specs.declared.form.Form.TheVariants.{Basic}
 use Rattle.promises.specs.Refusals.{UntouchedTo, UnmovedTo, TenIn, KeyingFrom, ReadingFrom, BeaconFrom}
 use Rattle.promises.proofs.Edge.Flights.{camera_off, camera_on, to_recovery, send, sent}
 

@@ -16,19 +16,19 @@ use Rattle.beacon.proofs.writing.write.Goals as goal
 pub returns-then-not-in_range : goal.returns-then-not-in_range
 returns-then-not-in_range c = beacon_outside _ _ _ (sym c.in_range.ensures ∙ c.if-not-in_range.true)
 
-pub returns-then-not-is_had : goal.returns-then-not-is_had
-returns-then-not-is_had c =
-    beacon_silent _ _ _ (sym c.in_range.ensures ∙ c.if-not-in_range.false) (sym c.is_had.ensures ∙ c.if-not-is_had.true)
+pub returns-then-not-has_text : goal.returns-then-not-has_text
+returns-then-not-has_text c =
+    beacon_silent _ _ _ (sym c.in_range.ensures ∙ c.if-not-in_range.false) (sym c.has_text.ensures ∙ c.if-not-has_text.true)
 
 pub returns-then-text-n : goal.returns-then-text-n
 returns-then-text-n c =
     let a = c.args in
     let e : in_range a.state ≡ true = sym c.in_range.ensures ∙ c.if-not-in_range.false in
-    let told : has_text a.form a.state.message.length ≡ true = sym c.is_had.ensures ∙ c.if-not-is_had.false in
-    beacon_short _ _ _ e told (omega (arith, text_length a.state (message_fair a.state (holds _ e)) a.form, c.bytes-n.ensures))
+    let told : has_text a.form a.state.message.length ≡ true = sym c.has_text.ensures ∙ c.if-not-has_text.false in
+    beacon_short _ _ _ e told (omega (arith, text_length a.state (message_fair a.state (holds _ e)) a.form, c.form_bytes-n.ensures))
 
-pub full_text-all-requires : goal.full_text-all-requires
-full_text-all-requires c =
+pub full_text-requires : goal.full_text-requires
+full_text-requires c =
     let s = c.args.state in
     let e : in_range s ≡ true = sym c.in_range.ensures ∙ c.if-not-in_range.false in
     (parts s (holds _ e)).masks
@@ -37,18 +37,18 @@ pub slice_bounds-copy-end : goal.slice_bounds-copy-end
 slice_bounds-copy-end c =
     let a = c.args in
     let e : in_range a.state ≡ true = sym c.in_range.ensures ∙ c.if-not-in_range.false in
-    omega (arith, form_most a.form a.state.message.length (message_fair a.state (holds _ e)).most, c.bytes-n.ensures)
+    omega (arith, form_most a.form a.state.message.length (message_fair a.state (holds _ e)).most, c.form_bytes-n.ensures)
 
 pub returns : goal.returns
 returns c =
     let copy = c.copy.ensures in
     let a = c.args in
     let e : in_range a.state ≡ true = sym c.in_range.ensures ∙ c.if-not-in_range.false in
-    let told : has_text a.form a.state.message.length ≡ true = sym c.is_had.ensures ∙ c.if-not-is_had.false in
+    let told : has_text a.form a.state.message.length ≡ true = sym c.has_text.ensures ∙ c.if-not-has_text.false in
     let f = message_fair a.state (holds _ e) in
-    let n : c.bytes-n.result - 0 ≡ form_bytes a.form a.state.message.length = omega (arith, c.bytes-n.ensures) in
+    let n : c.form_bytes-n.result - 0 ≡ form_bytes a.form a.state.message.length = omega (arith, c.form_bytes-n.ensures) in
     let src =
-    ap (take (c.bytes-n.result - 0)) c.full_text-all.ensures
+    ap (take (c.form_bytes-n.result - 0)) c.full_text.ensures
     ∙ ap (λ k. take k (full_text a.state)) n
     ∙ text_front a.state f a.form in
-    beacon_copied _ _ _ e told _ src (omega (arith, text_length a.state f a.form, c.bytes-n.ensures)) copy.0 copy.1
+    beacon_copied _ _ _ e told _ src (omega (arith, text_length a.state f a.form, c.form_bytes-n.ensures)) copy.0 copy.1

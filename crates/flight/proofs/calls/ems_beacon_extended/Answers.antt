@@ -1,7 +1,7 @@
--- `flight::calls::ems_beacon_extended` meets its contract: the answer by the page's number and length.
-use Rattle.beacon.specs.Writing.{written_reply}
-use Rattle.flight.proofs.CallsLaws.{replied_by}
+-- `flight::calls::ems_beacon_extended` meets its contract: what writing gave, told by its number and its length.
+use Rattle.beacon.specs.Writing.{fault_number, written_reply}
+use Rattle.flight.proofs.CallsLaws.{told_by, written_told}
 use Rattle.flight.proofs.calls.ems_beacon_extended.Goals as goal
 
 pub returns : goal.returns
-returns c = replied_by written_reply c.number.ensures c.count.ensures c.write_beacon-written.ensures
+returns c = told_by fault_number written_reply written_told c.tell.ensures c.write_beacon.ensures

@@ -13,7 +13,7 @@ pub returns-then-n-eq0 : goal.returns-then-n-eq0
 returns-then-n-eq0 c =
     let args = c.args in
     let sixteen : length args.text ≡ longest_greeting = search rules in
-    c.is_empty.ensures ∙ no_characters args.text sixteen ∙ ap (λ n. is_greeting n args.text) (sym c.if-n-eq0.true)
+    c.is_blank.ensures ∙ no_characters args.text sixteen ∙ ap (λ n. is_greeting n args.text) (sym c.if-n-eq0.true)
 
 pub slice_bounds-fault_of-end : goal.slice_bounds-fault_of-end
 slice_bounds-fault_of-end c = sym (length-take-le c.args.length c.args.text (omega arith))
@@ -23,7 +23,7 @@ returns-then-is_ok c =
     let args = c.args in
     by_text _ args.text true _ (search rules) c.if-n-gt-LONGEST.false
     (sym c.if-is_ok.true ∙ c.is_ok.ensures.value ∙ ap is_ok c.fault_of.ensures)
-    (c.is_blank.ensures ∙ ap all_zero (take_all (longest_greeting - args.length) (drop args.length args.text) (rw (length-drop args.length args.text) (omega arith))))
+    (c.is_blank-then-is_ok.ensures ∙ ap all_zero (take_all (longest_greeting - args.length) (drop args.length args.text) (rw (length-drop args.length args.text) (omega arith))))
 
 pub returns-else-is_ok : goal.returns-else-is_ok
 returns-else-is_ok c =

@@ -7,4 +7,4 @@ use Rattle.supervisor.proofs.fresh.fresh.Goals as goal
 
 pub returns : goal.returns
 unfolding fresh_state masks_of mask_of requested_by each each_from
-returns c = simp (c.none-2.ensures, c.none.ensures, c.request-modules.ensures)
+returns c = simp (c.none-2.ensures, c.none.ensures, c.request.ensures)

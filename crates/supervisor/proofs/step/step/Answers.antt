@@ -1,10 +1,10 @@
 -- `step` meets its contract.
 use mathlib.Core.Path.{◌≡◌}
 use mathlib.Core.Bool.{true}
+use Rattle.std.specs.Prelude.{Ok}
 use Rattle.basics.proofs.ChoiceLaws.{holds}
 use Rattle.frames.specs.Greeting.{greeting_text}
 use Rattle.frames.specs.Reading.{read_frame}
-use Rattle.frames.specs.declared.reading.Reading.TheVariants.{Accepted}
 use Rattle.frames.proofs.ReadingLaws.{read_sound}
 use Rattle.supervisor.specs.State.{HasMasks}
 use Rattle.supervisor.proofs.RangeKept.{acted_masks}
@@ -33,24 +33,24 @@ pub write-requires : goal.write-requires
 write-requires c =
     let s = c.args.state in
     let bytes = c.args.input.now in
-    let accepted : read_frame bytes ≡ Accepted _ = rw c.read-reading.ensures at c.in-Accepted.is in
+    let accepted : read_frame bytes ≡ Ok _ = rw c.read.ensures at c.in-Ok.is in
     let true_masks : HasMasks c.act-acted.result.state =
     rw (c.act-acted.ensures, c.text_of.ensures)
     (acted_masks _ (greeting_text bytes) (rw accepted at (read_sound bytes)) s (holds (in_range s) (valid (goal.at.write-requires c).Else-not-in_range))) in
     (c.if-room-lt-REPORT_BYTES.false, true_masks)
 
-pub returns-in-Refused : goal.returns-in-Refused
+pub returns-in-Err : goal.returns-in-Err
 unfolding step_of
-returns-in-Refused c =
-    simp (valid (goal.at.returns-in-Refused c).Else-not-in_range, le-leb _ _ c.if-room-lt-REPORT_BYTES.false, rw c.read-reading.ensures at c.in-Refused.is)
+returns-in-Err c =
+    simp (valid (goal.at.returns-in-Err c).Else-not-in_range, le-leb _ _ c.if-room-lt-REPORT_BYTES.false, rw c.read.ensures at c.in-Err.is)
 
-pub returns-in-Accepted : goal.returns-in-Accepted
+pub returns-in-Ok : goal.returns-in-Ok
 unfolding step_of
-returns-in-Accepted c =
+returns-in-Ok c =
     simp (
-      valid (goal.at.returns-in-Accepted c).Else-not-in_range,
+      valid (goal.at.returns-in-Ok c).Else-not-in_range,
       le-leb _ _ c.if-room-lt-REPORT_BYTES.false,
-      rw c.read-reading.ensures at c.in-Accepted.is,
+      rw c.read.ensures at c.in-Ok.is,
       c.write.ensures,
       c.act-acted.ensures,
       c.text_of.ensures,

@@ -8,43 +8,26 @@ use Rattle.supervisor.specs.Command.{request_set}
 use Rattle.supervisor.proofs.ModuleLaws.{Eight}
 use borrow.Author.Rules.{rules}
 use Rattle.supervisor.proofs.state.State.order.Goals as goal
-use Rattle.supervisor.proofs.state.State.order.Goals.{then-not-is_ill_timed, else-not-is_ill_timed}
+
+pub returns-then-is_ill_timed : goal.returns-then-is_ill_timed
+returns-then-is_ill_timed c = simp (c.silent.ensures, sym c.is_ill_timed.ensures ∙ c.if-is_ill_timed.true)
 
 pub with_modules-requires : goal.with_modules-requires
 with_modules-requires c =
     let s = c.args.self in
     let eight : Eight s = search (rules, length_mapped) in
-    elim c.if-not-is_ill_timed.branch [
-      | then-not-is_ill_timed w ↦
-          w.masks-is ∙ w.request-masks.ensures
-          ∙ ap (λ (n : ℕ). requests_set n c.args.on s.masks) w.one_bit.ensures
-          ∙ masks_asked_one c.args.which c.args.on s.modules s.masks eight c.requires
-          ∙ ap masks_of (sym (w.asked-is ∙ w.request_one-asked.ensures))
-      | else-not-is_ill_timed w ↦ w.masks-is ∙ c.requires ∙ ap masks_of (sym w.asked-is)
-    ]
+    c.request-masks.ensures
+    ∙ ap (λ (n : ℕ). requests_set n c.args.on s.masks) c.one_bit.ensures
+    ∙ masks_asked_one c.args.which c.args.on s.modules s.masks eight c.requires
+    ∙ ap masks_of (sym c.request_one-modules.ensures)
 
 pub returns : goal.returns
 unfolding request_set
 returns c =
-    let judged = c.is_ill_timed in
-    elim c.if-not-is_ill_timed.branch [
-      | then-not-is_ill_timed w ↦ simp (
-        c.silent.ensures,
-        c.with_modules.ensures,
-        w.request_one-asked.ensures,
-        w.with_end-self.ensures,
-        w.self-is,
-        w.asked-is,
-        w.answer-is,
-        sym judged.ensures ∙ w.if-not-is_ill_timed.true,
-      )
-      | else-not-is_ill_timed w ↦ simp (
-        c.silent.ensures,
-        c.with_modules.ensures,
-        w.self-is,
-        w.asked-is,
-        w.answer-is,
-        sym c.requires,
-        sym judged.ensures ∙ w.if-not-is_ill_timed.false,
-      )
-    ]
+    simp (
+      c.silent-2.ensures,
+      c.with_modules.ensures,
+      c.request_one-modules.ensures,
+      c.with_end-self.ensures,
+      sym c.is_ill_timed.ensures ∙ c.if-is_ill_timed.false,
+    )

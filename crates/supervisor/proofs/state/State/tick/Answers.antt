@@ -24,33 +24,33 @@ flies Safe h = refl
 in_flight : (c : In_default) → is_deploy_wait c.args.self.watch.mode ≡ false
 in_flight c = flies c.args.self.watch.mode c.in_default.not-DeployWait
 
-pub tick-next-requires : goal.tick-next-requires
-tick-next-requires c =
+pub tick-self-requires : goal.tick-self-requires
+tick-self-requires c =
     let s : State = c.args.self in
     is_true _
     (phase_in_range_law c.in-DeployWait.phase s.watch.control s.watch.beacon
     (rw c.in-DeployWait.is at (parts s (holds (in_range s) c.requires)).watch))
 
-pub before_modules-judged-requires : goal.before_modules-judged-requires
-before_modules-judged-requires c =
+pub before_modules-requires : goal.before_modules-requires
+before_modules-requires c =
     let s : State = c.args.self in
     let valid = holds (in_range s) c.requires in
     ((counts_of s valid (in_flight c)).control, (parts s valid).masks)
 
-pub module_stage-switched-requires : goal.module_stage-switched-requires
-module_stage-switched-requires c = rw c.before_modules-judged.ensures (before_masks c.args.self)
+pub module_stage-requires : goal.module_stage-requires
+module_stage-requires c = rw c.before_modules.ensures (before_masks c.args.self)
 
 pub beacon_stage-requires : goal.beacon_stage-requires
 beacon_stage-requires c =
     let s : State = c.args.self in
-    rw (c.module_stage-switched.ensures, c.before_modules-judged.ensures, staged_beacon)
+    rw (c.module_stage.ensures, c.before_modules.ensures, staged_beacon)
     (counts_of s (holds (in_range s) c.requires) (in_flight (goal.at.beacon_stage-requires c).In_default)).beacon
 
 pub returns-in-DeployWait : goal.returns-in-DeployWait
 unfolding ticked
-returns-in-DeployWait c = simp (c.silent.ensures, c.with_mode-self.ensures, c.tick-next.ensures, c.in-DeployWait.is)
+returns-in-DeployWait c = simp (c.silent.ensures, c.tick-self.ensures, c.in-DeployWait.is)
 
 pub returns-in_default : goal.returns-in_default
 returns-in_default c =
-    simp (c.beacon_stage.ensures, c.module_stage-switched.ensures, c.before_modules-judged.ensures)
+    simp (c.beacon_stage.ensures, c.module_stage.ensures, c.before_modules.ensures)
     (ticked_stages _ c.args.self (in_flight (goal.at.returns-in_default c).In_default))

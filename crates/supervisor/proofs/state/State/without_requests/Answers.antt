@@ -20,9 +20,9 @@ with_modules-requires c =
     let eight : Eight s = search (rules, length_mapped) in
     let low : c.args.mask < 256 = search rules in
     let small : bit_and s.masks.requested c.args.mask < 256 = omega (arith, and_le_r s.masks.requested c.args.mask) in
-    c.request-masks.ensures
+    c.request.ensures
     ∙ masks_asked _ false s.modules s.masks eight small c.requires
-    ∙ ap masks_of (sym c.request-next.ensures)
+    ∙ ap masks_of (sym c.request-modules.ensures)
 
 pub returns : goal.returns
 returns c =
@@ -30,4 +30,4 @@ returns c =
     let mask = c.args.mask in
     c.with_modules.ensures
     ∙ ap (λ ms. with_modules ms s)
-    (c.request-next.ensures ∙ ap (λ (masks : Masks). requested_by (bit_and masks.requested mask) false s.modules) c.requires ∙ requested_off mask s.modules)
+    (c.request-modules.ensures ∙ ap (λ (masks : Masks). requested_by (bit_and masks.requested mask) false s.modules) c.requires ∙ requested_off mask s.modules)

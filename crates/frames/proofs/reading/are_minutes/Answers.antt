@@ -1,6 +1,0 @@
--- `are_minutes` meets its contract: its test is that of the definition.
-use Rattle.std.proofs.Common.{refl}
-use Rattle.frames.proofs.reading.are_minutes.Goals as goal
-
-pub returns : goal.returns
-returns c = refl

@@ -1,6 +1,0 @@
--- `is_reading` meets its contract: its test is that of the definition.
-use Rattle.std.proofs.Common.{refl}
-use Rattle.frames.proofs.reading.is_reading.Goals as goal
-
-pub returns : goal.returns
-returns c = refl

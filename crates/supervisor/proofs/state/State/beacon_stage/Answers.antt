@@ -1,8 +1,0 @@
--- `State::beacon_stage` meets its contract.
-use Rattle.supervisor.specs.Due.{beacon_stage}
-use Rattle.supervisor.proofs.state.State.beacon_stage.Goals as goal
-
-pub returns : goal.returns
-unfolding beacon_stage
-returns c =
-    simp (c.repeats-left.ensures, c.count-after.ensures, c.due-due.ensures, c.is_to_be_sent.ensures)
