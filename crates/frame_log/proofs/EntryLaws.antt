@@ -1,6 +1,6 @@
 -- Laws of entries: what an entry counts lies within the bytes and the room.
 -- Assumes nothing.
-use Rattle.std.proofs.Common.{◌≡◌, ℕ, ◌<◌, ◌≤◌, Bool, true, false, leb, Option, Some, List, length, take, replicate, Result, Ok, Err, refl, le_refl, arith, length-append, length-drop, length-take-le, leb-true}
+use Rattle.std.proofs.Common.{◌≡◌, ℕ, ◌<◌, ◌≤◌, Bool, true, false, leb, Option, Some, List, length, take, replicate, Result, Ok, Err, refl, sym, le_refl, arith, length-append, length-drop, length-take-le, leb-true}
 use Rattle.basics.specs.Outcome.{Outcome, outcome, written}
 use Rattle.basics.proofs.ChoiceLaws.{either, decided}
 use Rattle.frames.specs.Answer.{is_reported}
@@ -110,9 +110,9 @@ enter_length log bytes ended room =
     either (λ (o : Outcome Entered). length o.room ≡ length room) (leb longest (length room))
     {x = entered_at (cut_of bytes) log bytes ended room} (entered_length log room (cut_of bytes) bytes ended) refl
 
--- a whole frame at the front
-pub frame_within : (bytes : List ℕ) (total : ℕ) → cut_of bytes ≡ Ok total → total ≤ length bytes
-frame_within bytes total e = (rw e at (cut_within bytes)).1
+-- a whole frame at the front has all its bytes
+pub frame_whole : (bytes : List ℕ) (total : ℕ) → cut_of bytes ≡ Ok total → total ≡ length (take total bytes)
+frame_whole bytes total e = sym (length-take-le total bytes (rw e at (cut_within bytes)).1)
 
 -- what an entry counts, where the stream and the room are parts
 module _ (log : Log) (bytes : List ℕ) (ended : Bool) (room : List ℕ) {entered : Entered} {later : List ℕ} where

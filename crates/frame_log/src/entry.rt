@@ -86,7 +86,7 @@ fn work(log: Log, frame: &[u8], room: &mut [u8]) -> Entered
 
 // Enters the frame at the front of the bytes, which are the last of the stream if it has ended. A frame that is
 // cut off there, like one of unknown kind, is handed over as it is, to be refused.
-#[tactic(auto, using(crate::proofs::EntryLaws::frame_within), unfolding(crate::specs::Entry::enter_of))]
+#[tactic(auto, using(crate::proofs::EntryLaws::frame_whole), unfolding(crate::specs::Entry::enter_of))]
 pub fn enter(log: Log, bytes: &[u8], ended: bool, room: &mut [u8]) -> Entered
     ensures { outcome result room.new ≡ enter_of log bytes.now ended room.old }
 {
