@@ -9,7 +9,6 @@ use crate::fields::{pair_at, quad_at};
 use crate::saving::{
     ENDS_PLACE, Image, MASKS_PLACE, MESSAGE_PLACE, MODULE_COUNT, MODULES_PLACE, TEXT_PLACE, VERSION,
 };
-use frames::greeting::LONGEST;
 use frames::serial::Serials;
 use modules::ends::Ends;
 use modules::masks::Masks;
@@ -30,12 +29,10 @@ const BLANK: Module = Module {
 fn message_in(image: &Image) -> Message
     ensures { result ≡ message_in image.now }
 {
-    let mut text = [0; LONGEST];
-    text.copy_from_slice(&image[TEXT_PLACE..ENDS_PLACE]);
     Message {
         repeats: image[MESSAGE_PLACE],
         length: image[MESSAGE_PLACE + 1],
-        text,
+        text: image[TEXT_PLACE..ENDS_PLACE].try_into().unwrap(),
     }
 }
 
