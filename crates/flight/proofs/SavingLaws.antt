@@ -1,6 +1,6 @@
 -- Laws of saving: an image's length, the ranges of what it holds, and how it is stored part by part.
 -- Assumes nothing.
-use Prim.Native.Nat.{ℕ, zero, suc, ◌+◌, ◌-◌, ◌*◌, ◌%◌, ◌<◌, ◌≤◌}
+use Prim.Native.Nat.{ℕ, zero, suc, ◌+◌, ◌-◌, ◌*◌, ◌/◌, ◌%◌, ◌<◌, ◌≤◌}
 use native.Mathlib.Omega.{arith}
 use native.Mathlib.Nat.{le_of_suc-le-suc, not-suc-le-zero}
 use native.Mathlib.Numerals.{add-one}
@@ -10,7 +10,7 @@ use mathlib.Core.List.{List, [], ◌∷◌, ◌++◌, append-nil, append_assoc}
 use lib.Dec.{T}
 use lib.ListN.{length, get_or, take, drop, length-append, drop_of_length-le}
 use lib.Seq.{sets, sets-eq, take-length, drop-cons, drop-drop}
-use Rattle.std.specs.Int.{w16, to_le_bytes}
+use Rattle.std.specs.Int.{w16, w32, to_le_bytes}
 use Rattle.basics.proofs.ChoiceLaws.{holds, is_true, and_left, and_right}
 use Rattle.basics.proofs.Stores.{sets_append, sets_front}
 use Rattle.modules.specs.Power.{power_in_range}
@@ -24,7 +24,7 @@ use Rattle.supervisor.specs.declared.state.State.{State}
 use Rattle.supervisor.proofs.ModuleLaws.{Eight}
 use Rattle.supervisor.proofs.RangeLaws.{parts, phase_in_range_law}
 use Rattle.supervisor.proofs.MessageLaws.{message_fair}
-use Rattle.flight.specs.Fields.{pair_bytes}
+use Rattle.flight.specs.Fields.{pair_bytes, quad_bytes}
 use Rattle.flight.specs.Codes.{safe_code, mode_code, module_code}
 use Rattle.flight.specs.Saving.{image_bytes, message_place, ends_place, masks_place, modules_place}
 use Rattle.flight.specs.Saving.{message_bytes, ends_bytes, masks_bytes, modules_bytes, head_bytes, saved}
@@ -91,9 +91,12 @@ module_in_range (m ∷ ms) (suc i) d h r = module_in_range ms i d (le_of_suc-le-
 
 -- storing, part by part
 
--- two bytes of a number that are had of it as one of 16 bits
+-- two bytes of a number that are had of it as one of 16 bits, and four as one of 32
 pub pair_of : (n : ℕ) → n < 65536 → to_le_bytes w16 n ≡ pair_bytes n
 pair_of n h = ap (λ high. n % 256 ∷ high ∷ []) (omega arith)
+
+pub quad_of : (n : ℕ) → n < 4294967296 → to_le_bytes w32 n ≡ quad_bytes n
+quad_of n h = ap (λ high. n % 256 ∷ n / 256 % 256 ∷ n / 65536 % 256 ∷ high ∷ []) (omega arith)
 
 -- a module's bytes, and then those of the modules after it
 pub stored_turn :

@@ -48,12 +48,11 @@ pub extern "C" fn ems_step(image: &mut [u8], frame: &[u8], room: &mut [u8]) -> u
         return Answer::BadState.number();
     };
     let after = supervisor::step::step(state, frame, room);
-    let answer = after.answer;
-    let reported = answer.is_reported();
+    let reported = after.answer.is_reported();
     if reported {
         save(after.state, image);
     }
-    answer.number()
+    after.answer.number()
 }
 
 // Takes a whole pass, frames end to end: the image becomes the state's after the last that has a report, the room holds
@@ -73,12 +72,11 @@ pub extern "C" fn ems_pass(
         return Answer::BadState.number();
     };
     let passed = pass::pass(state, frames, room);
-    let answer = passed.answer;
     *reported = passed.reported;
     if 0 < passed.reported {
         save(passed.state, image);
     }
-    answer.number()
+    passed.answer.number()
 }
 
 // Tells how many modules are on in an image's state.

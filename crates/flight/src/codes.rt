@@ -57,7 +57,8 @@ fn power_code(power: Power) -> u16
     ensures { result ≡ power_code power }
 {
     match power {
-        Power::On { tries, seconds } => u16::from(tries - 1) * u16::from(CLEAN) + u16::from(seconds),
+        Power::On { tries, seconds } => u16::from(tries - 1) * u16::from(CLEAN)
+            + u16::from(seconds),
         Power::Off(tries) => ALL_TRIES + u16::from(tries),
         Power::Failed(left) => FAILED + left,
     }

@@ -1,31 +1,28 @@
-// Numbers of more bytes than one, in an image: the low byte first.
-ghost use Rattle.std.specs.Prelude.{◌≡◌, ◌+◌, ◌≤◌};
+// Numbers of more bytes than one: the low byte first.
+ghost use Rattle.std.specs.Prelude.{◌≡◌, ◌+◌, ◌≤◌, length};
 ghost use Rattle.std.proofs.lemmas.List.Edits.{sets};
 ghost use Rattle.flight.specs.Fields.{pair_at, quad_at};
-ghost use Rattle.flight.specs.Saving.{image_bytes};
-
-use crate::saving::Image;
 
 // The number whose two bytes stand from a place on.
-pub(crate) fn pair_at(image: &Image, at: usize) -> u16
-    requires { at + 2 ≤ image_bytes }
-    ensures { result ≡ pair_at at image.now }
+pub(crate) fn pair_at(bytes: &[u8], at: usize) -> u16
+    requires { at + 2 ≤ length bytes.now }
+    ensures { result ≡ pair_at at bytes.now }
 {
-    u16::from_le_bytes([image[at], image[at + 1]])
+    u16::from_le_bytes([bytes[at], bytes[at + 1]])
 }
 
 // The number whose four bytes stand from a place on.
-pub(crate) fn quad_at(image: &Image, at: usize) -> u32
-    requires { at + 4 ≤ image_bytes }
-    ensures { result ≡ quad_at at image.now }
+pub(crate) fn quad_at(bytes: &[u8], at: usize) -> u32
+    requires { at + 4 ≤ length bytes.now }
+    ensures { result ≡ quad_at at bytes.now }
 {
-    u32::from_le_bytes([image[at], image[at + 1], image[at + 2], image[at + 3]])
+    u32::from_le_bytes([bytes[at], bytes[at + 1], bytes[at + 2], bytes[at + 3]])
 }
 
 // Stores bytes from a place on.
-pub(crate) fn put<const N: usize>(image: &mut Image, at: usize, bytes: [u8; N])
-    requires { at + N ≤ image_bytes }
-    ensures { image.new ≡ sets image.old at bytes.entry }
+pub(crate) fn put<const N: usize>(bytes: &mut [u8], at: usize, part: [u8; N])
+    requires { at + N ≤ length bytes.old }
+    ensures { bytes.new ≡ sets bytes.old at part.entry }
 {
-    image[at..at + N].copy_from_slice(&bytes);
+    bytes[at..at + N].copy_from_slice(&part);
 }

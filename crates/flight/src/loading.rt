@@ -1,6 +1,7 @@
 // The state of an image: what its fields say, each number by itself.
 // Numbers that no state in range has make a state out of range, which `step` and the beacon refuse.
-ghost use Rattle.std.specs.Prelude.{◌≡◌};
+ghost use Rattle.std.specs.Prelude.{◌≡◌, length};
+ghost use Rattle.flight.specs.Saving.{image_bytes};
 ghost use Rattle.flight.specs.Loading.{message_in, ends_in, modules_in, decoded, fields_say};
 
 use crate::codes::{mode_from, module_from};
@@ -8,24 +9,30 @@ use crate::fields::{pair_at, quad_at};
 use crate::saving::{
     ENDS_PLACE, Image, MASKS_PLACE, MESSAGE_PLACE, MODULE_COUNT, MODULES_PLACE, TEXT_PLACE, VERSION,
 };
-use frames::greeting::LONGEST;
 use frames::serial::Serials;
 use modules::ends::Ends;
 use modules::masks::Masks;
 use modules::power::{Module, Power};
 use supervisor::state::{Battery, Message, State, Watch};
 
+// A module that stands for none.
+const BLANK: Module = Module {
+    power: Power::On {
+        tries: 0,
+        seconds: 0,
+    },
+    requested: false,
+};
+
 // The message of an image.
 #[tactic(auto, unfolding(crate::specs::Loading::message_in))]
 fn message_in(image: &Image) -> Message
     ensures { result ≡ message_in image.now }
 {
-    let mut text = [0; LONGEST];
-    text.copy_from_slice(&image[TEXT_PLACE..ENDS_PLACE]);
     Message {
         repeats: image[MESSAGE_PLACE],
         length: image[MESSAGE_PLACE + 1],
-        text,
+        text: image[TEXT_PLACE..ENDS_PLACE].try_into().unwrap(),
     }
 }
 
@@ -46,11 +53,16 @@ fn ends_in(image: &Image) -> Ends
 fn modules_in(image: &Image) -> [Module; MODULE_COUNT]
     ensures { result ≡ modules_in image.now }
 {
-    std::array::from_fn(|i| module_from(pair_at(image, MODULES_PLACE + 2 * i)))
+    let mut modules = [BLANK; MODULE_COUNT];
+    for i in 0..MODULE_COUNT {
+        modules[i] = module_from(pair_at(image, MODULES_PLACE + 2 * i));
+    }
+    modules
 }
 
-// The state that the fields of an image say, in range or not.
+// The state that the fields of an image say, in range or not. Each call that loads has `load` in it, and this once for all.
 #[tactic(auto, unfolding(crate::specs::Loading::decoded, crate::specs::Loading::masks_in))]
+#[inline(never)]
 fn decode(image: &Image) -> State
     ensures { result ≡ decoded image.now }
 {

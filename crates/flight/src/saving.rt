@@ -75,41 +75,17 @@ fn head(state: State) -> [u8; MESSAGE_PLACE]
     ]
 }
 
-// Stores the message.
-#[tactic(auto, unfolding(crate::specs::Saving::message_bytes))]
-fn put_message(message: Message, image: &mut Image)
-    ensures { image.new ≡ sets image.old message_place (message_bytes message) }
-{
-    put(image, MESSAGE_PLACE, [message.repeats, message.length]);
-    put(image, TEXT_PLACE, message.text);
-}
-
-// Stores the four ends.
-#[tactic(auto, unfolding(crate::specs::Saving::ends_bytes))]
-fn put_ends(ends: Ends, image: &mut Image)
-    ensures { image.new ≡ sets image.old ends_place (ends_bytes ends) }
-{
-    put(image, ENDS_PLACE, ends.adcs.to_le_bytes());
-    put(image, ENDS_PLACE + 4, ends.payload.to_le_bytes());
-    put(image, ENDS_PLACE + 8, ends.sband1.to_le_bytes());
-    put(image, ENDS_PLACE + 12, ends.sband2.to_le_bytes());
-}
-
-// Stores the three masks.
-#[tactic(auto, unfolding(crate::specs::Saving::masks_bytes))]
-fn put_masks(masks: Masks, image: &mut Image)
-    ensures { image.new ≡ sets image.old masks_place (masks_bytes masks) }
-{
-    put(image, MASKS_PLACE, [masks.requested, masks.on, masks.failed]);
-}
-
-// Stores the eight modules.
-fn put_modules(modules: [Module; MODULE_COUNT], image: &mut Image)
-    requires { modules_in_range modules ≡ true }
+// Stores the eight modules. The loop goes by the image's length, which the compiler does not know: it stays one.
+fn put_modules(modules: [Module; MODULE_COUNT], image: &mut [u8])
+    requires { (length image.old ≡ image_bytes) × (modules_in_range modules ≡ true) }
     ensures { image.new ≡ sets image.old modules_place (modules_bytes modules) }
 {
-    for i in 0..MODULE_COUNT {
-        put(image, MODULES_PLACE + 2 * i, module_code(modules[i]).to_le_bytes());
+    for i in 0..(image.len() - MODULES_PLACE) / 2 {
+        put(
+            image,
+            MODULES_PLACE + 2 * i,
+            module_code(modules[i]).to_le_bytes(),
+        );
     }
 }
 
@@ -118,10 +94,21 @@ pub(crate) fn save(state: State, image: &mut [u8])
     requires { (length image.old ≡ image_bytes) × (in_range state ≡ true) }
     ensures { image.new ≡ saved state }
 {
-    let image = image.as_mut_array().unwrap();
     put(image, 0, head(state));
-    put_message(state.message, image);
-    put_ends(state.ends, image);
-    put_masks(state.masks, image);
+    put(
+        image,
+        MESSAGE_PLACE,
+        [state.message.repeats, state.message.length],
+    );
+    put(image, TEXT_PLACE, state.message.text);
+    put(image, ENDS_PLACE, state.ends.adcs.to_le_bytes());
+    put(image, ENDS_PLACE + 4, state.ends.payload.to_le_bytes());
+    put(image, ENDS_PLACE + 8, state.ends.sband1.to_le_bytes());
+    put(image, ENDS_PLACE + 12, state.ends.sband2.to_le_bytes());
+    put(
+        image,
+        MASKS_PLACE,
+        [state.masks.requested, state.masks.on, state.masks.failed],
+    );
     put_modules(state.modules, image);
 }

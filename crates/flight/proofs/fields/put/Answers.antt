@@ -6,4 +6,4 @@ use Rattle.flight.proofs.fields.put.Goals as goal
 
 pub returns : goal.returns
 returns g c =
-    rw c.copy_from_slice.ensures.after (part_stored c.args.image.now c.args.bytes c.args.at g.row.N (search rules) (omega arith))
+    rw c.copy_from_slice.ensures.after (part_stored c.args.bytes.now c.args.part c.args.at g.row.N (search rules) (omega arith))

@@ -18,7 +18,7 @@ pub module_code-requires : goal.module_code-requires
 module_code-requires c =
     let modules = c.args.modules in
     let eight : length modules ≡ module_count = search (rules, length_mapped) in
-    is_true _ (module_in_range modules c.loop-i.i _ (omega arith) (holds _ c.requires))
+    is_true _ (module_in_range modules c.loop-i.i _ (omega arith) (holds _ c.requires.1))
 
 pub loop-i-preserved : goal.loop-i-preserved
 loop-i-preserved c =
