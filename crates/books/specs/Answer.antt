@@ -7,14 +7,14 @@ use Rattle.books.specs.declared.answer.BookFault.{BookFault}
 use Rattle.books.specs.declared.answer.BookFault.TheVariants.{Full, NotBooks}
 
 -- the number of a refusal of the books
-abbrev pub fault_number : BookFault → ℕ
-fault_number Full = 17
-fault_number NotBooks = 18
+abbrev pub book_fault_number : BookFault → ℕ
+book_fault_number Full = 17
+book_fault_number NotBooks = 18
 
 -- the number of an answer
 abbrev pub book_number : Result Answer BookFault → ℕ
 book_number (Ok answer) = answer_number answer
-book_number (Err fault) = fault_number fault
+book_number (Err fault) = book_fault_number fault
 
 -- 17 and 18 are the books' own
 abbrev pub is_books : Result Answer BookFault → Bool

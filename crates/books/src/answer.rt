@@ -1,7 +1,7 @@
 // What a call with books answers: what the call without books answers, or why the books forbid it.
 ghost use Rattle.std.specs.Prelude.{◌≡◌};
 ghost use Rattle.std.proofs.Common.{rules};
-ghost use Rattle.books.specs.Answer.{fault_number, book_number, is_book_reported};
+ghost use Rattle.books.specs.Answer.{book_fault_number, book_number, is_book_reported};
 
 use basics::Refusal;
 use frames::answer::Answer;
@@ -16,7 +16,7 @@ pub enum BookFault {
 }
 
 impl Refusal for BookFault {
-    ghost number_of = { fault_number };
+    ghost number_of = { book_fault_number };
 
     ghost is_told = { Prim.search rules };
 

@@ -34,11 +34,10 @@ use Rattle.pass.proofs.PassLaws.{pass_outside, pass_keeps_range}
 use Rattle.pass.proofs.Flight.{pass_idle}
 use Rattle.counting.specs.Counting.{modules_on_of}
 use Rattle.books.specs.Books.{book_numbers}
-use Rattle.books.specs.Answer.{book_number, is_book_reported}
+use Rattle.books.specs.Answer.{book_fault_number, book_number, is_book_reported}
 use Rattle.books.specs.Step.{WithBooks, with_books, step_books_of}
-use Rattle.books.specs.Summary.{summary_of, put_into}
 use Rattle.books.specs.History.{Board, called_with, board_after}
-use Rattle.books.specs.declared.answer.BookAnswer.TheVariants.{NotBooks}
+use Rattle.books.specs.declared.answer.BookFault.TheVariants.{NotBooks}
 use Rattle.books.specs.declared.step.Booked.{Booked}
 use Rattle.books.proofs.WaysLaws.{booked_valid, booked_in_range, booked_left, booked_outside}
 use Rattle.beacon.specs.Writing.{beacon_of}
@@ -52,7 +51,7 @@ use Rattle.tracker.specs.declared.Tracked.{Tracked}
 use Rattle.flight.specs.Saving.{image_bytes, saved}
 use Rattle.flight.specs.Loading.{has_layout, decoded, loaded, fields_say}
 use Rattle.flight.specs.Calls.{imaged, bad_state, stepped_to, step_image, passed_to, pass_image, modules_on_reply, modules_on_image, beacon_image}
-use Rattle.flight.specs.Calls.{booked_to, step_books_image, summary_reply}
+use Rattle.flight.specs.Calls.{booked_to, step_books_image}
 use Rattle.flight.specs.Calls.{told, replied, ReadReplied}
 use Rattle.flight.specs.Calls.{tracks, tracked_to}
 use Rattle.flight.proofs.FieldsLaws.{AllBytes}
@@ -98,21 +97,9 @@ count_worked image s say = by_range (in_range s) refl
 -- too few numbers, or too many, are refused before the image is looked at
 pub books_none :
     (image frame room books : List ℕ) → eqb (length books) book_numbers ≡ false →
-    outcome (with_books (imaged (book_number NotBooks) image) books) room ≡ step_books_image image frame room books
+    outcome (with_books (imaged (book_fault_number NotBooks) image) books) room ≡ step_books_image image frame room books
 unfolding step_books_image
 books_none image frame room books e = simp e
-
--- a summary with no place for the shares, and any other
-pub summed_short :
-    (books room : List ℕ) → (eqb (book_number (summary_of books).answer) 0 && ltb (length room) module_count) ≡ true → outcome no_room room ≡ summary_reply books room
-unfolding summary_reply
-summed_short books room e = simp e
-
-pub summed_put :
-    (books room room' : List ℕ) (n : ℕ) → (eqb (book_number (summary_of books).answer) 0 && ltb (length room) module_count) ≡ false →
-    n ≡ book_number (summary_of books).answer → room' ≡ put_into (summary_of books).shares room → outcome n room' ≡ summary_reply books room
-unfolding summary_reply
-summed_put books room room' n e number puts = simp (e, number, puts)
 
 -- bytes of another layout
 module _ (image room : List ℕ) (nothing : fields_say image ≡ None) where

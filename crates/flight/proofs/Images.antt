@@ -5,7 +5,7 @@ use Prim.Native.Nat.{ℕ}
 use mathlib.Core.Path.{◌≡◌, refl}
 use mathlib.Core.Bool.{Bool, true, false}
 use mathlib.Core.List.{List}
-use Rattle.std.specs.Prelude.{Option, Some, None}
+use Rattle.std.specs.Prelude.{Option, Some, None, Err}
 use lib.Dec.{eqb}
 use lib.ListN.{length}
 use borrow.Author.Tests.{eq-eqb}
@@ -18,8 +18,8 @@ use Rattle.pass.specs.Pass.{pass_of}
 use Rattle.books.specs.Books.{book_numbers}
 use Rattle.books.specs.Step.{with_books, step_books_of}
 use Rattle.beacon.specs.Writing.{beacon_of}
-use Rattle.beacon.specs.declared.text.Form.{Form}
-use Rattle.beacon.specs.declared.writing.Written.TheVariants.{BadState}
+use Rattle.supervisor.specs.declared.form.Form.{Form}
+use Rattle.beacon.specs.declared.writing.WriteFault.TheVariants.{BadState}
 use Rattle.flight.specs.Saving.{saved}
 use Rattle.flight.specs.Loading.{loaded}
 use Rattle.flight.specs.Calls.{imaged, bad_state, stepped_to, step_image, passed_to, pass_image, booked_to, step_books_image, beacon_image}
@@ -71,6 +71,6 @@ module _ (image room : List ℕ) (small : AllBytes image) (never : (s : State) �
   unfolding step_books_image
   books_bad frame books size = simp (eq-eqb (length books) book_numbers size, no_state)
 
-  pub beacon_bad : (form : Form) → beacon_image form image room ≡ outcome BadState room
+  pub beacon_bad : (form : Form) → beacon_image form image room ≡ outcome (Err BadState) room
   unfolding beacon_image
   beacon_bad form = simp no_state

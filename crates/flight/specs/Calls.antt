@@ -18,10 +18,11 @@ use Rattle.pass.specs.declared.Passed.{Passed}
 use Rattle.counting.specs.Counting.{modules_on_of}
 use Rattle.counting.specs.declared.ModulesOn.{ModulesOn}
 use Rattle.books.specs.Books.{book_numbers}
-use Rattle.books.specs.Answer.{book_number}
+use Rattle.books.specs.Answer.{book_fault_number, book_number}
 use Rattle.books.specs.Step.{WithBooks, with_books, step_books_of}
-use Rattle.books.specs.Summary.{summary_of, put_into}
-use Rattle.books.specs.declared.answer.BookAnswer.TheVariants.{NotBooks}
+use Rattle.books.specs.Summary.{no_shares, summary_of, put_into}
+use Rattle.books.specs.declared.answer.BookFault.{BookFault}
+use Rattle.books.specs.declared.answer.BookFault.TheVariants.{NotBooks}
 use Rattle.books.specs.declared.step.Booked.{Booked}
 use Rattle.beacon.specs.Writing.{beacon_of}
 use Rattle.supervisor.specs.declared.form.Form.{Form}
@@ -107,16 +108,19 @@ step_books_loaded (Some s) image frame room books = booked_to (step_books_of s f
 unfoldable pub step_books_image : (image frame room books : List ℕ) → Outcome (WithBooks (Imaged ℕ))
 step_books_image image frame room books =
     when eqb (length books) book_numbers then step_books_loaded (loaded image) image frame room books
-    else outcome (with_books (imaged (book_number NotBooks) image) books) room
+    else outcome (with_books (imaged (book_fault_number NotBooks) image) books) room
 
--- a summary of books into a room: 18, then 17, with as many zeros as there is place for; then 14 where there is none
--- for eight shares, with nothing written
+-- a summary into a room: a refusal with as many zeros as there is place for; 14 where there is none for eight shares,
+-- with nothing written
+abbrev pub summed_to : Result (List ℕ) BookFault → (room : List ℕ) → Outcome ℕ
+summed_to (Ok shares) room =
+    when ltb (length room) module_count then outcome no_room room
+    else outcome (answer_number answer.Done) (put_into shares room)
+summed_to (Err fault) room = outcome (book_fault_number fault) (put_into no_shares room)
+
+-- a summary of books into a room: 18, then 17, then 14
 unfoldable pub summary_reply : (books room : List ℕ) → Outcome ℕ
-summary_reply books room =
-    let summed = summary_of books in
-    let number = book_number summed.answer in
-    when eqb number 0 && ltb (length room) module_count then outcome no_room room
-    else outcome number (put_into summed.shares room)
+summary_reply books room = summed_to (summary_of books) room
 
 -- the beacon's text of what was loaded; where that is nothing, the room stays
 abbrev pub beacon_loaded : Form → Option State → (room : List ℕ) → Outcome (Result ℕ WriteFault)

@@ -15,7 +15,7 @@ use crate::loading::load;
 use crate::saving::{IMAGE_BYTES, save};
 use basics::Refusal;
 use beacon::writing::WriteFault;
-use books::answer::BookAnswer;
+use books::answer::BookFault;
 use books::numbers::{MODULES, NUMBERS};
 use books::shares::put;
 use books::step::step_books;
@@ -106,33 +106,35 @@ pub extern "C" fn ems_step_books(
         ≡ step_books_image image.old frame.now room.old books.old }
 {
     if books.len() != NUMBERS {
-        return BookAnswer::NotBooks.number();
+        return BookFault::NotBooks.number();
     }
     let Some(state) = load(image) else {
         return Answer::BadState.number();
     };
     let booked = step_books(state, frame, room, books);
-    let given = booked.answer;
-    if given.is_reported() {
+    if books::answer::is_reported(booked.answer) {
         save(booked.state, image);
     }
-    given.number()
+    books::answer::number(booked.answer)
 }
 
 // Writes each module's share on, in thousandths, by the books; where these are refused, as many zeros as there is room for.
 #[unsafe(no_mangle)]
+#[tactic(auto, unfolding(crate::specs::Calls::summary_reply))]
 pub extern "C" fn ems_summary(books: &[u64], shares: &mut [u16]) -> u8
     ensures { outcome result shares.new ≡ summary_reply books.now shares.old }
 {
-    let summed = summary(books);
-    let answer = summed.answer;
-    let number = answer.number();
-    if (number == 0) & (shares.len() < MODULES) {
-        return NO_ROOM;
+    match summary(books) {
+        Ok(_) if shares.len() < MODULES => NO_ROOM,
+        Ok(all) => {
+            put(all, shares);
+            Answer::Done.number()
+        }
+        Err(fault) => {
+            put([0; MODULES], shares);
+            fault.number()
+        }
     }
-    let all = summed.shares;
-    put(all, shares);
-    number
 }
 
 // The beacon's text of an image's state.
