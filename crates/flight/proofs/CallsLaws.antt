@@ -2,10 +2,10 @@
 -- Assumes nothing.
 use Prim.Native.Nat.{ℕ, ◌<◌}
 use mathlib.Core.Path.{◌≡◌, refl, sym, ap, ◌∙◌}
-use mathlib.Core.Bool.{Bool, true, false, ◌&&◌}
+use mathlib.Core.Bool.{Bool, true, false}
 use mathlib.Core.List.{List}
 use native.Mathlib.Omega.{arith}
-use lib.Dec.{T, eqb, ltb}
+use lib.Dec.{T, eqb}
 use lib.IntN.{ℤ}
 use lib.ListN.{length}
 use borrow.Author.Tests.{eq-eqb}
@@ -13,9 +13,7 @@ use Rattle.std.specs.Prelude.{Some, None}
 use Rattle.basics.specs.Choice.{when◌then◌else◌}
 use Rattle.basics.specs.Outcome.{Outcome, outcome, Reply, reply}
 use Rattle.basics.proofs.ChoiceLaws.{is_true, holds}
-use Rattle.modules.specs.Groups.{module_count}
 use Rattle.std.specs.Prelude.{Result, Ok, Err}
-use Rattle.morse.specs.Answers.{no_room}
 use Rattle.morse.specs.Keying.{key_fault_number, key_reply}
 use Rattle.morse.specs.declared.keying.KeyFault.{KeyFault}
 use Rattle.hearing.specs.Reading.{read_fault_number, read_reply, Read}

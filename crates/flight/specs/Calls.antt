@@ -1,6 +1,6 @@
 -- What each exported call leaves, over bytes.
 -- Assumes nothing.
-use Rattle.std.specs.Prelude.{ℕ, ◌≡◌, ◌&&◌, List, Option, Some, None, Result, Ok, Err, eqb, ltb, ℤ, length}
+use Rattle.std.specs.Prelude.{ℕ, ◌≡◌, List, Option, Some, None, Result, Ok, Err, eqb, ltb, ℤ, length}
 use Rattle.basics.specs.Choice.{when◌then◌else◌}
 use Rattle.basics.specs.Outcome.{Outcome, outcome, Reply, reply}
 use Rattle.modules.specs.Groups.{module_count}
