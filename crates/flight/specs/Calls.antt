@@ -115,7 +115,7 @@ step_books_image image frame room books =
 abbrev pub summed_to : Result (List ℕ) BookFault → (room : List ℕ) → Outcome ℕ
 summed_to (Ok shares) room =
     when ltb (length room) module_count then outcome no_room room
-    else outcome (answer_number answer.Done) (put_into shares room)
+    else outcome done (put_into shares room)
 summed_to (Err fault) room = outcome (book_fault_number fault) (put_into no_shares room)
 
 -- a summary of books into a room: 18, then 17, then 14

@@ -128,7 +128,7 @@ pub extern "C" fn ems_summary(books: &[u64], shares: &mut [u16]) -> u8
         Ok(_) if shares.len() < MODULES => NO_ROOM,
         Ok(all) => {
             put(all, shares);
-            Answer::Done.number()
+            DONE
         }
         Err(fault) => {
             put([0; MODULES], shares);
