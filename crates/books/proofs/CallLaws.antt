@@ -95,7 +95,7 @@ kind_other (frame.Antennas deployed) e = refl
 kind_other (frame.Command sender (command.Order which on)) e = refl
 kind_other (frame.Command sender (command.Timed which minutes)) e = refl
 kind_other (frame.Command sender (command.Thresholds ascend descend)) e = refl
-kind_other (frame.Command sender (command.Greeting repeats length)) e = refl
+kind_other (frame.Command sender (command.Greeting repeats length text)) e = refl
 
 module _ (s : State) (input : List ℕ) where
   abbrev own : Call

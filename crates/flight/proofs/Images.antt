@@ -9,6 +9,7 @@ use Rattle.std.specs.Prelude.{Option, Some, None, Err}
 use lib.Dec.{eqb}
 use lib.ListN.{length}
 use borrow.Author.Tests.{eq-eqb}
+use Rattle.std.specs.Prelude.{Err}
 use Rattle.basics.specs.Outcome.{outcome, reply}
 use Rattle.supervisor.specs.Range.{in_range}
 use Rattle.supervisor.specs.Step.{step_of}

@@ -178,16 +178,12 @@ pub extern "C" fn ems_beacon_extended(image: &[u8], text: &mut [u8], count: &mut
 fn tell<E: Refusal>(given: Result<usize, E>, count: &mut usize) -> u8
     ensures { reply result count.new ≡ told E.number_of given }
 {
-    match given {
-        Ok(written) => {
-            *count = written;
-            DONE
-        }
-        Err(refusal) => {
-            *count = 0;
-            refusal.number()
-        }
-    }
+    let (number, written) = match given {
+        Ok(written) => (DONE, written),
+        Err(refusal) => (refusal.number(), 0),
+    };
+    *count = written;
+    number
 }
 
 // Keys a text: its units, and how many they are.

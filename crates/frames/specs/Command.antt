@@ -10,4 +10,4 @@ abbrev pub command_kind : Command → Kind
 command_kind (Order which on) = kinds.Order
 command_kind (Timed which minutes) = kinds.Timed
 command_kind (Thresholds ascend descend) = kinds.Thresholds
-command_kind (Greeting repeats length) = kinds.Greeting
+command_kind (Greeting repeats length text) = kinds.Greeting

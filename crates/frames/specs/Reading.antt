@@ -118,7 +118,7 @@ timed_fields bytes =
 unfoldable pub greeting_fields : List ℕ → Reading
 greeting_fields bytes =
     when is_origin (byte_at 1 bytes) && is_greeting (byte_at 5 bytes) (greeting_text bytes) then
-    of_ground (Greeting (byte_at 4 bytes) (byte_at 5 bytes)) (sender_from bytes)
+    of_ground (Greeting (byte_at 4 bytes) (byte_at 5 bytes) (greeting_text bytes)) (sender_from bytes)
     else Err BadField
 
 -- by kind, one of those that have a total

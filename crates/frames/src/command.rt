@@ -2,6 +2,7 @@
 ghost use Rattle.std.specs.Prelude.{◌≡◌};
 ghost use Rattle.frames.specs.Command.{command_kind};
 
+use crate::greeting::LONGEST;
 use crate::kind::Kind;
 
 // A command that passed checks 3 to 7.
@@ -13,8 +14,12 @@ pub enum Command {
     Timed { which: u8, minutes: u16 },
     // both thresholds, in millivolts; read from ground alone
     Thresholds { ascend: u16, descend: u16 },
-    // a message of so many bytes, for so many beacons; its text stands beside the frame; read from ground alone
-    Greeting { repeats: u8, length: u8 },
+    // a message of so many bytes, for so many beacons; read from ground alone
+    Greeting {
+        repeats: u8,
+        length: u8,
+        text: [u8; LONGEST],
+    },
 }
 
 impl Command {

@@ -1,4 +1,4 @@
-// A greeting's text. It stands beside the frame: an enum can't hold an array.
+// A greeting's text.
 ghost use Rattle.std.specs.Prelude.{◌≡◌};
 ghost use Rattle.frames.specs.Greeting.{all_zero, is_greeting, greeting_text};
 

@@ -179,10 +179,11 @@ fn greeting(bytes: &[u8]) -> Result<Frame, Answer>
     let sender = sender(bytes)?;
     let repeats = bytes[4];
     let length = bytes[5];
-    if !is_greeting(length, text_of(bytes)) {
+    let text = text_of(bytes);
+    if !is_greeting(length, text) {
         return Err(Answer::BadField);
     }
-    of_ground(sender, Command::Greeting { repeats, length })
+    of_ground(sender, Command::Greeting { repeats, length, text })
 }
 
 // Checks 3 to 7, in the page's order.

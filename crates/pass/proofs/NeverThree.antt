@@ -13,7 +13,6 @@ use Rattle.basics.specs.Outcome.{Outcome}
 use Rattle.basics.proofs.ChoiceLaws.{either, within_low}
 use Rattle.frames.specs.Answer.{answer_number, is_reported}
 use Rattle.frames.specs.Kind.{report_bytes}
-use Rattle.frames.specs.Greeting.{greeting_text}
 use Rattle.frames.specs.Reading.{Reading, read_frame}
 use Rattle.frames.specs.declared.answer.Answer.{Answer}
 use Rattle.frames.specs.declared.answer.Answer.TheVariants.{NoInput}
@@ -49,17 +48,17 @@ NotThree after = after.result.answer ≡ NoInput → ⊥
 three : (a : Answer) → a ≡ NoInput → answer_number a ≡ 3
 three a e = ap answer_number e
 
-read_not_three : (text : List ℕ) (r : Reading) → SoundPast text r → (s : State) (room : List ℕ) → NotThree (step_read r text s room)
-read_not_three text (Err answer) w s room e = omega (arith, three answer e, within_low 4 7 (answer_number answer) w)
-read_not_three text (Ok f) w s room e =
-    let given : answer_number (act_of f text s).answer ≡ 3 = three (act_of f text s).answer e in
-    true≢false (ap (λ n. within 1 7 n) (sym given) ∙ unrefused f s (act_of f text s) (act_answers f text s))
+read_not_three : (r : Reading) → SoundPast r → (s : State) (room : List ℕ) → NotThree (step_read r s room)
+read_not_three (Err answer) w s room e = omega (arith, three answer e, within_low 4 7 (answer_number answer) w)
+read_not_three (Ok f) w s room e =
+    let given : answer_number (act_of f s).answer ≡ 3 = three (act_of f s).answer e in
+    true≢false (ap (λ n. within 1 7 n) (sym given) ∙ unrefused f s (act_of f s) (act_answers f s))
 
 step_not_three : (s : State) (frame room : List ℕ) → 0 < length frame → NotThree (step_of s frame room)
 unfolding step_of
 step_not_three s frame room some =
     either NotThree (in_range s)
-    (either NotThree (leb report_bytes (length room)) (read_not_three (greeting_text frame) (read_frame frame) (some_sound frame some) s room) (λ e. omega (arith, ap answer_number e)))
+    (either NotThree (leb report_bytes (length room)) (read_not_three (read_frame frame) (some_sound frame some) s room) (λ e. omega (arith, ap answer_number e)))
     (λ e. omega (arith, ap answer_number e))
 
 -- nor is a pass of such frames

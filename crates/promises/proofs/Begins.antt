@@ -2,14 +2,12 @@
 -- Assumes nothing.
 use Prim.Native.Nat.{ℕ, ◌*◌, ◌≤◌}
 use native.Mathlib.Omega.{arith}
-use mathlib.Core.List.{List}
 use mathlib.Core.Path.{◌≡◌, refl, sym, ap, ◌∙◌}
 use mathlib.Core.Bool.{Bool, true, false, not, ◌&&◌, true≢false}
 use borrow.Author.Tests.{eq-eqb, lt-ltb}
 use Rattle.std.specs.Prelude.{Ok}
 use Rattle.basics.proofs.ChoiceLaws.{is_true, decided, within_low}
 use Rattle.modules.specs.Groups.{is_mission}
-use Rattle.frames.specs.Greeting.{greeting_text}
 use Rattle.frames.specs.Answer.{answer_number}
 use Rattle.frames.specs.About.{a_command, about, is_tick}
 use Rattle.frames.specs.Reading.{most_minutes}
@@ -53,9 +51,9 @@ module _ (which minutes : ℕ) where
   Does a = answer_number a.answer ≡ 0 → Begun which minutes a.state
 
   taken_begins :
-      (sender : Sender) (text : List ℕ) → FitsCommand sender (Timed which minutes) text → (t : State) → Eight t → Does (taken (Timed which minutes) text t)
+      (sender : Sender) → FitsCommand sender (Timed which minutes) → (t : State) → Eight t → Does (taken (Timed which minutes) t)
   unfolding is_ill_timed request_set
-  taken_begins sender text fits t n =
+  taken_begins sender fits t n =
       let mission : is_mission which ≡ true = is_true (is_mission which) fits.mission in
       let some : 1 ≤ minutes = within_low 1 most_minutes minutes fits.minutes in
       let end : ℕ = 60 * minutes in
@@ -71,22 +69,22 @@ module _ (which minutes : ℕ) where
       })
 
   act_begins :
-      (sender : Sender) (f : Frame) (text : List ℕ) → Fits f text → about (Ok f) ≡ a_command sender (Timed which minutes) → (s : State) → Eight s →
-      Does (act_of f text s)
+      (sender : Sender) (f : Frame) → Fits f → about (Ok f) ≡ a_command sender (Timed which minutes) → (s : State) → Eight s →
+      Does (act_of f s)
   unfolding act_of
-  act_begins sender (frame.Tick shorts) text fits e s n = let z : ◌≡◌ {A = ℕ} 0 1 = cc in absurd (omega arith)
-  act_begins sender (frame.Battery tension) text fits e s n = let z : ◌≡◌ {A = ℕ} 0 1 = cc in absurd (omega arith)
-  act_begins sender (frame.Antennas out) text fits e s n = let z : ◌≡◌ {A = ℕ} 0 1 = cc in absurd (omega arith)
-  act_begins sender (frame.Command by command) text fits e s n =
+  act_begins sender (frame.Tick shorts) fits e s n = let z : ◌≡◌ {A = ℕ} 0 1 = cc in absurd (omega arith)
+  act_begins sender (frame.Battery tension) fits e s n = let z : ◌≡◌ {A = ℕ} 0 1 = cc in absurd (omega arith)
+  act_begins sender (frame.Antennas out) fits e s n = let z : ◌≡◌ {A = ℕ} 0 1 = cc in absurd (omega arith)
+  act_begins sender (frame.Command by command) fits e s n =
       let same : command ≡ Timed which minutes = cc in
-      by_serial_law by command text s (λ class. Does) (λ z. absurd (omega arith)) (λ z. absurd (omega arith))
-      (rw same (taken_begins by text (rw same at fits) (serial_used by s) n))
+      by_serial_law by command s (λ class. Does) (λ z. absurd (omega arith)) (λ z. absurd (omega arith))
+      (rw same (taken_begins by (rw same at fits) (serial_used by s) n))
 
   begins_by : (s : State) (c : Call) → Begins which minutes s c → Comes s c → Begun which minutes (called s c).result.state
   begins_by s c b (stopped answer w) = absurd (omega (arith, within_low 1 7 (answer_number answer) w.number, rw w.leaves at b.done))
   begins_by s c b (ticking shorts w) = absurd (true≢false (ap is_tick (rw w.read at b.order)))
   begins_by s c b (other f t w) =
-      rw w.leaves (act_begins b.sender f (greeting_text c.input) w.fits (rw w.read at b.order) s b.eight (rw w.leaves at b.done))
+      rw w.leaves (act_begins b.sender f w.fits (rw w.read at b.order) s b.eight (rw w.leaves at b.done))
 
   pub begins : (s : State) (c : Call) → Begins which minutes s c → Begun which minutes (called s c).result.state
   begins s c b = begins_by s c b (comes s c)

@@ -10,7 +10,6 @@ use Rattle.modules.specs.Masks.{count_on}
 use Rattle.modules.specs.declared.masks.Masks.{Masks}
 use Rattle.modules.proofs.MasksLaws.{ones_on}
 use Rattle.frames.specs.Answer.{is_reported}
-use Rattle.frames.specs.Greeting.{greeting_text}
 use Rattle.frames.specs.declared.answer.Answer.TheVariants.{Done}
 use Rattle.frames.specs.declared.frame.Frame.TheVariants as frame
 use Rattle.frames.proofs.AnswerLaws.{refusal}
@@ -48,7 +47,7 @@ shown_by s c (ticking shorts w) e =
     ∙ sym (parts (ticked shorts s).state (ticked_in_range shorts s w.valid)).masks)
 shown_by s c (other f t w) e =
     rw w.leaves
-    (report_masks f (act_of f (greeting_text c.input) s) c.room ∙ sym (acted_masks f (greeting_text c.input) w.fits s w.valid))
+    (report_masks f (act_of f s) c.room ∙ sym (acted_masks f w.fits s w.valid))
 
 shown : ShownWhere is_reported
 shown cs c e = shown_by (after fresh_state cs) c (comes (after fresh_state cs) c) e

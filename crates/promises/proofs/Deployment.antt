@@ -74,7 +74,7 @@ left_in_all (c ∷ cs) s = omega (arith, left_in_all cs (called s c).result.stat
 -- outside DEPLOY_WAIT every history stays outside
 pub stays_over : (s : State) (cs : List Call) → in_deploy_wait s ≡ false → in_deploy_wait (after s cs) ≡ false
 stays_over s cs h =
-    after_keeps (λ t. in_deploy_wait t ≡ false) (λ shorts t v e. ticked_flies shorts t e) (λ f text fits i t v e. rw (watch_still f text fits i t) e) cs s h
+    after_keeps (λ t. in_deploy_wait t ≡ false) (λ shorts t v e. ticked_flies shorts t e) (λ f fits i t v e. rw (watch_still f fits i t) e) cs s h
 
 pub stays_deployed : (s : State) (cs : List Call) → T (deployed s) → T (deployed (after s cs))
 stays_deployed s cs out = rw (stays_over s cs (not-true (in_deploy_wait s) (is_true (deployed s) out))) tt

@@ -12,7 +12,6 @@ use Rattle.std.specs.Prelude.{Option, Some, Ok}
 use Rattle.basics.specs.Choice.{when◌then◌else◌}
 use Rattle.basics.proofs.ChoiceLaws.{decided, within_low}
 use Rattle.frames.specs.Answer.{answer_number}
-use Rattle.frames.specs.Greeting.{greeting_text}
 use Rattle.frames.specs.About.{about, is_tick, a_command}
 use Rattle.frames.specs.declared.sender.Sender.{Sender}
 use Rattle.frames.specs.declared.command.Command.TheVariants.{Greeting}
@@ -147,19 +146,19 @@ module _ (repeats length : ℕ) where
   abbrev Does : Acted → Type 0
   Does a = answer_number a.answer ≡ 0 → left a.state.message ≡ asked_for repeats length
 
-  act_greets : (sender : Sender) (f : Frame) (text : List ℕ) → about (Ok f) ≡ a_command sender (Greeting repeats length) → (s : State) → Does (act_of f text s)
+  act_greets : (sender : Sender) (text : List ℕ) (f : Frame) → about (Ok f) ≡ a_command sender (Greeting repeats length text) → (s : State) → Does (act_of f s)
   unfolding act_of
-  act_greets sender (frame.Tick shorts) text e s = let z : ◌≡◌ {A = ℕ} 0 1 = cc in absurd (omega arith)
-  act_greets sender (frame.Battery tension) text e s = let z : ◌≡◌ {A = ℕ} 0 1 = cc in absurd (omega arith)
-  act_greets sender (frame.Antennas out) text e s = let z : ◌≡◌ {A = ℕ} 0 1 = cc in absurd (omega arith)
-  act_greets sender (frame.Command by command) text e s =
-      let same : command ≡ Greeting repeats length = cc in
-      by_serial_law by command text s (λ class. Does) (λ z. absurd (omega arith)) (λ z. absurd (omega arith)) (rw same (λ z. left_asked repeats length text))
+  act_greets sender text (frame.Tick shorts) e s = let z : ◌≡◌ {A = ℕ} 0 1 = cc in absurd (omega arith)
+  act_greets sender text (frame.Battery tension) e s = let z : ◌≡◌ {A = ℕ} 0 1 = cc in absurd (omega arith)
+  act_greets sender text (frame.Antennas out) e s = let z : ◌≡◌ {A = ℕ} 0 1 = cc in absurd (omega arith)
+  act_greets sender text (frame.Command by command) e s =
+      let same : command ≡ Greeting repeats length text = cc in
+      by_serial_law by command s (λ class. Does) (λ z. absurd (omega arith)) (λ z. absurd (omega arith)) (rw same (λ z. left_asked repeats length text))
 
   greets_by : (s : State) (c : Call) → Greets repeats length s c → Comes s c → left (called s c).result.state.message ≡ asked_for repeats length
   greets_by s c g (stopped answer w) = absurd (omega (arith, within_low 1 7 (answer_number answer) w.number, rw w.leaves at g.done))
   greets_by s c g (ticking shorts w) = absurd (true≢false (ap is_tick (rw w.read at g.frame)))
-  greets_by s c g (other f t w) = rw w.leaves (act_greets g.sender f (greeting_text c.input) (rw w.read at g.frame) s (rw w.leaves at g.done))
+  greets_by s c g (other f t w) = rw w.leaves (act_greets g.sender g.text f (rw w.read at g.frame) s (rw w.leaves at g.done))
 
 pub greeted : Greeted
 greeted repeats length s c g cs u =

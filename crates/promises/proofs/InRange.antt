@@ -6,7 +6,6 @@ use mathlib.Core.Path.{◌≡◌, sym, ◌∙◌}
 use mathlib.Core.Bool.{true≢false}
 use lib.Dec.{T}
 use Rattle.basics.proofs.ChoiceLaws.{is_true}
-use Rattle.frames.specs.Greeting.{greeting_text}
 use Rattle.supervisor.specs.Range.{in_range}
 use Rattle.supervisor.specs.Fresh.{fresh_state}
 use Rattle.supervisor.specs.Act.{act_of}
@@ -21,7 +20,7 @@ use Rattle.promises.specs.InRange.{InRange}
 not_one : (s : State) (c : Call) → T (in_range s) → Comes s c → answered s c ≡ 1 → ⊥
 not_one s c h (stopped answer w) e = true≢false (sym (is_true (in_range s) h) ∙ w.outside (rw w.leaves at e))
 not_one s c h (ticking shorts w) e = let z : ◌≡◌ {A = ℕ} 0 1 = rw (w.leaves, ticked_done shorts s) at e in omega arith
-not_one s c h (other f t w) e = true≢false (rw (rw w.leaves at e) at (unrefused f s (act_of f (greeting_text c.input) s) (act_answers f (greeting_text c.input) s)))
+not_one s c h (other f t w) e = true≢false (rw (rw w.leaves at e) at (unrefused f s (act_of f s) (act_answers f s)))
 
 pub in_range_law : InRange
 in_range_law =

@@ -35,7 +35,7 @@ module _ (which minutes : ℕ) where
   no_order (a_command sender (Order one on)) word e = rw e
   no_order (a_command sender (Timed one length)) word e = rw e
   no_order (a_command sender (Thresholds ascend descend)) word e = refl
-  no_order (a_command sender (Greeting repeats length)) word e = refl
+  no_order (a_command sender (Greeting repeats length text)) word e = refl
   no_order neither word e = refl
 
   later_timed : (s : State) (c : Call) (ticks : ℕ) → later s c (timed minutes ticks) ≡ timed minutes (ticks + (when running_tick s c then 1 else 0))

@@ -10,7 +10,6 @@ use borrow.Author.Tests.{eqb-true, ne_eqb}
 use Rattle.std.specs.Prelude.{Ok}
 use Rattle.basics.specs.Choice.{when◌then◌else◌, within}
 use Rattle.basics.proofs.ChoiceLaws.{is_true, within_low, within_high}
-use Rattle.frames.specs.Greeting.{greeting_text}
 use Rattle.frames.specs.Answer.{answer_number}
 use Rattle.frames.specs.Serial.{serial_count, stale_from, distance, class_of, last_of}
 use Rattle.frames.specs.About.{serial_from, about}
@@ -56,7 +55,7 @@ module _ (origin : Origin) where
   -- a tick is no command of any origin
   tick_view : (shorts : ℕ) (s : State) → View origin (frame.Tick shorts) s (ticked shorts s)
   unfolding act_of
-  tick_view shorts s = view origin (frame.Tick shorts) s (ticked shorts s) (act_answers (frame.Tick shorts) [] s)
+  tick_view shorts s = view origin (frame.Tick shorts) s (ticked shorts s) (act_answers (frame.Tick shorts) s)
 
   -- where an origin's last serial stands after a call, modulo 65,536
   abbrev Strides : State → Call → Type 0
@@ -82,8 +81,8 @@ module _ (origin : Origin) where
   strides s c (stopped answer w) = rw (w.leaves, not_taken (answer_number answer) w.number, no_stride (serial_from origin (about_of c)) (last_of origin s.serials)) (omega arith)
   strides s c (ticking shorts w) = view_strides (frame.Tick shorts) s c (ticked shorts s) w (tick_view shorts s)
   strides s c (other f e w) =
-      let acted = act_of f (greeting_text c.input) s in
-      view_strides f s c acted w (view origin f s acted (act_answers f (greeting_text c.input) s))
+      let acted = act_of f s in
+      view_strides f s c acted w (view origin f s acted (act_answers f s))
 
   -- after many calls
   after_strides : (cs : List Call) (s : State) → last_of origin (after s cs).serials % serial_count ≡ (last_of origin s.serials + moved_on origin s cs) % serial_count
@@ -113,8 +112,8 @@ module _ (origin : Origin) where
   taken_last s c serial b t (stopped answer w) = absurd (rw (not_taken (answer_number answer) w.number) at (rw w.leaves at t))
   taken_last s c serial b t (ticking shorts w) = (w.valid, view_last (frame.Tick shorts) s c (ticked shorts s) serial b t w (tick_view shorts s))
   taken_last s c serial b t (other f e w) =
-      let acted = act_of f (greeting_text c.input) s in
-      (w.valid, view_last f s c acted serial b t w (view origin f s acted (act_answers f (greeting_text c.input) s)))
+      let acted = act_of f s in
+      (w.valid, view_last f s c acted serial b t w (view origin f s acted (act_answers f s)))
 
 -- the verdict is not "neither": 8 or 9
 eight_or_nine : (n : ℕ) (r q : Bool) → eqb n 8 ≡ r → eqb n 9 ≡ q → ((when r then Repeat else when q then Stale else Fresh) ≡ Fresh → ⊥) → T (within 8 9 n)

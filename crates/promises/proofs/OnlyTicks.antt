@@ -12,7 +12,6 @@ use Rattle.modules.specs.Groups.{is_core}
 use Rattle.modules.specs.declared.ends.Ends.{Ends}
 use Rattle.modules.specs.declared.power.Module.{Module}
 use Rattle.frames.specs.Answer.{answer_number}
-use Rattle.frames.specs.Greeting.{greeting_text}
 use Rattle.frames.specs.About.{About, about, is_tick}
 use Rattle.frames.specs.declared.answer.Answer.TheVariants.{NotNow}
 use Rattle.frames.specs.declared.sender.Sender.{Sender}
@@ -56,11 +55,11 @@ turn s c = turn_by s c (comes s c)
 
 module _ {Part : Type 0} (part : State → Part) where
   -- what every frame other than a tick leaves
-  module _ (frame_leaves : (f : Frame) (text : List ℕ) → Fits f text → is_tick (about (Ok f)) ≡ false → (s : State) → part (act_of f text s).state ≡ part s) where
+  module _ (frame_leaves : (f : Frame) → Fits f → is_tick (about (Ok f)) ≡ false → (s : State) → part (act_of f s).state ≡ part s) where
     by_others : (s : State) (c : Call) → done_tick s c ≡ false → Comes s c → part (called s c).result.state ≡ part s
     by_others s c e (stopped answer w) = rw w.leaves
     by_others s c e (ticking shorts w) = absurd (true≢false (sym w.tick ∙ e))
-    by_others s c e (other f t w) = rw w.leaves (frame_leaves f (greeting_text c.input) w.fits t s)
+    by_others s c e (other f t w) = rw w.leaves (frame_leaves f w.fits t s)
 
     others_leave : OthersLeave Part part
     others_leave s c e = by_others s c e (comes s c)
@@ -76,9 +75,9 @@ module _ {Part : Type 0} (part : State → Part) where
 
 -- a frame other than a tick switches nothing
 pub power_still :
-    (i : ℕ) (f : Frame) (text : List ℕ) → Fits f text → is_tick (about (Ok f)) ≡ false → (s : State) →
-    (module_at i (act_of f text s).state).power ≡ (module_at i s).power
-power_still i f text fits e s =
+    (i : ℕ) (f : Frame) → Fits f → is_tick (about (Ok f)) ≡ false → (s : State) →
+    (module_at i (act_of f s).state).power ≡ (module_at i s).power
+power_still i f fits e s =
     act_still (λ t. (module_at i t).power ≡ (module_at i s).power)
     (record {
       tension = λ n r t h. h;
@@ -88,7 +87,7 @@ power_still i f text fits e s =
       thresholds = λ a d r t h. h;
       message = λ r n x g t h. h;
     })
-    f text fits e s refl
+    f fits e s refl
 
 -- a tick, in DEPLOY_WAIT or by its stages
 battery_by : (shorts : ℕ) (s : State) → Ticks shorts s → (ticked shorts s).state.battery ≡ s.battery
@@ -121,13 +120,13 @@ module _ {Part : Type 0} (part : State → Part) (test : About → Bool) where
   abbrev Leaves : Frame → State → Acted → Type 0
   Leaves f s a = test (about (Ok f)) && is_done (answer_number a.answer) ≡ false → part a.state ≡ part s
 
-  module _ (act_leaves : (f : Frame) (text : List ℕ) → is_tick (about (Ok f)) ≡ false → (s : State) → Leaves f s (act_of f text s)) where
+  module _ (act_leaves : (f : Frame) → is_tick (about (Ok f)) ≡ false → (s : State) → Leaves f s (act_of f s)) where
     by_rest :
         (s : State) (c : Call) → done_tick s c ≡ false → test (about_of c) && is_done (answered s c) ≡ false → Comes s c →
         part (called s c).result.state ≡ part s
     by_rest s c d o (stopped answer w) = rw w.leaves
     by_rest s c d o (ticking shorts w) = absurd (true≢false (sym w.tick ∙ d))
-    by_rest s c d o (other f t w) = rw w.leaves (act_leaves f (greeting_text c.input) t s (rw (w.read, w.leaves) at o))
+    by_rest s c d o (other f t w) = rw w.leaves (act_leaves f t s (rw (w.read, w.leaves) at o))
 
     rest_leave :
         (s : State) (c : Call) → done_tick s c ≡ false → test (about_of c) && is_done (answered s c) ≡ false → part (called s c).result.state ≡ part s
@@ -149,21 +148,21 @@ module _ {Part : Type 0} (look : Ends → List Module → Part) where
       (λ e. absurd (true≢false (rw order at e)))
 
   taken_leaves :
-      (sender : Sender) (command : Command) (text : List ℕ) (s t : State) → part t ≡ part s →
-      Unordered (frame.Command sender command) s (taken command text t)
-  taken_leaves sender (Order which on) text s t same = order_leaves (frame.Command sender (Order which on)) refl which on 0 s t same
-  taken_leaves sender (Timed which minutes) text s t same = order_leaves (frame.Command sender (Timed which minutes)) refl which true (minute_seconds * minutes) s t same
-  taken_leaves sender (Thresholds ascend descend) text s t same = λ e. same
-  taken_leaves sender (Greeting repeats length) text s t same = λ e. same
+      (sender : Sender) (command : Command) (s t : State) → part t ≡ part s →
+      Unordered (frame.Command sender command) s (taken command t)
+  taken_leaves sender (Order which on) s t same = order_leaves (frame.Command sender (Order which on)) refl which on 0 s t same
+  taken_leaves sender (Timed which minutes) s t same = order_leaves (frame.Command sender (Timed which minutes)) refl which true (minute_seconds * minutes) s t same
+  taken_leaves sender (Thresholds ascend descend) s t same = λ e. same
+  taken_leaves sender (Greeting repeats length text) s t same = λ e. same
 
-  act_leaves : (f : Frame) (text : List ℕ) → is_tick (about (Ok f)) ≡ false → (s : State) → Unordered f s (act_of f text s)
+  act_leaves : (f : Frame) → is_tick (about (Ok f)) ≡ false → (s : State) → Unordered f s (act_of f s)
   unfolding act_of
-  act_leaves (frame.Tick shorts) text t s = absurd (true≢false t)
-  act_leaves (frame.Battery tension) text t s = λ e. refl
-  act_leaves (frame.Antennas deployed) text t s = λ e. refl
-  act_leaves (frame.Command sender command) text t s =
-      by_serial_law sender command text s (λ class. Unordered (frame.Command sender command) s) (λ e. refl) (λ e. refl)
-      (taken_leaves sender command text s (serial_used sender s) refl)
+  act_leaves (frame.Tick shorts) t s = absurd (true≢false t)
+  act_leaves (frame.Battery tension) t s = λ e. refl
+  act_leaves (frame.Antennas deployed) t s = λ e. refl
+  act_leaves (frame.Command sender command) t s =
+      by_serial_law sender command s (λ class. Unordered (frame.Command sender command) s) (λ e. refl) (λ e. refl)
+      (taken_leaves sender command s (serial_used sender s) refl)
 
   rest_leaves : RestLeaves Part part
   rest_leaves = rest_leave part (is_order any) act_leaves
@@ -179,22 +178,22 @@ order_ungreeted f which on end s t same =
     either (Ungreeted f s) (is_ill_timed which on t.watch.mode) {x = silent NotNow t} {y = done (request_set which on end t)} (λ e. same) (λ e. same)
 
 taken_ungreeted :
-    (sender : Sender) (command : Command) (text : List ℕ) (s t : State) → t.message ≡ s.message →
-    Ungreeted (frame.Command sender command) s (taken command text t)
-taken_ungreeted sender (Order which on) text s t same = order_ungreeted (frame.Command sender (Order which on)) which on 0 s t same
-taken_ungreeted sender (Timed which minutes) text s t same =
+    (sender : Sender) (command : Command) (s t : State) → t.message ≡ s.message →
+    Ungreeted (frame.Command sender command) s (taken command t)
+taken_ungreeted sender (Order which on) s t same = order_ungreeted (frame.Command sender (Order which on)) which on 0 s t same
+taken_ungreeted sender (Timed which minutes) s t same =
     order_ungreeted (frame.Command sender (Timed which minutes)) which true (minute_seconds * minutes) s t same
-taken_ungreeted sender (Thresholds ascend descend) text s t same = λ e. same
-taken_ungreeted sender (Greeting repeats length) text s t same = λ e. absurd (true≢false e)
+taken_ungreeted sender (Thresholds ascend descend) s t same = λ e. same
+taken_ungreeted sender (Greeting repeats length text) s t same = λ e. absurd (true≢false e)
 
-act_ungreeted : (f : Frame) (text : List ℕ) → is_tick (about (Ok f)) ≡ false → (s : State) → Ungreeted f s (act_of f text s)
+act_ungreeted : (f : Frame) → is_tick (about (Ok f)) ≡ false → (s : State) → Ungreeted f s (act_of f s)
 unfolding act_of
-act_ungreeted (frame.Tick shorts) text t s = absurd (true≢false t)
-act_ungreeted (frame.Battery tension) text t s = λ e. refl
-act_ungreeted (frame.Antennas deployed) text t s = λ e. refl
-act_ungreeted (frame.Command sender command) text t s =
-    by_serial_law sender command text s (λ class. Ungreeted (frame.Command sender command) s) (λ e. refl) (λ e. refl)
-    (taken_ungreeted sender command text s (serial_used sender s) refl)
+act_ungreeted (frame.Tick shorts) t s = absurd (true≢false t)
+act_ungreeted (frame.Battery tension) t s = λ e. refl
+act_ungreeted (frame.Antennas deployed) t s = λ e. refl
+act_ungreeted (frame.Command sender command) t s =
+    by_serial_law sender command s (λ class. Ungreeted (frame.Command sender command) s) (λ e. refl) (λ e. refl)
+    (taken_ungreeted sender command s (serial_used sender s) refl)
 
 pub message_leaves : (s : State) (c : Call) → done_tick s c ≡ false → done_greeting s c ≡ false → (called s c).result.state.message ≡ s.message
 message_leaves = rest_leave (λ s. s.message) is_greeting_frame act_ungreeted

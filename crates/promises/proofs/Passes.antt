@@ -13,7 +13,6 @@ use Rattle.basics.specs.Outcome.{Outcome}
 use Rattle.basics.proofs.ChoiceLaws.{is_true}
 use Rattle.frames.specs.Answer.{is_reported}
 use Rattle.frames.specs.Kind.{report_bytes}
-use Rattle.frames.specs.Greeting.{greeting_text}
 use Rattle.frames.specs.Reading.{read_frame}
 use Rattle.frames.proofs.ReadingLaws.{is_accepted, read_sound, battery_read}
 use Rattle.supervisor.specs.Range.{in_range}
@@ -64,7 +63,7 @@ order_reported (frame ∷ frames) s room v h =
     let left : List ℕ = drop report_bytes (called s c).room in
     let fits : report_bytes * length frames ≤ length left = rw ((step_written s frame room).past, length-drop report_bytes room) (omega arith) in
     continued_reported (is_accepted (read_frame frame)) (called s c) (in_order (called s c).result.state frames left) (accepted_in (singles frames))
-    (rw (called_read s c v (omega arith)) (read_reported (read_frame frame) (greeting_text frame) (read_sound frame) s room))
+    (rw (called_read s c v (omega arith)) (read_reported (read_frame frame) (read_sound frame) s room))
     (order_reported frames (called s c).result.state left (called_in_range s c v) fits)
 
 passed_reported : (s : State) (p : Pass) → T (in_range s) → RoomBut 0 p → (passed s p).result.reported ≡ accepted_in (singles (frames_in p.input))

@@ -36,7 +36,7 @@ off_says i (a_tick shorts) word e = absurd (true≢false e)
 off_says i (a_command sender (Order which on)) word e = off_new (eqb i which) (plain on) word e
 off_says i (a_command sender (Timed which minutes)) word e = off_new (eqb i which) (timed minutes 0) word e
 off_says i (a_command sender (Thresholds ascend descend)) word e = absurd (true≢false e)
-off_says i (a_command sender (Greeting repeats length)) word e = absurd (true≢false e)
+off_says i (a_command sender (Greeting repeats length text)) word e = absurd (true≢false e)
 off_says i neither word e = absurd (true≢false e)
 
 -- what is said after an "off" does not hang on how that was said
@@ -49,7 +49,7 @@ same_says i (a_tick shorts) word e = e
 same_says i (a_command sender (Order which on)) word e = same_new (eqb i which) (plain on) word e
 same_says i (a_command sender (Timed which minutes)) word e = same_new (eqb i which) (timed minutes 0) word e
 same_says i (a_command sender (Thresholds ascend descend)) word e = e
-same_says i (a_command sender (Greeting repeats length)) word e = e
+same_says i (a_command sender (Greeting repeats length text)) word e = e
 same_says i neither word e = e
 
 module _ (which : ℕ) (low : which < module_count) where

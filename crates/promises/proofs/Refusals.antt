@@ -2,7 +2,6 @@
 -- Assumes nothing.
 use Prim.Native.Nat.{ℕ, ◌*◌}
 use native.Mathlib.Omega.{arith}
-use mathlib.Core.List.{List}
 use mathlib.Core.Path.{◌≡◌, refl}
 use mathlib.Core.Bool.{Bool, true, false, not, ◌&&◌, true≢false, false≢true}
 use lib.Dec.{T}
@@ -11,7 +10,6 @@ use Rattle.std.specs.Prelude.{None, Ok}
 use Rattle.basics.specs.Choice.{within}
 use Rattle.basics.proofs.ChoiceLaws.{decided, within_low, within_high, within_of}
 use Rattle.modules.specs.Groups.{is_mission}
-use Rattle.frames.specs.Greeting.{greeting_text}
 use Rattle.frames.specs.Answer.{answer_number}
 use Rattle.frames.specs.About.{about, is_tick}
 use Rattle.frames.specs.Reading.{most_minutes}
@@ -72,29 +70,29 @@ module _ (sender : Sender) (command : Command) (which : ℕ) (on : Bool) (end : 
       (λ e. record { silent = refl; old = λ t. absurd t; ten = not_ten 0 tt; ill = not_ten 0 tt })
 
 taken_turns :
-    (sender : Sender) (command : Command) (text : List ℕ) → FitsCommand sender command text → (s : State) →
-    Turns sender command s (taken command text (serial_used sender s))
-taken_turns sender (Order which on) text fits s = order_turns sender (Order which on) which on 0 (λ e. rw (eq-eqb which which refl) e) s
-taken_turns sender (Timed which minutes) text fits s =
+    (sender : Sender) (command : Command) → FitsCommand sender command → (s : State) →
+    Turns sender command s (taken command (serial_used sender s))
+taken_turns sender (Order which on) fits s = order_turns sender (Order which on) which on 0 (λ e. rw (eq-eqb which which refl) e) s
+taken_turns sender (Timed which minutes) fits s =
     order_turns sender (Timed which minutes) which true (minute_seconds * minutes)
     (λ e. rw (eq-eqb which which refl) (lt-ltb 0 (60 * minutes) (omega (arith, within_low 1 most_minutes minutes fits.minutes)))) s
-taken_turns sender (Thresholds ascend descend) text fits s = record { silent = refl; old = λ t. absurd t; ten = not_ten 0 tt; ill = not_ten 0 tt }
-taken_turns sender (Greeting repeats length) text fits s = record { silent = refl; old = λ t. absurd t; ten = not_ten 0 tt; ill = not_ten 0 tt }
+taken_turns sender (Thresholds ascend descend) fits s = record { silent = refl; old = λ t. absurd t; ten = not_ten 0 tt; ill = not_ten 0 tt }
+taken_turns sender (Greeting repeats length text) fits s = record { silent = refl; old = λ t. absurd t; ten = not_ten 0 tt; ill = not_ten 0 tt }
 
 command_turns :
-    (sender : Sender) (command : Command) (text : List ℕ) → FitsCommand sender command text → (s : State) →
-    Turns sender command s (by_serial sender command text s)
-command_turns sender command text fits s =
-    by_serial_law sender command text s (λ class. Turns sender command s)
+    (sender : Sender) (command : Command) → FitsCommand sender command → (s : State) →
+    Turns sender command s (by_serial sender command s)
+command_turns sender command fits s =
+    by_serial_law sender command s (λ class. Turns sender command s)
     (record { silent = refl; old = λ t. refl; ten = not_ten 8 tt; ill = not_ten 8 tt })
-    (record { silent = refl; old = λ t. refl; ten = not_ten 9 tt; ill = not_ten 9 tt }) (taken_turns sender command text fits s)
+    (record { silent = refl; old = λ t. refl; ten = not_ten 9 tt; ill = not_ten 9 tt }) (taken_turns sender command fits s)
 
 -- what is answered 8, 9 or 10 is a command
 abbrev Commanded : State → Call → Type 0
-Commanded s c = record { sender : Sender; command : Command; works : Works s c (frame.Command sender command) (by_serial sender command (greeting_text c.input) s) }
+Commanded s c = record { sender : Sender; command : Command; works : Works s c (frame.Command sender command) (by_serial sender command s) }
 
 module _ (s : State) (c : Call) where
-  by_frame : (f : Frame) → is_tick (about (Ok f)) ≡ false → Works s c f (act_of f (greeting_text c.input) s) → T (within 8 10 (answered s c)) → Commanded s c
+  by_frame : (f : Frame) → is_tick (about (Ok f)) ≡ false → Works s c f (act_of f s) → T (within 8 10 (answered s c)) → Commanded s c
   unfolding act_of
   by_frame (frame.Tick shorts) e w h = absurd (true≢false e)
   by_frame (frame.Battery tension) e w h = absurd (rw w.leaves at h)
@@ -109,14 +107,14 @@ module _ (s : State) (c : Call) where
   untouched : Comes s c → T (within 1 7 (answered s c)) → Untouched s c
   untouched (stopped answer w) h = record { state = rw w.leaves; room = rw w.leaves }
   untouched (ticking shorts w) h = absurd (rw (w.leaves, ticked_done shorts s) at h)
-  untouched (other f e w) h = absurd (rw (unrefused f s (act_of f (greeting_text c.input) s) (act_answers f (greeting_text c.input) s)) at (rw w.leaves at h))
+  untouched (other f e w) h = absurd (rw (unrefused f s (act_of f s) (act_answers f s)) at (rw w.leaves at h))
 
   module _ (k : Commanded s c) where
     old : T (within 8 9 (answered s c)) → TurnedDown nothing s c
     unfolding report_of
     old h =
-        let t = command_turns k.sender k.command (greeting_text c.input) k.works.fits s in
-        let same : (by_serial k.sender k.command (greeting_text c.input) s).state ≡ s = t.old (rw k.works.leaves at h) in
+        let t = command_turns k.sender k.command k.works.fits s in
+        let same : (by_serial k.sender k.command s).state ≡ s = t.old (rw k.works.leaves at h) in
         record {
           sender = k.sender;
           command = k.command;
@@ -128,8 +126,8 @@ module _ (s : State) (c : Call) where
     ten : answered s c ≡ 10 → TurnedDown serial_used s c
     unfolding report_of
     ten h =
-        let t = command_turns k.sender k.command (greeting_text c.input) k.works.fits s in
-        let moved : (by_serial k.sender k.command (greeting_text c.input) s).state ≡ serial_used k.sender s = t.ten (rw k.works.leaves at h) in
+        let t = command_turns k.sender k.command k.works.fits s in
+        let moved : (by_serial k.sender k.command s).state ≡ serial_used k.sender s = t.ten (rw k.works.leaves at h) in
         record {
           sender = k.sender;
           command = k.command;
@@ -140,7 +138,7 @@ module _ (s : State) (c : Call) where
 
     ill_timed : answered s c ≡ 10 → IllTimed outside_safe s c
     ill_timed h =
-        let i = (command_turns k.sender k.command (greeting_text c.input) k.works.fits s).ill (rw k.works.leaves at h) in
+        let i = (command_turns k.sender k.command k.works.fits s).ill (rw k.works.leaves at h) in
         record { which = i.which; mission = i.mission; on = rw k.works.read i.on; mode = i.mode }
 
   old_answer : T (within 8 9 (answered s c)) → T (within 8 10 (answered s c))

@@ -2,7 +2,6 @@
 -- Assumes nothing.
 use Prim.Native.Nat.{ℕ, ◌-◌, ◌*◌, ◌<◌}
 use native.Mathlib.Omega.{arith}
-use mathlib.Core.List.{List}
 use mathlib.Core.Path.{◌≡◌, refl, sym, ap, ◌∙◌}
 use mathlib.Core.Bool.{Bool, true, false, true≢false}
 use lib.Dec.{eqb}
@@ -12,7 +11,6 @@ use Rattle.basics.specs.Choice.{when◌then◌else◌}
 use Rattle.basics.proofs.ChoiceLaws.{is_true, either, within_low}
 use Rattle.modules.specs.Groups.{mission_four, is_mission, module_count}
 use Rattle.modules.proofs.EndsLaws.{core_none, none_at}
-use Rattle.frames.specs.Greeting.{greeting_text}
 use Rattle.frames.specs.Answer.{answer_number}
 use Rattle.frames.specs.About.{is_tick, about}
 use Rattle.frames.specs.Reading.{most_minutes}
@@ -85,30 +83,30 @@ module _ (i : ℕ) (low : i < module_count) where
 
   -- a command that is taken
   taken_told :
-      (sender : Sender) (command : Command) (text : List ℕ) → FitsCommand sender command text → (word : Word) (t : State) → Eight t → Held i t word →
-      Told (frame.Command sender command) word (taken command text t)
-  taken_told sender (Order which on) text fits word t n h =
+      (sender : Sender) (command : Command) → FitsCommand sender command → (word : Word) (t : State) → Eight t → Held i t word →
+      Told (frame.Command sender command) word (taken command t)
+  taken_told sender (Order which on) fits word t n h =
       either (Told (frame.Command sender (Order which on)) word) (is_ill_timed which on t.watch.mode)
       {x = silent NotNow t} {y = done (request_set which on 0 t)} h
       (order_held which on 0 (plain on) word refl refl (λ core. refl) t n h (eqb i which) refl)
-  taken_told sender (Timed which minutes) text fits word t n h =
+  taken_told sender (Timed which minutes) fits word t n h =
       let end : ℕ = 60 * minutes in
       either (Told (frame.Command sender (Timed which minutes)) word) (is_ill_timed which true t.watch.mode)
       {x = silent NotNow t} {y = done (request_set which true end t)} h
       (order_held which true end (timed minutes 0) word (lt-ltb 0 end (omega (arith, within_low 1 most_minutes minutes fits.minutes))) (omega arith)
       (λ core. absurd (true≢false (sym (is_true (is_mission which) fits.mission) ∙ core))) t n h (eqb i which) refl)
-  taken_told sender (Thresholds ascend descend) text fits word t n h = h
-  taken_told sender (Greeting repeats length) text fits word t n h = h
+  taken_told sender (Thresholds ascend descend) fits word t n h = h
+  taken_told sender (Greeting repeats length text) fits word t n h = h
 
   act_told :
-      (f : Frame) (text : List ℕ) → Fits f text → is_tick (about (Ok f)) ≡ false → (word : Word) (s : State) → Eight s → Held i s word →
-      Told f word (act_of f text s)
+      (f : Frame) → Fits f → is_tick (about (Ok f)) ≡ false → (word : Word) (s : State) → Eight s → Held i s word →
+      Told f word (act_of f s)
   unfolding act_of
-  act_told (frame.Tick shorts) text fits e word s n h = absurd (true≢false e)
-  act_told (frame.Battery tension) text fits e word s n h = h
-  act_told (frame.Antennas deployed) text fits e word s n h = h
-  act_told (frame.Command sender command) text fits e word s n h =
-      by_serial_law sender command text s (λ class. Told (frame.Command sender command) word) h h (taken_told sender command text fits word (serial_used sender s) n h)
+  act_told (frame.Tick shorts) fits e word s n h = absurd (true≢false e)
+  act_told (frame.Battery tension) fits e word s n h = h
+  act_told (frame.Antennas deployed) fits e word s n h = h
+  act_told (frame.Command sender command) fits e word s n h =
+      by_serial_law sender command s (λ class. Told (frame.Command sender command) word) h h (taken_told sender command fits word (serial_used sender s) n h)
 
   -- a tick: a second of the word, and what a crossing says
   ended_held : (word : Word) (s : State) → Eight s → Held i s word → Held i (ended s) (aged word)
@@ -154,9 +152,9 @@ module _ (i : ℕ) (low : i < module_count) where
         rw (w.tick, w.leaves, ne_eqb (answer_number answer) 0 nonzero, no_crossing (is_mission i) s.watch.mode word) held
     by_comes c (ticking shorts w) = rw (w.tick, w.leaves, w.read, ticked_done shorts s) (tick_held shorts (ticks shorts s))
     by_comes c (other f t w) =
-        rw (w.tick, t, w.leaves, w.read, watch_still f (greeting_text c.input) w.fits t s)
-        (rw (no_crossing (is_mission i) s.watch.mode (when is_done (answer_number (act_of f (greeting_text c.input) s).answer) then orders i (about (Ok f)) word else word))
-        (act_told f (greeting_text c.input) w.fits t word s eight held))
+        rw (w.tick, t, w.leaves, w.read, watch_still f w.fits t s)
+        (rw (no_crossing (is_mission i) s.watch.mode (when is_done (answer_number (act_of f s).answer) then orders i (about (Ok f)) word else word))
+        (act_told f w.fits t word s eight held))
 
     -- what a call says is held after it
     pub called_held : (c : Call) → Held i (called s c).result.state (said crossing i s c word)

@@ -7,7 +7,6 @@ use mathlib.Core.List.{List, [], ◌∷◌, ◌++◌}
 use mathlib.Core.Logic.{⊎_elim}
 use lib.Dec.{T}
 use Rattle.std.specs.Prelude.{Ok, Err}
-use Rattle.frames.specs.Greeting.{greeting_text}
 use Rattle.frames.specs.Answer.{answer_number}
 use Rattle.frames.specs.Serial.{class_of, last_of}
 use Rattle.frames.specs.About.{serial_from, about}
@@ -67,21 +66,21 @@ module _ (origin : Origin) where
 
   -- one call, with room
   read_last :
-      (text : List ℕ) (r : Reading) (s : State) (room : List ℕ) →
-      last_of origin (step_read r text s room).result.state.serials ≡ last_after (last_of origin s.serials) (serial_from origin (about r))
-  read_last text (Err answer) s room = refl
-  read_last text (Ok f) s room = view_last f s (act_of f text s) (view origin f s (act_of f text s) (act_answers f text s))
+      (r : Reading) (s : State) (room : List ℕ) →
+      last_of origin (step_read r s room).result.state.serials ≡ last_after (last_of origin s.serials) (serial_from origin (about r))
+  read_last (Err answer) s room = refl
+  read_last (Ok f) s room = view_last f s (act_of f s) (view origin f s (act_of f s) (act_answers f s))
 
   read_tells :
-      (text : List ℕ) (serial : ℕ) (r : Reading) (s : State) (room : List ℕ) → serial_from origin (about r) ≡ serial ∷ [] →
-      Tells (answer_number (step_read r text s room).result.answer) (class_of serial (last_of origin s.serials))
-  read_tells text serial (Err answer) s room h = let z : ◌≡◌ {A = ℕ} 0 1 = cc in absurd (omega arith)
-  read_tells text serial (Ok f) s room h = view_tells serial f s (act_of f text s) (view origin f s (act_of f text s) (act_answers f text s)) h
+      (serial : ℕ) (r : Reading) (s : State) (room : List ℕ) → serial_from origin (about r) ≡ serial ∷ [] →
+      Tells (answer_number (step_read r s room).result.answer) (class_of serial (last_of origin s.serials))
+  read_tells serial (Err answer) s room h = let z : ◌≡◌ {A = ℕ} 0 1 = cc in absurd (omega arith)
+  read_tells serial (Ok f) s room h = view_tells serial f s (act_of f s) (view origin f s (act_of f s) (act_answers f s)) h
 
   pub call_tells :
       (serial : ℕ) (c : Call) → HasRoom c → serial_from origin (about_of c) ≡ serial ∷ [] → (s : State) → T (in_range s) →
       Tells (answered s c) (class_of serial (last_of origin s.serials))
-  call_tells serial c room b s v = rw (called_read s c v room) (read_tells (greeting_text c.input) serial (read_frame c.input) s c.room b)
+  call_tells serial c room b s v = rw (called_read s c v room) (read_tells serial (read_frame c.input) s c.room b)
 
   -- many calls
   after_last :
@@ -90,7 +89,7 @@ module _ (origin : Origin) where
   after_last [] r s v = refl
   after_last (c ∷ cs) r s v =
       after_last cs r.1 (called s c).result.state (called_in_range s c v)
-      ∙ ap (λ (n : ℕ). last_after n (serials_of origin cs)) (rw (called_read s c v r.0) (read_last (greeting_text c.input) (read_frame c.input) s c.room))
+      ∙ ap (λ (n : ℕ). last_after n (serials_of origin cs)) (rw (called_read s c v r.0) (read_last (read_frame c.input) s c.room))
       ∙ sym (last_after_append (last_of origin s.serials) (serial_from origin (about_of c)) (serials_of origin cs))
 
   -- the answer, by the frame's serial and those of the origin's earlier frames

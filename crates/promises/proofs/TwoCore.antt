@@ -1,7 +1,6 @@
 -- The core four of two craft: no frame tells one craft's core module from the other's, shorted or not.
 -- Assumes nothing.
 use Prim.Native.Nat.{ℕ, ◌*◌}
-use mathlib.Core.List.{List}
 use mathlib.Core.Path.{◌≡◌, refl, sym, ap, ◌∙◌}
 use mathlib.Core.Bool.{Bool, true, false, not, ◌&&◌, true≢false, false≢true}
 use lib.Dec.{eqb}
@@ -85,20 +84,20 @@ module _ (i : ℕ) (core : is_core i ≡ true) where
       order_alike : (which : ℕ) (on : Bool) (end : ℕ) → Alike a b → Alike (order_taken which on end a).state (order_taken which on end b).state
       order_alike which on end h = order_core which on end a eight ∙ ap (module_asked which on i) h ∙ sym (order_core which on end b eight')
 
-      taken_alike : (command : Command) (text : List ℕ) → Alike a b → Alike (taken command text a).state (taken command text b).state
-      taken_alike (Order which on) text h = order_alike which on 0 h
-      taken_alike (Timed which minutes) text h = order_alike which true (minute_seconds * minutes) h
-      taken_alike (Thresholds ascend descend) text h = h
-      taken_alike (Greeting repeats length) text h = h
+      taken_alike : (command : Command) → Alike a b → Alike (taken command a).state (taken command b).state
+      taken_alike (Order which on) h = order_alike which on 0 h
+      taken_alike (Timed which minutes) h = order_alike which true (minute_seconds * minutes) h
+      taken_alike (Thresholds ascend descend) h = h
+      taken_alike (Greeting repeats length text) h = h
 
   -- every frame
   pub act_alike :
-      (f : Frame) (text : List ℕ) (a b : State) → AtMost a.watch.mode b.watch.mode → a.serials ≡ b.serials → Eight a → Eight b → Alike a b →
-      Alike (act_of f text a).state (act_of f text b).state
+      (f : Frame) (a b : State) → AtMost a.watch.mode b.watch.mode → a.serials ≡ b.serials → Eight a → Eight b → Alike a b →
+      Alike (act_of f a).state (act_of f b).state
   unfolding act_of ticked
-  act_alike (frame.Tick shorts) text a b modes serials eight eight' h = in_modes a b a.watch.mode b.watch.mode modes refl refl shorts h
-  act_alike (frame.Battery tension) text a b modes serials eight eight' h = h
-  act_alike (frame.Antennas deployed) text a b modes serials eight eight' h = h
-  act_alike (frame.Command sender command) text a b modes serials eight eight' h =
-      by_serials sender command text a b (λ class x y. Alike x.state y.state) (ap (λ s. class_of sender.serial (last_of sender.origin s)) serials) h h
-      (taken_alike (serial_used sender a) (serial_used sender b) eight eight' command text h)
+  act_alike (frame.Tick shorts) a b modes serials eight eight' h = in_modes a b a.watch.mode b.watch.mode modes refl refl shorts h
+  act_alike (frame.Battery tension) a b modes serials eight eight' h = h
+  act_alike (frame.Antennas deployed) a b modes serials eight eight' h = h
+  act_alike (frame.Command sender command) a b modes serials eight eight' h =
+      by_serials sender command a b (λ class x y. Alike x.state y.state) (ap (λ s. class_of sender.serial (last_of sender.origin s)) serials) h h
+      (taken_alike (serial_used sender a) (serial_used sender b) eight eight' command h)

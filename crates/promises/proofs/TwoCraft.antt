@@ -14,7 +14,6 @@ use Rattle.basics.proofs.TablesLaws.{upto}
 use Rattle.modules.specs.Groups.{is_core, is_mission, module_count, adcs_module}
 use Rattle.modules.specs.Power.{is_on}
 use Rattle.modules.specs.Stage.{requested_by}
-use Rattle.frames.specs.Greeting.{greeting_text}
 use Rattle.frames.specs.Reading.{Reading, read_frame}
 use Rattle.frames.specs.About.{about}
 use Rattle.frames.proofs.ReadingLaws.{Sound, read_sound, battery_read}
@@ -38,34 +37,34 @@ use Rattle.promises.proofs.TwoPower.{is_sturdy, Bright, one_more, lit_later, act
 module _ (i : ℕ) (mission : is_mission i ≡ true) where
   -- one reading, the same on both
   reading_beside :
-      (text : List ℕ) (r : Reading) → Sound text r → (room room' : List ℕ) (a b : State) → Beside i a b →
-      Beside i (step_read r text a room).result.state (step_read r text b room').result.state
-  reading_beside text (Err answer) sound room room' a b h = h
-  reading_beside text (Ok f) sound room room' a b h = act_beside i mission f text sound a b h
+      (r : Reading) → Sound r → (room room' : List ℕ) (a b : State) → Beside i a b →
+      Beside i (step_read r a room).result.state (step_read r b room').result.state
+  reading_beside (Err answer) sound room room' a b h = h
+  reading_beside (Ok f) sound room room' a b h = act_beside i mission f sound a b h
 
   module _ (n : ℕ) where
     reading_lit :
-        (text : List ℕ) (r : Reading) → Sound text r → n + one_more (shorted i (about r)) ≤ shorts_borne → (room room' : List ℕ) (a b : State) → Beside i a b →
+        (r : Reading) → Sound r → n + one_more (shorted i (about r)) ≤ shorts_borne → (room room' : List ℕ) (a b : State) → Beside i a b →
         Bright i mission n a b →
-        Bright i mission (n + one_more (shorted i (about r))) (step_read r text a room).result.state (step_read r text b room').result.state
-    reading_lit text (Err answer) sound few room room' a b h l = lit_later n (n + 0) (omega arith) (module_at i a).power (module_at i b).power l
-    reading_lit text (Ok f) sound few room room' a b h l = act_lit i mission n f text sound few a b h l
+        Bright i mission (n + one_more (shorted i (about r))) (step_read r a room).result.state (step_read r b room').result.state
+    reading_lit (Err answer) sound few room room' a b h l = lit_later n (n + 0) (omega arith) (module_at i a).power (module_at i b).power l
+    reading_lit (Ok f) sound few room room' a b h l = act_lit i mission n f sound few a b h l
 
   -- two inputs, as good on the second
   good_beside :
       {x y : List ℕ} → AsGood in_reach x y → (room room' : List ℕ) (a b : State) → Beside i a b →
-      Beside i (step_read (read_frame x) (greeting_text x) a room).result.state (step_read (read_frame y) (greeting_text y) b room').result.state
+      Beside i (step_read (read_frame x) a room).result.state (step_read (read_frame y) b room').result.state
   unfolding act_of
-  good_beside (same {bytes = x}) room room' a b h = reading_beside (greeting_text x) (read_frame x) (read_sound x) room room' a b h
+  good_beside (same {bytes = x}) room room' a b h = reading_beside (read_frame x) (read_sound x) room room' a b h
   good_beside (higher high low high' low' r r' more) room room' a b h =
       rw (battery_read high low r, battery_read high' low' r') (tension_beside i mission (word high low) (word high' low') more a b h)
 
   good_lit :
       (n : ℕ) {x y : List ℕ} → AsGood in_reach x y → n + one_more (shorted i (about (read_frame x))) ≤ shorts_borne → (room room' : List ℕ) (a b : State) → Beside i a b →
       Bright i mission n a b →
-      Bright i mission (n + one_more (shorted i (about (read_frame x)))) (step_read (read_frame x) (greeting_text x) a room).result.state (step_read (read_frame y) (greeting_text y) b room').result.state
+      Bright i mission (n + one_more (shorted i (about (read_frame x)))) (step_read (read_frame x) a room).result.state (step_read (read_frame y) b room').result.state
   unfolding act_of
-  good_lit n (same {bytes = x}) few room room' a b h l = reading_lit n (greeting_text x) (read_frame x) (read_sound x) few room room' a b h l
+  good_lit n (same {bytes = x}) few room room' a b h l = reading_lit n (read_frame x) (read_sound x) few room room' a b h l
   good_lit n (higher high low high' low' r r' more) few room room' a b h l =
       rw (battery_read high low r, battery_read high' low' r') (lit_later n (n + 0) (omega arith) (module_at i a).power (module_at i b).power l)
 
@@ -117,17 +116,17 @@ module _ (i : ℕ) (mission : is_mission i ≡ true) where
 -- a core module, beside what the two craft keep for one of the mission four
 module _ (i : ℕ) (core : is_core i ≡ true) (j : ℕ) where
   reading_alike :
-      (text : List ℕ) (r : Reading) (room room' : List ℕ) (a b : State) → Beside j a b → Alike i core a b →
-      Alike i core (step_read r text a room).result.state (step_read r text b room').result.state
-  reading_alike text (Err answer) room room' a b h l = l
-  reading_alike text (Ok f) room room' a b h l =
-      act_alike i core f text a b h.flown.modes h.shared.serials h.flown.eight h.flown.eight' l
+      (r : Reading) (room room' : List ℕ) (a b : State) → Beside j a b → Alike i core a b →
+      Alike i core (step_read r a room).result.state (step_read r b room').result.state
+  reading_alike (Err answer) room room' a b h l = l
+  reading_alike (Ok f) room room' a b h l =
+      act_alike i core f a b h.flown.modes h.shared.serials h.flown.eight h.flown.eight' l
 
   good_alike :
       {x y : List ℕ} → AsGood in_reach x y → (room room' : List ℕ) (a b : State) → Beside j a b → Alike i core a b →
-      Alike i core (step_read (read_frame x) (greeting_text x) a room).result.state (step_read (read_frame y) (greeting_text y) b room').result.state
+      Alike i core (step_read (read_frame x) a room).result.state (step_read (read_frame y) b room').result.state
   unfolding act_of
-  good_alike (same {bytes = x}) room room' a b h l = reading_alike (greeting_text x) (read_frame x) room room' a b h l
+  good_alike (same {bytes = x}) room room' a b h l = reading_alike (read_frame x) room room' a b h l
   good_alike (higher high low high' low' r r' more) room room' a b h l = rw (battery_read high low r, battery_read high' low' r') l
 
   module _ (mission : is_mission j ≡ true) where

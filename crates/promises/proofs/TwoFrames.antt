@@ -2,7 +2,6 @@
 -- Assumes nothing.
 use Prim.Native.Nat.{ℕ, ◌*◌, ◌≤◌}
 use native.Mathlib.Nat.{le_refl}
-use mathlib.Core.List.{List}
 use mathlib.Core.Path.{◌≡◌, refl, sym, ap, ◌∙◌}
 use mathlib.Core.Bool.{Bool, true, false, not, ◌&&◌, true≢false, false≢true}
 use lib.Dec.{T, eqb, leb, leb→le}
@@ -146,22 +145,22 @@ module _ (i : ℕ) (mission : is_mission i ≡ true) where
 
   -- a command that is taken on both
   taken_beside :
-      (sender : Sender) (command : Command) (text : List ℕ) → FitsCommand sender command text → (a b : State) → Beside i a b →
-      Beside i (taken command text a).state (taken command text b).state
-  taken_beside sender (Order which on) text fits a b h = order_beside which on 0 a b h
-  taken_beside sender (Timed which minutes) text fits a b h = order_beside which true (minute_seconds * minutes) a b h
-  taken_beside sender (Greeting repeats length) text fits a b h = record { flown = h.flown; shared = h.shared }
-  taken_beside sender (Thresholds ascend descend) text fits a b h =
+      (sender : Sender) (command : Command) → FitsCommand sender command → (a b : State) → Beside i a b →
+      Beside i (taken command a).state (taken command b).state
+  taken_beside sender (Order which on) fits a b h = order_beside which on 0 a b h
+  taken_beside sender (Timed which minutes) fits a b h = order_beside which true (minute_seconds * minutes) a b h
+  taken_beside sender (Greeting repeats length text) fits a b h = record { flown = h.flown; shared = h.shared }
+  taken_beside sender (Thresholds ascend descend) fits a b h =
       thresholds_beside ascend descend (leb→le descend ascend (and_right (is_reading ascend && is_reading descend) (leb descend ascend) fits.fair)) a b h
 
   -- a serial has the same class on both
   serial_beside :
-      (sender : Sender) (command : Command) (text : List ℕ) → FitsCommand sender command text → (a b : State) → Beside i a b →
-      Beside i (by_serial sender command text a).state (by_serial sender command text b).state
-  serial_beside sender command text fits a b h =
-      by_serials sender command text a b (λ class x y. Beside i x.state y.state)
+      (sender : Sender) (command : Command) → FitsCommand sender command → (a b : State) → Beside i a b →
+      Beside i (by_serial sender command a).state (by_serial sender command b).state
+  serial_beside sender command fits a b h =
+      by_serials sender command a b (λ class x y. Beside i x.state y.state)
       (ap (λ s. class_of sender.serial (last_of sender.origin s)) h.shared.serials) h h
-      (taken_beside sender command text fits (serial_used sender a) (serial_used sender b)
+      (taken_beside sender command fits (serial_used sender a) (serial_used sender b)
       (record {
         flown = h.flown;
         shared = record {
@@ -171,10 +170,10 @@ module _ (i : ℕ) (mission : is_mission i ≡ true) where
         };
       }))
 
-  pub act_beside : (f : Frame) (text : List ℕ) → Fits f text → (a b : State) → Beside i a b → Beside i (act_of f text a).state (act_of f text b).state
+  pub act_beside : (f : Frame) → Fits f → (a b : State) → Beside i a b → Beside i (act_of f a).state (act_of f b).state
   unfolding act_of
-  act_beside (frame.Tick shorts) text fits a b h = ticked_beside i mission shorts a b h
-  act_beside (frame.Battery tension) text fits a b h = tension_beside tension tension (le_refl tension) a b h
-  act_beside (frame.Antennas deployed) text fits a b h =
+  act_beside (frame.Tick shorts) fits a b h = ticked_beside i mission shorts a b h
+  act_beside (frame.Battery tension) fits a b h = tension_beside tension tension (le_refl tension) a b h
+  act_beside (frame.Antennas deployed) fits a b h =
       record { flown = h.flown; shared = record { antennas = refl; battery = h.shared.battery; serials = h.shared.serials } }
-  act_beside (frame.Command sender command) text fits a b h = serial_beside sender command text fits a b h
+  act_beside (frame.Command sender command) fits a b h = serial_beside sender command fits a b h

@@ -2,7 +2,6 @@
 -- Assumes nothing.
 use Prim.Native.Nat.{ℕ, ◌+◌, ◌-◌, ◌≤◌, ◌<◌}
 use native.Mathlib.Omega.{arith}
-use mathlib.Core.List.{List}
 use mathlib.Core.Path.{◌≡◌, refl}
 use mathlib.Core.Bool.{Bool, true, false, ◌&&◌}
 use lib.Dec.{T, leb, leb→le, le→leb}
@@ -120,16 +119,16 @@ module _ (i : ℕ) (mission : is_mission i ≡ true) where
   module _ (n : ℕ) where
     -- a frame other than a tick switches nothing
     still_lit :
-        (f : Frame) (text : List ℕ) → Fits f text → is_tick (about (Ok f)) ≡ false → (a b : State) → Bright n a b →
-        Bright (n + 0) (act_of f text a).state (act_of f text b).state
-    still_lit f text fits e a b l =
-        rw (power_still i f text fits e a, power_still i f text fits e b) (lit_later n (n + 0) (omega arith) (module_at i a).power (module_at i b).power l)
+        (f : Frame) → Fits f → is_tick (about (Ok f)) ≡ false → (a b : State) → Bright n a b →
+        Bright (n + 0) (act_of f a).state (act_of f b).state
+    still_lit f fits e a b l =
+        rw (power_still i f fits e a, power_still i f fits e b) (lit_later n (n + 0) (omega arith) (module_at i a).power (module_at i b).power l)
 
     pub act_lit :
-        (f : Frame) (text : List ℕ) → Fits f text → n + one_more (shorted i (about (Ok f))) ≤ shorts_borne → (a b : State) → Beside i a b → Bright n a b →
-        Bright (n + one_more (shorted i (about (Ok f)))) (act_of f text a).state (act_of f text b).state
+        (f : Frame) → Fits f → n + one_more (shorted i (about (Ok f))) ≤ shorts_borne → (a b : State) → Beside i a b → Bright n a b →
+        Bright (n + one_more (shorted i (about (Ok f)))) (act_of f a).state (act_of f b).state
     unfolding act_of ticked
-    act_lit (frame.Tick shorts) text fits few a b h l = in_modes n shorts few a.watch.mode b.watch.mode h.flown.modes a b h l
-    act_lit (frame.Battery tension) text fits few a b h l = still_lit (frame.Battery tension) text fits refl a b l
-    act_lit (frame.Antennas deployed) text fits few a b h l = still_lit (frame.Antennas deployed) text fits refl a b l
-    act_lit (frame.Command sender command) text fits few a b h l = still_lit (frame.Command sender command) text fits refl a b l
+    act_lit (frame.Tick shorts) fits few a b h l = in_modes n shorts few a.watch.mode b.watch.mode h.flown.modes a b h l
+    act_lit (frame.Battery tension) fits few a b h l = still_lit (frame.Battery tension) fits refl a b l
+    act_lit (frame.Antennas deployed) fits few a b h l = still_lit (frame.Antennas deployed) fits refl a b l
+    act_lit (frame.Command sender command) fits few a b h l = still_lit (frame.Command sender command) fits refl a b l

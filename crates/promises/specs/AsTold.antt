@@ -32,7 +32,7 @@ abbrev pub commands : ℕ → Command → (word : Word) → Word
 commands i (Order which on) word = when eqb i which then plain on else word
 commands i (Timed which minutes) word = when eqb i which then timed minutes 0 else word
 commands i (Thresholds ascend descend) word = word
-commands i (Greeting repeats length) word = word
+commands i (Greeting repeats length text) word = word
 
 -- so does whatever is no command
 abbrev pub orders : ℕ → About → (word : Word) → Word

@@ -47,7 +47,8 @@ AsAsked uses left (b ∷ bs) =
 -- a done greeting, of so many repeats and so many characters
 pub record Greets (repeats length : ℕ) (s : State) (c : Call) : Type 0 where
   pub sender : Sender
-  pub frame : about_of c ≡ a_command sender (Greeting repeats length)
+  pub text : List ℕ
+  pub frame : about_of c ≡ a_command sender (Greeting repeats length text)
   pub done : answered s c ≡ 0
 
 -- no call of a history is a done greeting

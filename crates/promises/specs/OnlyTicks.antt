@@ -29,7 +29,7 @@ abbrev pub order_command : (modules : ℕ → Bool) → Command → Bool
 order_command modules (Order which on) = modules which
 order_command modules (Timed which minutes) = modules which
 order_command modules (Thresholds ascend descend) = false
-order_command modules (Greeting repeats length) = false
+order_command modules (Greeting repeats length text) = false
 
 -- so is a frame, of either origin
 abbrev pub is_order : (modules : ℕ → Bool) → About → Bool
@@ -56,7 +56,7 @@ abbrev pub greeting_command : Command → Bool
 greeting_command (Order which on) = false
 greeting_command (Timed which minutes) = false
 greeting_command (Thresholds ascend descend) = false
-greeting_command (Greeting repeats length) = true
+greeting_command (Greeting repeats length text) = true
 
 -- so is a frame
 abbrev pub is_greeting_frame : About → Bool

@@ -50,24 +50,24 @@ module _ (P : State → Type 0) (still : Still P) where
   order_still which on end low s p =
       decided (λ (a : Acted). P a.state) (is_ill_timed which on s.watch.mode) (λ e. p) (λ e. still.request which on end low s e p)
 
-  taken_still : (sender : Sender) (command : Command) (text : List ℕ) → FitsCommand sender command text → (s : State) → P s → P (taken command text s).state
-  taken_still sender (Order which on) text fits s p = order_still which on 0 (omega arith) s p
-  taken_still sender (Timed which minutes) text fits s p = order_still which true (minute_seconds * minutes) (day minutes fits.minutes) s p
-  taken_still sender (Thresholds ascend descend) text fits s p = still.thresholds ascend descend fits.fair s p
-  taken_still sender (Greeting repeats length) text fits s p = still.message repeats length text fits.fair s p
+  taken_still : (sender : Sender) (command : Command) → FitsCommand sender command → (s : State) → P s → P (taken command s).state
+  taken_still sender (Order which on) fits s p = order_still which on 0 (omega arith) s p
+  taken_still sender (Timed which minutes) fits s p = order_still which true (minute_seconds * minutes) (day minutes fits.minutes) s p
+  taken_still sender (Thresholds ascend descend) fits s p = still.thresholds ascend descend fits.fair s p
+  taken_still sender (Greeting repeats length text) fits s p = still.message repeats length text fits.fair s p
 
-  pub act_still : (f : Frame) (text : List ℕ) → Fits f text → is_tick (about (Ok f)) ≡ false → (s : State) → P s → P (act_of f text s).state
+  pub act_still : (f : Frame) → Fits f → is_tick (about (Ok f)) ≡ false → (s : State) → P s → P (act_of f s).state
   unfolding act_of
-  act_still (frame.Tick shorts) text fits e s p = absurd (true≢false e)
-  act_still (frame.Battery tension) text fits e s p = still.tension tension fits s p
-  act_still (frame.Antennas deployed) text fits e s p = still.antennas deployed s p
-  act_still (frame.Command sender command) text fits e s p =
-      by_serial_law sender command text s (λ class a. P a.state) p p (taken_still sender command text fits (serial_used sender s) (still.serial sender s p))
+  act_still (frame.Tick shorts) fits e s p = absurd (true≢false e)
+  act_still (frame.Battery tension) fits e s p = still.tension tension fits s p
+  act_still (frame.Antennas deployed) fits e s p = still.antennas deployed s p
+  act_still (frame.Command sender command) fits e s p =
+      by_serial_law sender command s (λ class a. P a.state) p p (taken_still sender command fits (serial_used sender s) (still.serial sender s p))
 
 -- a frame other than a tick leaves the mode and both counts
-pub watch_still : (f : Frame) (text : List ℕ) → Fits f text → is_tick (about (Ok f)) ≡ false → (s : State) → (act_of f text s).state.watch ≡ s.watch
+pub watch_still : (f : Frame) → Fits f → is_tick (about (Ok f)) ≡ false → (s : State) → (act_of f s).state.watch ≡ s.watch
 unfolding request_set
-watch_still f text fits e s =
+watch_still f fits e s =
     act_still (λ t. t.watch ≡ s.watch)
     (record { tension = λ n r t h. h; antennas = λ d t h. h; serial = λ o t h. h; request = λ n on end low t i h. h; thresholds = λ a d r t h. h; message = λ r n x g t h. h })
-    f text fits e s refl
+    f fits e s refl

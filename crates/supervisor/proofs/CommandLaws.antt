@@ -4,7 +4,7 @@ use Prim.Native.Nat.{ℕ, ◌*◌}
 use native.Mathlib.Omega.{arith}
 use mathlib.Core.Path.{◌≡◌, refl, ap, subst}
 use mathlib.Core.Bool.{Bool, true, false, ◌||◌}
-use mathlib.Core.List.{List, [], ◌∷◌}
+use mathlib.Core.List.{[], ◌∷◌}
 use mathlib.Core.Logic.{◌⊎◌, inl, inr, ⊎_elim}
 use lib.Dec.{T, eqb, eqb→eq}
 use Rattle.std.specs.Prelude.{Ok}
@@ -32,11 +32,11 @@ use Rattle.supervisor.proofs.TickLaws.{ticked_done, ticked_serials}
 
 -- what holds of a repeat, of a stale serial and of a command that is taken, class by class and on two states at once, holds of
 -- a command judged by its serial, if the serial has the same class on both
-module _ (sender : Sender) (command : Command) (text : List ℕ) (a b : State) (R : Class → Acted → Acted → Type 0) where
+module _ (sender : Sender) (command : Command) (a b : State) (R : Class → Acted → Acted → Type 0) where
   by_class_law :
       (class : Class) → R Repeat (silent answer.Repeat a) (silent answer.Repeat b) → R Stale (silent answer.Stale a) (silent answer.Stale b) →
-      R Fresh (taken command text (serial_used sender a)) (taken command text (serial_used sender b)) →
-      R class (by_class class sender command text a) (by_class class sender command text b)
+      R Fresh (taken command (serial_used sender a)) (taken command (serial_used sender b)) →
+      R class (by_class class sender command a) (by_class class sender command b)
   by_class_law Repeat repeated stale fresh = repeated
   by_class_law Stale repeated stale fresh = stale
   by_class_law Fresh repeated stale fresh = fresh
@@ -44,18 +44,18 @@ module _ (sender : Sender) (command : Command) (text : List ℕ) (a b : State) (
   pub by_serials :
       class_in a sender ≡ class_in b sender → R Repeat (silent answer.Repeat a) (silent answer.Repeat b) →
       R Stale (silent answer.Stale a) (silent answer.Stale b) →
-      R Fresh (taken command text (serial_used sender a)) (taken command text (serial_used sender b)) →
-      R (class_in a sender) (by_serial sender command text a) (by_serial sender command text b)
+      R Fresh (taken command (serial_used sender a)) (taken command (serial_used sender b)) →
+      R (class_in a sender) (by_serial sender command a) (by_serial sender command b)
   unfolding by_serial
   by_serials e repeated stale fresh =
-      subst (λ (class : Class). R (class_in a sender) (by_class (class_in a sender) sender command text a) (by_class class sender command text b)) e
+      subst (λ (class : Class). R (class_in a sender) (by_class (class_in a sender) sender command a) (by_class class sender command b)) e
       (by_class_law (class_in a sender) repeated stale fresh)
 
 -- on one state
 pub by_serial_law :
-    (sender : Sender) (command : Command) (text : List ℕ) (s : State) (R : Class → Acted → Type 0) → R Repeat (silent answer.Repeat s) →
-    R Stale (silent answer.Stale s) → R Fresh (taken command text (serial_used sender s)) → R (class_in s sender) (by_serial sender command text s)
-by_serial_law sender command text s R = by_serials sender command text s s (λ class x y. R class x) refl
+    (sender : Sender) (command : Command) (s : State) (R : Class → Acted → Type 0) → R Repeat (silent answer.Repeat s) →
+    R Stale (silent answer.Stale s) → R Fresh (taken command (serial_used sender s)) → R (class_in s sender) (by_serial sender command s)
+by_serial_law sender command s R = by_serials sender command s s (λ class x y. R class x) refl
 
 -- what comes of a command, by the class of its serial; at 10 the serial alone moves
 abbrev pub Judged : Class → Sender → State → Acted → Type 0
@@ -88,20 +88,20 @@ order_judged which on end sender s t e =
     (record { taken = tt; serials = ap (λ r. r.serials) e; ill = λ ten. e })
     (record { taken = tt; serials = ap (λ r. r.serials) e; ill = λ ten. absurd (not_ten ten) })
 
-taken_judged : (command : Command) (text : List ℕ) (sender : Sender) (s t : State) → t ≡ serial_used sender s → Judged Fresh sender s (taken command text t)
-taken_judged (Order which on) text sender s t e = order_judged which on 0 sender s t e
-taken_judged (Timed which minutes) text sender s t e = order_judged which true (minute_seconds * minutes) sender s t e
-taken_judged (Thresholds ascend descend) text sender s t e = record { taken = tt; serials = ap (λ r. r.serials) e; ill = λ ten. absurd (not_ten ten) }
-taken_judged (Greeting repeats length) text sender s t e = record { taken = tt; serials = ap (λ r. r.serials) e; ill = λ ten. absurd (not_ten ten) }
+taken_judged : (command : Command) (sender : Sender) (s t : State) → t ≡ serial_used sender s → Judged Fresh sender s (taken command t)
+taken_judged (Order which on) sender s t e = order_judged which on 0 sender s t e
+taken_judged (Timed which minutes) sender s t e = order_judged which true (minute_seconds * minutes) sender s t e
+taken_judged (Thresholds ascend descend) sender s t e = record { taken = tt; serials = ap (λ r. r.serials) e; ill = λ ten. absurd (not_ten ten) }
+taken_judged (Greeting repeats length text) sender s t e = record { taken = tt; serials = ap (λ r. r.serials) e; ill = λ ten. absurd (not_ten ten) }
 
-pub act_answers : (f : Frame) (text : List ℕ) (s : State) → Answers f s (act_of f text s)
+pub act_answers : (f : Frame) (s : State) → Answers f s (act_of f s)
 unfolding act_of
-act_answers (frame.Tick shorts) text s = news (λ origin. refl) (ticked_done shorts s) (ticked_serials shorts s)
-act_answers (frame.Battery tension) text s = news (λ origin. refl) refl refl
-act_answers (frame.Antennas deployed) text s = news (λ origin. refl) refl refl
-act_answers (frame.Command sender command) text s =
+act_answers (frame.Tick shorts) s = news (λ origin. refl) (ticked_done shorts s) (ticked_serials shorts s)
+act_answers (frame.Battery tension) s = news (λ origin. refl) refl refl
+act_answers (frame.Antennas deployed) s = news (λ origin. refl) refl refl
+act_answers (frame.Command sender command) s =
     judged sender (λ origin. refl)
-    (by_serial_law sender command text s (λ class. Judged class sender s) (refl, refl) (refl, refl) (taken_judged command text sender s (serial_used sender s) refl))
+    (by_serial_law sender command s (λ class. Judged class sender s) (refl, refl) (refl, refl) (taken_judged command sender s (serial_used sender s) refl))
 
 -- what is taken is answered 0 or 10
 pub zero_or_ten : (n : ℕ) → T (is_taken n) → (n ≡ 0) ⊎ (n ≡ 10)

@@ -13,7 +13,6 @@ use Rattle.basics.specs.Choice.{within}
 use Rattle.basics.proofs.ChoiceLaws.{is_true, holds, within_low, within_high, within_of}
 use Rattle.frames.specs.Answer.{answer_number}
 use Rattle.frames.specs.Kind.{report_bytes}
-use Rattle.frames.specs.Greeting.{greeting_text}
 use Rattle.frames.specs.Reading.{Reading, read_frame}
 use Rattle.frames.specs.About.{about, is_tick}
 use Rattle.frames.specs.declared.answer.Answer.{Answer}
@@ -42,7 +41,7 @@ pub record Stops (s : State) (c : Call) (answer : Answer) : Type 0 where
 
 -- a call that works a frame
 pub record Works (s : State) (c : Call) (f : Frame) (acted : Acted) : Type 0 where
-  pub fits : Fits f (greeting_text c.input)
+  pub fits : Fits f
   pub valid : T (in_range s)
   pub read : read_frame c.input ≡ Ok f
   pub leaves : called s c ≡ reported f acted c.room
@@ -51,7 +50,7 @@ pub record Works (s : State) (c : Call) (f : Frame) (acted : Acted) : Type 0 whe
 pub data Comes (s : State) (c : Call) : Type 0 where
   stopped : (answer : Answer) → Stops s c answer → Comes s c
   ticking : (shorts : ℕ) → Works s c (frame.Tick shorts) (ticked shorts s) → Comes s c
-  other : (f : Frame) → is_tick (about (Ok f)) ≡ false → Works s c f (act_of f (greeting_text c.input) s) → Comes s c
+  other : (f : Frame) → is_tick (about (Ok f)) ≡ false → Works s c f (act_of f s) → Comes s c
 
 -- refusals 3 to 7 are among 1 to 7
 pub wider : (n : ℕ) → T (within 3 7 n) → T (within 1 7 n)
@@ -71,13 +70,13 @@ module _ (s : State) (c : Call) where
       (record { number = number; outside = outside; leaves = leaves; tick = rw leaves (not_zero (is_tick (about_of c)) (answer_number answer) number) })
 
   works :
-      (f : Frame) → is_tick (about (Ok f)) ≡ false → Fits f (greeting_text c.input) → read_frame c.input ≡ Ok f → T (in_range s) →
-      called s c ≡ reported f (act_of f (greeting_text c.input) s) c.room → Comes s c
+      (f : Frame) → is_tick (about (Ok f)) ≡ false → Fits f → read_frame c.input ≡ Ok f → T (in_range s) →
+      called s c ≡ reported f (act_of f s) c.room → Comes s c
   works f e fits read valid leaves = other f e (record { fits = fits; valid = valid; read = read; leaves = leaves; tick = rw (read, e) })
 
   by_reading :
-      (r : Reading) → Sound (greeting_text c.input) r → read_frame c.input ≡ r → T (in_range s) →
-      called s c ≡ step_read r (greeting_text c.input) s c.room → Comes s c
+      (r : Reading) → Sound r → read_frame c.input ≡ r → T (in_range s) →
+      called s c ≡ step_read r s c.room → Comes s c
   unfolding act_of
   by_reading (Err answer) sound e h w =
       stops answer (wider (answer_number answer) sound) (λ one. absurd (omega (arith, within_low 3 7 (answer_number answer) sound))) w
@@ -101,7 +100,7 @@ module _ (s : State) (c : Call) where
   comes = by_range (in_range s) refl
 
 -- with room, a call on a state in range comes to checks 3 to 7
-pub called_read : (s : State) (c : Call) → T (in_range s) → HasRoom c → called s c ≡ step_read (read_frame c.input) (greeting_text c.input) s c.room
+pub called_read : (s : State) (c : Call) → T (in_range s) → HasRoom c → called s c ≡ step_read (read_frame c.input) s c.room
 unfolding step_of
 called_read s c h r = rw (is_true (in_range s) h, le-leb report_bytes (length c.room) r)
 
@@ -125,11 +124,11 @@ module _
     (P : State → Type 0)
     (tick_keeps : (shorts : ℕ) (s : State) → T (in_range s) → P s → P (ticked shorts s).state)
     (frame_keeps :
-    (f : Frame) (text : List ℕ) → Fits f text → is_tick (about (Ok f)) ≡ false → (s : State) → T (in_range s) → P s → P (act_of f text s).state) where
+    (f : Frame) → Fits f → is_tick (about (Ok f)) ≡ false → (s : State) → T (in_range s) → P s → P (act_of f s).state) where
   keeps_by : (s : State) (c : Call) → P s → Comes s c → P (called s c).result.state
   keeps_by s c p (stopped answer w) = rw w.leaves p
   keeps_by s c p (ticking shorts w) = rw w.leaves (tick_keeps shorts s w.valid p)
-  keeps_by s c p (other f e w) = rw w.leaves (frame_keeps f (greeting_text c.input) w.fits e s w.valid p)
+  keeps_by s c p (other f e w) = rw w.leaves (frame_keeps f w.fits e s w.valid p)
 
   pub called_keeps : (s : State) (c : Call) → P s → P (called s c).result.state
   called_keeps s c p = keeps_by s c p (comes s c)
@@ -143,20 +142,20 @@ abbrev InRange : State → Type 0
 InRange s = T (in_range s)
 
 pub called_in_range : (s : State) (c : Call) → T (in_range s) → T (in_range (called s c).result.state)
-called_in_range = called_keeps InRange (λ shorts s v h. ticked_in_range shorts s h) (λ f text fits e s v h. act_in_range f text fits e s h)
+called_in_range = called_keeps InRange (λ shorts s v h. ticked_in_range shorts s h) (λ f fits e s v h. act_in_range f fits e s h)
 
 pub after_in_range : (cs : List Call) (s : State) → T (in_range s) → T (in_range (after s cs))
-after_in_range = after_keeps InRange (λ shorts s v h. ticked_in_range shorts s h) (λ f text fits e s v h. act_in_range f text fits e s h)
+after_in_range = after_keeps InRange (λ shorts s v h. ticked_in_range shorts s h) (λ f fits e s v h. act_in_range f fits e s h)
 
 -- eight modules
-act_eight : (f : Frame) (text : List ℕ) → Fits f text → is_tick (about (Ok f)) ≡ false → (s : State) → Eight s → Eight (act_of f text s).state
-act_eight f text fits e s n =
+act_eight : (f : Frame) → Fits f → is_tick (about (Ok f)) ≡ false → (s : State) → Eight s → Eight (act_of f s).state
+act_eight f fits e s n =
     act_still Eight
     (record { tension = λ v r t h. h; antennas = λ d t h. h; serial = λ o t h. h; request = λ which on end low t i h. asked_eight t h which on end; thresholds = λ a d r t h. h; message = λ r n x g t h. h })
-    f text fits e s n
+    f fits e s n
 
 pub called_eight : (s : State) (c : Call) → Eight s → Eight (called s c).result.state
-called_eight = called_keeps Eight (λ shorts s v n. ticked_eight shorts s n) (λ f text fits e s v n. act_eight f text fits e s n)
+called_eight = called_keeps Eight (λ shorts s v n. ticked_eight shorts s n) (λ f fits e s v n. act_eight f fits e s n)
 
 pub after_eight : (cs : List Call) (s : State) → Eight s → Eight (after s cs)
-after_eight = after_keeps Eight (λ shorts s v n. ticked_eight shorts s n) (λ f text fits e s v n. act_eight f text fits e s n)
+after_eight = after_keeps Eight (λ shorts s v n. ticked_eight shorts s n) (λ f fits e s v n. act_eight f fits e s n)

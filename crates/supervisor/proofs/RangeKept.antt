@@ -4,7 +4,6 @@ use Prim.Native.Nat.{ℕ, ◌+◌, ◌-◌}
 use native.Mathlib.Omega.{arith}
 use mathlib.Core.Path.{◌≡◌, refl}
 use mathlib.Core.Bool.{Bool, false, ◌||◌}
-use mathlib.Core.List.{List}
 use lib.Dec.{T, eqb, ltb→lt, lt→ltb}
 use borrow.Author.Tests.{eqb-false}
 use Rattle.std.specs.Prelude.{Ok}
@@ -179,13 +178,13 @@ valid_still =
     }
 
 pub act_in_range :
-    (f : Frame) (text : List ℕ) → Fits f text → is_tick (about (Ok f)) ≡ false → (s : State) → T (in_range s) → T (in_range (act_of f text s).state)
-act_in_range f text fits e s h = whole (act_of f text s).state (act_still Valid valid_still f text fits e s (parts s h))
+    (f : Frame) → Fits f → is_tick (about (Ok f)) ≡ false → (s : State) → T (in_range s) → T (in_range (act_of f s).state)
+act_in_range f fits e s h = whole (act_of f s).state (act_still Valid valid_still f fits e s (parts s h))
 
 -- every frame leaves the masks true
-pub acted_masks : (f : Frame) (text : List ℕ) → Fits f text → (s : State) → T (in_range s) → HasMasks (act_of f text s).state
+pub acted_masks : (f : Frame) → Fits f → (s : State) → T (in_range s) → HasMasks (act_of f s).state
 unfolding act_of
-acted_masks (frame.Tick shorts) text fits s h = (parts (ticked shorts s).state (ticked_in_range shorts s h)).masks
-acted_masks (frame.Battery tension) text fits s h = (parts _ (act_in_range (frame.Battery tension) text fits refl s h)).masks
-acted_masks (frame.Antennas deployed) text fits s h = (parts _ (act_in_range (frame.Antennas deployed) text fits refl s h)).masks
-acted_masks (frame.Command sender command) text fits s h = (parts _ (act_in_range (frame.Command sender command) text fits refl s h)).masks
+acted_masks (frame.Tick shorts) fits s h = (parts (ticked shorts s).state (ticked_in_range shorts s h)).masks
+acted_masks (frame.Battery tension) fits s h = (parts _ (act_in_range (frame.Battery tension) fits refl s h)).masks
+acted_masks (frame.Antennas deployed) fits s h = (parts _ (act_in_range (frame.Antennas deployed) fits refl s h)).masks
+acted_masks (frame.Command sender command) fits s h = (parts _ (act_in_range (frame.Command sender command) fits refl s h)).masks

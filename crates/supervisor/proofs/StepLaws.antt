@@ -13,7 +13,6 @@ use Rattle.basics.specs.Outcome.{Outcome}
 use Rattle.basics.proofs.ChoiceLaws.{is_true, either, decided, same_test}
 use Rattle.frames.specs.Answer.{answer_number, is_reported}
 use Rattle.frames.specs.Kind.{report_bytes}
-use Rattle.frames.specs.Greeting.{greeting_text}
 use Rattle.frames.specs.Reading.{Reading, read_frame}
 use Rattle.frames.specs.declared.answer.Answer.TheVariants.{BadState, ShortRoom}
 use Rattle.frames.proofs.AnswerLaws.{reported_number, refusal}
@@ -35,9 +34,9 @@ unfolding step_of
 step_outside s frame room e = simp e
 
 -- what is accepted gets a report, and nothing else does
-pub read_reported : (r : Reading) (text : List ℕ) → Sound text r → (s : State) (room : List ℕ) → is_reported (step_read r text s room).result.answer ≡ is_accepted r
-read_reported (Err answer) text sound s room = refusal answer (wider (answer_number answer) sound)
-read_reported (Ok f) text sound s room = reported_number (act_of f text s).answer ∙ ap not (unrefused f s (act_of f text s) (act_answers f text s))
+pub read_reported : (r : Reading) → Sound r → (s : State) (room : List ℕ) → is_reported (step_read r s room).result.answer ≡ is_accepted r
+read_reported (Err answer) sound s room = refusal answer (wider (answer_number answer) sound)
+read_reported (Ok f) sound s room = reported_number (act_of f s).answer ∙ ap not (unrefused f s (act_of f s) (act_answers f s))
 
 module _ (s : State) (c : Call) where
   valid_by : Comes s c → is_reported (called s c).result.answer ≡ true → T (in_range s)
@@ -52,7 +51,7 @@ module _ (s : State) (c : Call) where
   left_by : Comes s c → is_reported (called s c).result.answer ≡ false → called s c ≡ refused (called s c).result.answer s c.room
   left_by (stopped a w) e = rw w.leaves
   left_by (ticking shorts w) e = absurd (false≢true (sym e ∙ rw (w.leaves, ticked_done shorts s)))
-  left_by (other f t w) e = absurd (false≢true (sym e ∙ rw w.leaves (read_reported (Ok f) (greeting_text c.input) w.fits s c.room)))
+  left_by (other f t w) e = absurd (false≢true (sym e ∙ rw w.leaves (read_reported (Ok f) w.fits s c.room)))
 
   -- with none, state and room are the same
   pub refused_left : is_reported (called s c).result.answer ≡ false → called s c ≡ refused (called s c).result.answer s c.room
@@ -64,14 +63,14 @@ pub record Written (room : List ℕ) (after : Outcome Stepped) : Type 0 where
   pub past : drop report_bytes after.room ≡ drop report_bytes room
   pub same_length : length after.room ≡ length room
 
-read_written : (r : Reading) (text : List ℕ) (s : State) (room : List ℕ) → report_bytes ≤ length room → Written room (step_read r text s room)
+read_written : (r : Reading) (s : State) (room : List ℕ) → report_bytes ≤ length room → Written room (step_read r s room)
 unfolding report_of
-read_written (Err answer) text s room h = record { fits = λ e. h; past = refl; same_length = refl }
-read_written (Ok f) text s room h =
+read_written (Err answer) s room h = record { fits = λ e. h; past = refl; same_length = refl }
+read_written (Ok f) s room h =
     record {
       fits = λ e. h;
       past = refl;
-      same_length = length-append (report_of f (act_of f text s)) (drop report_bytes room) ∙ rw (length-drop report_bytes room) (omega arith);
+      same_length = length-append (report_of f (act_of f s)) (drop report_bytes room) ∙ rw (length-drop report_bytes room) (omega arith);
     }
 
 pub step_written : (s : State) (frame room : List ℕ) → Written room (step_of s frame room)
@@ -79,7 +78,7 @@ unfolding step_of
 step_written s frame room =
     either (Written room) (in_range s)
     (decided (Written room) (leb report_bytes (length room))
-    (λ fits. read_written (read_frame frame) (greeting_text frame) s room (leb-true report_bytes (length room) fits))
+    (λ fits. read_written (read_frame frame) s room (leb-true report_bytes (length room) fits))
     (λ t. record { fits = λ e. absurd (false≢true e); past = refl; same_length = refl }))
     (record { fits = λ e. absurd (false≢true e); past = refl; same_length = refl })
 
@@ -89,16 +88,16 @@ pub record Alike (left right : Outcome Stepped) : Type 0 where
   pub report : is_reported left.result.answer ≡ true → take report_bytes left.room ≡ take report_bytes right.room
 
 module _ (s : State) (room room' : List ℕ) where
-  read_alike : (r : Reading) (text : List ℕ) → Sound text r → Alike (step_read r text s room) (step_read r text s room')
+  read_alike : (r : Reading) → Sound r → Alike (step_read r s room) (step_read r s room')
   unfolding report_of
-  read_alike (Err answer) text w = record { result = refl; report = λ e. absurd (true≢false (sym e ∙ read_reported (Err answer) text w s room)) }
-  read_alike (Ok f) text w = record { result = refl; report = λ e. refl }
+  read_alike (Err answer) w = record { result = refl; report = λ e. absurd (true≢false (sym e ∙ read_reported (Err answer) w s room)) }
+  read_alike (Ok f) w = record { result = refl; report = λ e. refl }
 
   pub step_alike : (frame : List ℕ) → report_bytes ≤ length room → report_bytes ≤ length room' → Alike (step_of s frame room) (step_of s frame room')
   unfolding step_of
   step_alike frame h h' =
       rw (le-leb report_bytes (length room) h, le-leb report_bytes (length room') h')
-      (same_test Alike (in_range s) (in_range s) refl (read_alike (read_frame frame) (greeting_text frame) (read_sound frame))
+      (same_test Alike (in_range s) (in_range s) refl (read_alike (read_frame frame) (read_sound frame))
       (record { result = refl; report = λ e. absurd (false≢true e) }))
 
 -- with no room for a report, a state in range is refused with 2
@@ -111,7 +110,7 @@ pub reported_accepted : (s : State) (frame room : List ℕ) → is_reported (ste
 unfolding step_of
 reported_accepted s frame room =
     either Accepts (in_range s)
-    (either Accepts (leb report_bytes (length room)) (λ e. sym (read_reported (read_frame frame) (greeting_text frame) (read_sound frame) s room) ∙ e) (λ e. absurd (false≢true e)))
+    (either Accepts (leb report_bytes (length room)) (λ e. sym (read_reported (read_frame frame) (read_sound frame) s room) ∙ e) (λ e. absurd (false≢true e)))
     (λ e. absurd (false≢true e))
   where
     Accepts : Outcome Stepped → Type 0

@@ -45,28 +45,28 @@ thresholds_taken ascend descend s = done (with_thresholds ascend descend s)
 abbrev pub greeting_taken : (repeats length : ℕ) (text : List ℕ) → State → Acted
 greeting_taken repeats length text s = done (with_message (message_from repeats length text) s)
 
--- a command, by what it is, with the text beside it: a timed order acts as an "on" order, and starts the module's
+-- a command, by what it is: a timed order acts as an "on" order, and starts the module's
 -- seconds; thresholds and greetings of the payload are never read
-abbrev pub taken : Command → (text : List ℕ) → State → Acted
-taken (Order which on) text s = order_taken which on 0 s
-taken (Timed which minutes) text s = order_taken which true (minute_seconds * minutes) s
-taken (Thresholds ascend descend) text s = thresholds_taken ascend descend s
-taken (Greeting repeats length) text s = greeting_taken repeats length text s
+abbrev pub taken : Command → State → Acted
+taken (Order which on) s = order_taken which on 0 s
+taken (Timed which minutes) s = order_taken which true (minute_seconds * minutes) s
+taken (Thresholds ascend descend) s = thresholds_taken ascend descend s
+taken (Greeting repeats length text) s = greeting_taken repeats length text s
 
 -- the last serial of the sender's origin is the sender's
 abbrev pub serial_used : Sender → State → State
 serial_used sender s = with_serials (moved_to sender.origin sender.serial s.serials) s
 
 -- a repeat and a stale serial move nothing; a fresh one becomes the last serial, and the command is taken
-abbrev pub by_class : Class → Sender → Command → (text : List ℕ) → State → Acted
-by_class Repeat sender command text s = silent answer.Repeat s
-by_class Stale sender command text s = silent answer.Stale s
-by_class Fresh sender command text s = taken command text (serial_used sender s)
+abbrev pub by_class : Class → Sender → Command → State → Acted
+by_class Repeat sender command s = silent answer.Repeat s
+by_class Stale sender command s = silent answer.Stale s
+by_class Fresh sender command s = taken command (serial_used sender s)
 
 -- the class of a sender's serial
 abbrev pub class_in : State → Sender → Class
 class_in s sender = class_of sender.serial (last_of sender.origin s.serials)
 
 -- once checks 1 to 7 pass, a command is judged by its serial
-unfoldable pub by_serial : Sender → Command → (text : List ℕ) → State → Acted
-by_serial sender command text s = by_class (class_in s sender) sender command text s
+unfoldable pub by_serial : Sender → Command → State → Acted
+by_serial sender command s = by_class (class_in s sender) sender command s

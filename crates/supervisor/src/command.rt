@@ -61,31 +61,35 @@ impl State {
         silent(Answer::Done, self)
     }
 
-    // A command whose serial is fresh, by what it is; a greeting's text stands beside it.
-    fn take(self, command: Command, text: [u8; LONGEST]) -> Acted
+    // A command whose serial is fresh, by what it is.
+    fn take(self, command: Command) -> Acted
         requires { HasMasks self }
-        ensures { result ≡ taken command text self }
+        ensures { result ≡ taken command self }
     {
         match command {
             Command::Order { which, on } => self.order(which, on, 0),
             Command::Timed { which, minutes } => self.order(which, true, MINUTE * u32::from(minutes)),
             Command::Thresholds { ascend, descend } => self.thresholds(ascend, descend),
-            Command::Greeting { repeats, length } => self.greeting(repeats, length, text),
+            Command::Greeting {
+                repeats,
+                length,
+                text,
+            } => self.greeting(repeats, length, text),
         }
     }
 
     // 8 or 9 by the serial; a fresh one is used up, and the command is taken.
     #[tactic(auto, unfolding(crate::specs::Command::by_serial))]
-    pub(crate) fn command(mut self, sender: Sender, command: Command, text: [u8; LONGEST]) -> Acted
+    pub(crate) fn command(mut self, sender: Sender, command: Command) -> Acted
         requires { HasMasks self }
-        ensures { result ≡ by_serial sender command text self }
+        ensures { result ≡ by_serial sender command self }
     {
         match self.serials.class(sender) {
             Class::Repeat => silent(Answer::Repeat, self),
             Class::Stale => silent(Answer::Stale, self),
             Class::Fresh => {
                 self.serials = self.serials.moved(sender);
-                self.take(command, text)
+                self.take(command)
             }
         }
     }

@@ -7,7 +7,6 @@ use crate::act::act;
 use crate::report::write;
 use crate::state::State;
 use frames::answer::Answer;
-use frames::greeting::text_of;
 use frames::kind::REPORT_BYTES;
 use frames::reading::read;
 
@@ -38,7 +37,7 @@ pub fn step(state: State, input: &[u8], room: &mut [u8]) -> Stepped
     match read(input) {
         Err(answer) => Stepped { answer, state },
         Ok(frame) => {
-            let acted = act(state, frame, text_of(input));
+            let acted = act(state, frame);
             write(room, frame, acted);
             Stepped {
                 answer: acted.answer,

@@ -40,7 +40,7 @@ not_once_more says =
     let c : Call = send (greeting 1 1 hi) in
     let cs : List Call = sent (seconds 90) in
     let second : ◌≡◌ {A = ℕ} 2 3 =
-    (says 1 2 s c (record { sender = record { origin = Ground; serial = 1 }; frame = refl; done = refl }) cs (no_other cs (called s c).result.state tt)).1.0 in
+    (says 1 2 s c (record { sender = record { origin = Ground; serial = 1 }; text = _; frame = refl; done = refl }) cs (no_other cs (called s c).result.state tt)).1.0 in
     omega arith
 
 -- one in RECOVERY: the basic beacon that is due first leaves it for the first one in SAFE
@@ -51,5 +51,5 @@ not_in_recovery says =
     let c : Call = send (greeting 1 1 hi) in
     let cs : List Call = sent (seconds 300 ++ (battery 8000 ∷ seconds 60)) in
     let first : ◌≡◌ {A = ℕ} 3 2 =
-    (says 1 2 s c (record { sender = record { origin = Ground; serial = 1 }; frame = refl; done = refl }) cs (no_other cs (called s c).result.state tt)).1.0 in
+    (says 1 2 s c (record { sender = record { origin = Ground; serial = 1 }; text = _; frame = refl; done = refl }) cs (no_other cs (called s c).result.state tt)).1.0 in
     omega arith

@@ -3,7 +3,6 @@ use mathlib.Core.Path.{◌≡◌}
 use mathlib.Core.Bool.{true}
 use Rattle.std.specs.Prelude.{Ok}
 use Rattle.basics.proofs.ChoiceLaws.{holds}
-use Rattle.frames.specs.Greeting.{greeting_text}
 use Rattle.frames.specs.Reading.{read_frame}
 use Rattle.frames.proofs.ReadingLaws.{read_sound}
 use Rattle.supervisor.specs.State.{HasMasks}
@@ -35,8 +34,8 @@ write-requires c =
     let bytes = c.args.input.now in
     let accepted : read_frame bytes ≡ Ok _ = rw c.read.ensures at c.in-Ok.is in
     let true_masks : HasMasks c.act-acted.result.state =
-    rw (c.act-acted.ensures, c.text_of.ensures)
-    (acted_masks _ (greeting_text bytes) (rw accepted at (read_sound bytes)) s (holds (in_range s) (valid (goal.at.write-requires c).Else-not-in_range))) in
+    rw c.act-acted.ensures
+    (acted_masks _ (rw accepted at (read_sound bytes)) s (holds (in_range s) (valid (goal.at.write-requires c).Else-not-in_range))) in
     (c.if-room-lt-REPORT_BYTES.false, true_masks)
 
 pub returns-in-Err : goal.returns-in-Err
@@ -53,5 +52,4 @@ returns-in-Ok c =
       rw c.read.ensures at c.in-Ok.is,
       c.write.ensures,
       c.act-acted.ensures,
-      c.text_of.ensures,
     )
