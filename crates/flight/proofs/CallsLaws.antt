@@ -5,7 +5,7 @@ use mathlib.Core.Path.{◌≡◌, refl, sym, ap, ◌∙◌}
 use mathlib.Core.Bool.{Bool, true, false}
 use mathlib.Core.List.{List}
 use native.Mathlib.Omega.{arith}
-use lib.Dec.{T, eqb}
+use lib.Dec.{T, eqb, ltb}
 use lib.IntN.{ℤ}
 use lib.ListN.{length}
 use borrow.Author.Tests.{eq-eqb}
@@ -35,7 +35,11 @@ use Rattle.books.specs.Books.{book_numbers}
 use Rattle.books.specs.Answer.{book_fault_number, book_number, is_book_reported}
 use Rattle.books.specs.Step.{WithBooks, with_books, step_books_of}
 use Rattle.books.specs.History.{Board, called_with, board_after}
+use Rattle.books.specs.Summary.{no_shares, summary_of, put_into}
+use Rattle.books.specs.declared.answer.BookFault.{BookFault}
 use Rattle.books.specs.declared.answer.BookFault.TheVariants.{NotBooks}
+use Rattle.modules.specs.Groups.{module_count}
+use Rattle.morse.specs.Answers.{done, no_room}
 use Rattle.books.specs.declared.step.Booked.{Booked}
 use Rattle.books.proofs.WaysLaws.{booked_valid, booked_in_range, booked_left, booked_outside}
 use Rattle.beacon.specs.Writing.{beacon_of}
@@ -49,7 +53,7 @@ use Rattle.tracker.specs.declared.Tracked.{Tracked}
 use Rattle.flight.specs.Saving.{image_bytes, saved}
 use Rattle.flight.specs.Loading.{has_layout, decoded, loaded, fields_say}
 use Rattle.flight.specs.Calls.{imaged, bad_state, stepped_to, step_image, passed_to, pass_image, modules_on_reply, modules_on_image, beacon_image}
-use Rattle.flight.specs.Calls.{booked_to, step_books_image}
+use Rattle.flight.specs.Calls.{booked_to, step_books_image, summary_reply}
 use Rattle.flight.specs.Calls.{told, replied, ReadReplied}
 use Rattle.flight.specs.Calls.{tracks, tracked_to}
 use Rattle.flight.proofs.FieldsLaws.{AllBytes}
@@ -98,6 +102,20 @@ pub books_none :
     outcome (with_books (imaged (book_fault_number NotBooks) image) books) room ≡ step_books_image image frame room books
 unfolding step_books_image
 books_none image frame room books e = simp e
+
+-- a summary with no place for the shares, one with, and one that is refused
+module _ (books room : List ℕ) where
+  pub summed_short : (shares : List ℕ) → summary_of books ≡ Ok shares → ltb (length room) module_count ≡ true → outcome no_room room ≡ summary_reply books room
+  unfolding summary_reply
+  summed_short shares e short = simp (e, short)
+
+  pub summed_put : (shares : List ℕ) → summary_of books ≡ Ok shares → ltb (length room) module_count ≡ false → outcome done (put_into shares room) ≡ summary_reply books room
+  unfolding summary_reply
+  summed_put shares e fits = simp (e, fits)
+
+  pub summed_refused : (fault : BookFault) → summary_of books ≡ Err fault → outcome (book_fault_number fault) (put_into no_shares room) ≡ summary_reply books room
+  unfolding summary_reply
+  summed_refused fault e = simp e
 
 -- bytes of another layout
 module _ (image room : List ℕ) (nothing : fields_say image ≡ None) where
