@@ -1,18 +1,17 @@
 -- Laws of the books: the number at a place after a tick, when no number is above the most, and what masks show.
 -- Assumes nothing.
-use Prim.Native.Nat.{ℕ, ◌+◌, ◌/◌, ◌%◌, ◌<◌, ◌≤◌}
+use Prim.Native.Nat.{ℕ, zero, suc, ◌+◌, ◌/◌, ◌%◌, ◌<◌, ◌≤◌}
 use mathlib.Core.Path.{◌≡◌, refl, ap, ◌∙◌}
 use mathlib.Core.Bool.{Bool, true, false}
-use mathlib.Core.List.{List}
+use mathlib.Core.List.{List, [], ◌∷◌}
 use native.Mathlib.Omega.{arith}
-use lib.Dec.{T, eqb, leb, ltb, leb→le, le→leb, ltb→lt, lt→ltb}
+use native.Mathlib.Nat.{not-suc-le-zero}
+use lib.Dec.{T, eqb, leb, leb→le, le→leb}
 use lib.ListN.{get_or, length}
 use borrow.Author.Tests.{eqb-true, eq-eqb}
 use Rattle.basics.specs.Choice.{when◌then◌else◌, bit}
-use Rattle.basics.specs.Tables.{all_below}
-use Rattle.basics.proofs.ChoiceLaws.{holds}
+use Rattle.basics.proofs.ChoiceLaws.{holds, is_true, and_left, and_right, and_both}
 use Rattle.basics.proofs.EachLaws.{length_each, at_each, each_at}
-use Rattle.basics.proofs.TablesLaws.{upto, all_below_law}
 use Rattle.modules.specs.Groups.{module_count}
 use Rattle.modules.specs.Masks.{masks_of}
 use Rattle.modules.specs.Power.{is_on, is_failed}
@@ -23,13 +22,6 @@ use Rattle.modules.specs.declared.masks.Masks.{Masks}
 use Rattle.modules.proofs.MasksLaws.{on_bit, failed_bit}
 use Rattle.supervisor.specs.State.{off_module}
 use Rattle.books.specs.Books.{book_numbers, most_seconds, second_of, place_of, shown_as, added_to, counted, none_above}
-
--- a test and another that each imply the other
-same_truth : (a b : Bool) → (T a → T b) → (T b → T a) → a ≡ b
-same_truth true true f g = refl
-same_truth true false f g = absurd (f tt)
-same_truth false true f g = absurd (g tt)
-same_truth false false f g = refl
 
 -- ---- what masks show
 
@@ -93,17 +85,15 @@ counted_same found shown books size alike =
 
 pub none_above_at : (books : List ℕ) → T (none_above books) → (i : ℕ) → i < length books → get_or books i 0 ≤ most_seconds
 unfolding none_above
-none_above_at books t i h =
-    leb→le (get_or books i 0) most_seconds (upto (λ i. leb (get_or books i 0) most_seconds) (length books) t i h)
+none_above_at [] t i h = absurd (not-suc-le-zero h)
+none_above_at (n ∷ books) t zero h = leb→le n most_seconds (and_left (leb n most_seconds) (none_above books) t)
+none_above_at (n ∷ books) t (suc i) h = none_above_at books (and_right (leb n most_seconds) (none_above books) t) i (omega arith)
 
 none_above_of : (books : List ℕ) → ((i : ℕ) → i < length books → get_or books i 0 ≤ most_seconds) → T (none_above books)
 unfolding none_above
-none_above_of books low =
-    all_below_law (λ i. leb (get_or books i 0) most_seconds) (length books) (λ i h. le→leb (get_or books i 0) most_seconds (low i h))
-
--- the number that a tick adds to for module m is below the most
-abbrev pub below_most : (found : ℕ → ℕ) (books : List ℕ) → ℕ → Bool
-below_most found books m = ltb (get_or books (place_of m (found m)) 0) most_seconds
+none_above_of [] low = tt
+none_above_of (n ∷ books) low =
+    and_both (leb n most_seconds) (none_above books) (le→leb n most_seconds (low 0 (omega arith))) (none_above_of books (λ i h. low (suc i) (omega arith)))
 
 -- a tick takes none above if those that it adds to are below
 module _ (found : ℕ → ℕ) (small : (m : ℕ) → found m < 3) (books : List ℕ) (size : length books ≡ book_numbers) where
@@ -126,11 +116,14 @@ module _ (found : ℕ → ℕ) (small : (m : ℕ) → found m < 3) (books : List
           let none : added_to found i ≡ 0 = ap (λ (t : Bool). when t then 1 else 0) e in
           omega (arith, counted_at found books i h, none, none_above_at books low i h)
 
-  pub takes_tick : none_above books ≡ true → none_above (counted found books) ≡ all_below (below_most found books) module_count
-  takes_tick low =
-      same_truth (none_above (counted found books)) (all_below (below_most found books) module_count)
-      (λ t. all_below_law (below_most found books) module_count (λ m h. lt→ltb (get_or books (place_of m (found m)) 0) most_seconds (room_at t m h)))
-      (λ t. none_above_of (counted found books)
-      (λ i h. fits (holds (none_above books) low)
-      (λ m l. ltb→lt (get_or books (place_of m (found m)) 0) most_seconds (upto (below_most found books) module_count t m l))
-      i (rw (counted_length found books) at h)))
+  pub takes_tick : none_above books ≡ true → ((m : ℕ) → m < module_count → get_or books (place_of m (found m)) 0 < most_seconds) → none_above (counted found books) ≡ true
+  takes_tick low below =
+      is_true (none_above (counted found books))
+      (none_above_of (counted found books) (λ i h. fits (holds (none_above books) low) below i (rw (counted_length found books) at h)))
+
+  pub takes_no_tick : (m : ℕ) → m < module_count → most_seconds ≤ get_or books (place_of m (found m)) 0 → none_above (counted found books) ≡ false
+  takes_no_tick m h most = by (none_above (counted found books)) refl
+    where
+      by : (t : Bool) → none_above (counted found books) ≡ t → t ≡ false
+      by true e = absurd (omega (arith, most, room_at (holds (none_above (counted found books)) e) m h))
+      by false e = refl

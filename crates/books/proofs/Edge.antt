@@ -1,6 +1,7 @@
 -- A hair more than the books promise is false, each at a board that is defined by name.
 -- Assumes nothing.
 use Prim.Native.Nat.{ℕ, ◌+◌, ◌*◌, ◌≤◌}
+use Rattle.std.specs.Prelude.{Err}
 use mathlib.Core.Path.{◌≡◌, refl, ap, sym, ◌∙◌}
 use mathlib.Core.Bool.{Bool, not}
 use mathlib.Core.List.{List, [], ◌∷◌}
@@ -20,9 +21,9 @@ use Rattle.books.specs.Step.{step_books_of}
 use Rattle.books.specs.History.{Board, answer_with, board_after, after_with, tick_reports}
 use Rattle.books.specs.Seconds.{those, anew, SecondsOf}
 use Rattle.books.specs.Plain.{PlainBut}
-use Rattle.books.specs.Summary.{shares_of, summary_of}
+use Rattle.books.specs.Summary.{shares_of}
 use Rattle.books.specs.RoundedDown.{SharesBy}
-use Rattle.books.specs.declared.answer.BookAnswer.TheVariants.{Full, NotBooks}
+use Rattle.books.specs.declared.answer.BookFault.TheVariants.{Full, NotBooks}
 
 -- a call with room
 abbrev with_room : (input : List ℕ) → Call
@@ -65,11 +66,11 @@ plain_done : answered fresh_state tick ≡ 0
 unfolding rules tick
 plain_done = refl
 
-full_halts : answer_with brimful tick ≡ Full
+full_halts : answer_with brimful tick ≡ Err Full
 unfolding rules step_books_of counted none_above each each_from tick brimful
 full_halts = refl
 
-torn_halts : answer_with torn tick ≡ NotBooks
+torn_halts : answer_with torn tick ≡ Err NotBooks
 unfolding step_books_of torn
 torn_halts = refl
 
@@ -108,8 +109,8 @@ a_third = 1 ∷ 2 ∷ replicate 22 0
 abbrev pub Up : (on all share : ℕ) → Type 0
 Up on all share = on * 1000 ≤ share * all
 
-third : get_or (summary_of a_third).shares 0 0 ≡ 333
-unfolding summary_of shares_of none_above each each_from a_third
+third : get_or (shares_of a_third) 0 0 ≡ 333
+unfolding shares_of each each_from a_third
 third = refl
 
 low_third : T (none_above a_third)

@@ -5,7 +5,6 @@ pub mod CallLaws
 pub mod WaysLaws
 pub mod Seconds
 pub mod Plain
-pub mod SummaryLaws
 pub mod RoundedDown
 pub mod Edge
 pub mod Outcomes

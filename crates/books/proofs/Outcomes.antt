@@ -2,10 +2,10 @@
 -- Assumes nothing.
 use mathlib.Core.Path.{sym, ◌∙◌}
 use Rattle.basics.specs.OneOutcome.{OneOutcome}
-use Rattle.books.specs.contracts.answer.BookAnswer.number as answer_number
-use Rattle.books.proofs.answer.BookAnswer.number.Reads as answer_number_reads
-use Rattle.books.specs.contracts.answer.BookAnswer.is_reported as answer_reported
-use Rattle.books.proofs.answer.BookAnswer.is_reported.Reads as answer_reported_reads
+use Rattle.books.specs.contracts.answer.number as answer_number
+use Rattle.books.proofs.answer.number.Reads as answer_number_reads
+use Rattle.books.specs.contracts.answer.is_reported as answer_reported
+use Rattle.books.proofs.answer.is_reported.Reads as answer_reported_reads
 use Rattle.books.specs.contracts.step.step_books
 use Rattle.books.proofs.step.step_books.Reads as step_books_reads
 use Rattle.books.specs.contracts.summary.summary

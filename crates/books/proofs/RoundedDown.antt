@@ -1,11 +1,12 @@
 -- Rounded down.
 -- Assumes nothing.
 use Prim.Native.Nat.{ℕ, ◌+◌, ◌*◌, ◌/◌, ◌<◌}
-use mathlib.Core.Path.{◌≡◌, refl, ap}
+use mathlib.Core.Path.{◌≡◌, refl}
 use mathlib.Core.Bool.{Bool, true, false}
 use mathlib.Core.List.{List}
 use native.Mathlib.Omega.{arith}
 use native.Mathlib.Nat.{div-add-mod', mod-lt}
+use Rattle.std.specs.Prelude.{Ok}
 use lib.Dec.{T, eqb}
 use lib.ListN.{get_or, length, length-replicate}
 use borrow.Author.Tests.{eq-eqb, eqb-true, eqb-false}
@@ -13,12 +14,9 @@ use Rattle.basics.specs.Choice.{when◌then◌else◌}
 use Rattle.basics.proofs.ChoiceLaws.{is_true}
 use Rattle.basics.proofs.EachLaws.{at_each}
 use Rattle.modules.specs.Groups.{module_count}
-use Rattle.frames.specs.declared.answer.Answer.TheVariants.{Done}
 use Rattle.books.specs.Books.{book_numbers, none_above}
 use Rattle.books.specs.Summary.{share_of, share_in, no_shares, shares_of, summary_of}
 use Rattle.books.specs.RoundedDown.{Down, RoundedDown}
-use Rattle.books.specs.declared.answer.BookAnswer.TheVariants.{Plain}
-use Rattle.books.specs.declared.shares.Summary.{Summary}
 
 pub share_down : (on off failed : ℕ) → Down on (on + off + failed) (share_of on off failed)
 share_down on off failed = by (eqb (on + off + failed) 0) refl
@@ -38,14 +36,10 @@ share_at : (books : List ℕ) (m : ℕ) → m < module_count → get_or (shares_
 unfolding shares_of
 share_at books m h = at_each (λ m none. share_in books m) no_shares m 0 (rw length-replicate h)
 
-done : (books : List ℕ) → length books ≡ book_numbers → T (none_above books) → summary_of books ≡ record { answer = Plain Done; shares = shares_of books }
+given : (books : List ℕ) → length books ≡ book_numbers → T (none_above books) → summary_of books ≡ Ok (shares_of books)
 unfolding summary_of
-done books size low = simp (eq-eqb (length books) book_numbers size, is_true (none_above books) low)
+given books size low = simp (eq-eqb (length books) book_numbers size, is_true (none_above books) low)
 
 pub rounded_down : RoundedDown
 rounded_down books size low =
-    let e = done books size low in
-    record {
-      answer = ap (λ (r : Summary). r.answer) e;
-      shares = λ m h. rw (ap (λ (r : Summary). get_or r.shares m 0) e, share_at books m h) (share_down _ _ _);
-    }
+    record { answer = given books size low; shares = λ m h. rw (share_at books m h) (share_down _ _ _) }

@@ -1,6 +1,7 @@
 -- The two ways of a call with books: the books halt it, or it is the plain call; and what becomes of the state.
 -- Assumes nothing.
 use Prim.Native.Nat.{ℕ}
+use Rattle.std.specs.Prelude.{Result, Ok, Err}
 use mathlib.Core.Path.{◌≡◌, refl, ap, subst, sym, ◌∙◌}
 use mathlib.Core.Bool.{Bool, true, false, not, ◌&&◌, true≢false, false≢true}
 use mathlib.Core.List.{List}
@@ -8,6 +9,7 @@ use lib.Dec.{T, eqb}
 use lib.ListN.{length}
 use Rattle.basics.specs.Outcome.{Outcome}
 use Rattle.basics.proofs.ChoiceLaws.{holds, and_right}
+use Rattle.frames.specs.declared.answer.Answer.{Answer}
 use Rattle.frames.specs.declared.answer.Answer.TheVariants.{BadState}
 use Rattle.supervisor.specs.Range.{in_range}
 use Rattle.supervisor.specs.History.{Call, called, done_tick, is_done}
@@ -18,8 +20,8 @@ use Rattle.books.specs.Answer.{book_number, is_books, is_book_reported}
 use Rattle.books.specs.Books.{book_numbers, later, holds_later, none_above}
 use Rattle.books.specs.Step.{WithBooks, halted, as_plain, is_early, found_after, is_full, step_books_of}
 use Rattle.books.specs.History.{Board, called_with, board_of, board_after}
-use Rattle.books.specs.declared.answer.BookAnswer.{BookAnswer}
-use Rattle.books.specs.declared.answer.BookAnswer.TheVariants.{Plain, Full, NotBooks}
+use Rattle.books.specs.declared.answer.BookFault.{BookFault}
+use Rattle.books.specs.declared.answer.BookFault.TheVariants.{Full, NotBooks}
 use Rattle.books.specs.declared.step.Booked.{Booked}
 use Rattle.books.proofs.CallLaws.{early_no_tick}
 use Rattle.books.proofs.StepLaws.{early_books}
@@ -29,11 +31,11 @@ abbrev pub books_after : Board → Call → List ℕ
 books_after b c = later (done_tick b.state c) (found_after b.state c) b.books
 
 pub data Way (b : Board) (c : Call) : Type 0 where
-  halts : (a : BookAnswer) → is_books a ≡ true → called_with b c ≡ halted a b.state c.room b.books → Way b c
+  halts : (a : Result Answer BookFault) → is_books a ≡ true → called_with b c ≡ halted a b.state c.room b.books → Way b c
   plain : (T (none_above b.books) → T (none_above (books_after b c))) → called_with b c ≡ as_plain (called b.state c) (books_after b c) → Way b c
 
 module _ (b : Board) (c : Call) where
-  pub board_halted : (a : BookAnswer) → called_with b c ≡ halted a b.state c.room b.books → board_after b c ≡ b
+  pub board_halted : (a : Result Answer BookFault) → called_with b c ≡ halted a b.state c.room b.books → board_after b c ≡ b
   board_halted a w = ap board_of w
 
   pub board_plain : called_with b c ≡ as_plain (called b.state c) (books_after b c) → board_after b c ≡ record { state = (called b.state c).result.state; books = books_after b c }
@@ -52,32 +54,31 @@ module _ (b : Board) (c : Call) where
 
   by_full : (full : Bool) → is_full b.state c b.books ≡ full → eqb (length b.books) book_numbers ≡ true → Way b c
   unfolding step_books_of
-  by_full true e f = halts Full refl (rw (f, e))
+  by_full true e f = halts (Err Full) refl (rw (f, e))
   by_full false e f = plain (still_low e) (rw (f, e))
 
   by_size : (books : Bool) → eqb (length b.books) book_numbers ≡ books → Way b c
   unfolding step_books_of
-  by_size false f = halts NotBooks refl (rw f)
+  by_size false f = halts (Err NotBooks) refl (rw f)
   by_size true f = by_full (is_full b.state c b.books) refl f
 
   pub way : Way b c
   way = by_size (eqb (length b.books) book_numbers) refl
 
 -- 17 and 18 are not 0
-pub halted_undone : (tick : Bool) (a : BookAnswer) → is_books a ≡ true → (tick && is_done (book_number a)) ≡ false
-halted_undone tick (Plain answer) e = absurd (false≢true e)
-halted_undone true Full e = refl
-halted_undone false Full e = refl
-halted_undone true NotBooks e = refl
-halted_undone false NotBooks e = refl
+pub halted_undone : (tick : Bool) (a : Result Answer BookFault) → is_books a ≡ true → (tick && is_done (book_number a)) ≡ false
+halted_undone tick (Ok answer) e = absurd (false≢true e)
+halted_undone true (Err Full) e = refl
+halted_undone false (Err Full) e = refl
+halted_undone true (Err NotBooks) e = refl
+halted_undone false (Err NotBooks) e = refl
 
 -- ---- the state
 
 -- the books' own answers have no report
-halted_silent : (a : BookAnswer) → is_books a ≡ true → is_book_reported a ≡ false
-halted_silent (Plain answer) e = absurd (false≢true e)
-halted_silent Full e = refl
-halted_silent NotBooks e = refl
+halted_silent : (a : Result Answer BookFault) → is_books a ≡ true → is_book_reported a ≡ false
+halted_silent (Ok answer) e = absurd (false≢true e)
+halted_silent (Err fault) e = refl
 
 module _ (b : Board) (c : Call) where
   reports : {o : Outcome (WithBooks Booked)} → called_with b c ≡ o → is_book_reported (called_with b c).result.result.answer ≡ is_book_reported o.result.result.answer
@@ -110,8 +111,8 @@ module _ (b : Board) (c : Call) where
   booked_left = left_by (way b c)
 
   -- a state out of range is refused with 1
-  pub booked_outside : length b.books ≡ book_numbers → in_range b.state ≡ false → called_with b c ≡ halted (Plain BadState) b.state c.room b.books
+  pub booked_outside : length b.books ≡ book_numbers → in_range b.state ≡ false → called_with b c ≡ halted (Ok BadState) b.state c.room b.books
   booked_outside size e =
       let outside = step_outside b.state c.input c.room e in
       sym (early_books b.state c.input c.room b.books size (ap (λ (o : Outcome Stepped). is_early o.result.answer) outside))
-      ∙ ap (λ (o : Outcome Stepped). halted (Plain o.result.answer) b.state c.room b.books) outside
+      ∙ ap (λ (o : Outcome Stepped). as_plain o b.books) outside

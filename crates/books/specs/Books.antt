@@ -1,14 +1,17 @@
 -- The books: three numbers for each module, and what a done tick adds to them.
 -- Assumes nothing.
-use Rattle.std.specs.Prelude.{ℕ, ◌+◌, ◌*◌, ◌/◌, ◌%◌, Bool, ◌&&◌, true, false, List, eqb, leb, get_or, length}
+use Rattle.std.specs.Prelude.{ℕ, ◌+◌, ◌*◌, ◌/◌, ◌%◌, Bool, ◌&&◌, List, eqb, leb, get_or, Result, Ok, Err}
+use Rattle.std.specs.List.{list_all}
 use Rattle.basics.specs.Choice.{when◌then◌else◌, bit}
 use Rattle.basics.specs.Each.{each}
-use Rattle.basics.specs.Tables.{all_below}
+use Rattle.basics.specs.Outcome.{Outcome, outcome}
 use Rattle.modules.specs.declared.power.Power.{Power}
 use Rattle.modules.specs.declared.power.Power.TheVariants.{On, Off, Failed}
 use Rattle.modules.specs.declared.masks.Masks.{Masks}
 use Rattle.supervisor.specs.State.{module_at}
 use Rattle.supervisor.specs.declared.state.State.{State}
+use Rattle.books.specs.declared.answer.BookFault.{BookFault}
+use Rattle.books.specs.declared.answer.BookFault.TheVariants.{Full}
 
 -- how many numbers are lent
 abbrev pub book_numbers : ℕ
@@ -50,7 +53,7 @@ counted found books = each (λ i n. n + added_to found i) books
 
 -- no number is above the most
 unfoldable pub none_above : (books : List ℕ) → Bool
-none_above books = all_below (λ i. leb (get_or books i 0) most_seconds) (length books)
+none_above books = list_all (λ n. leb n most_seconds) books
 
 -- the books after a call: a done tick is counted
 abbrev pub later : (tick : Bool) (found : ℕ → ℕ) → (books : List ℕ) → List ℕ
@@ -60,16 +63,8 @@ later tick found books = when tick then counted found books else books
 abbrev pub holds_later : (tick : Bool) (found : ℕ → ℕ) → (books : List ℕ) → Bool
 holds_later tick found books = none_above books && none_above (later tick found books)
 
--- whether they hold it, and the books then
-pub record Kept : Type 0 where
-  pub held : Bool
-  pub books : List ℕ
-
--- both in one
-abbrev pub kept : Bool → (books : List ℕ) → Kept
-kept held books = record { held = held; books = books }
-
--- what is kept; books that can't hold it stay
-unfoldable pub kept_of : (tick : Bool) (found : ℕ → ℕ) → (books : List ℕ) → Kept
+-- what is kept, and the books then; books that can't hold it stay
+unfoldable pub kept_of : (tick : Bool) (found : ℕ → ℕ) → (books : List ℕ) → Outcome (Result Unit BookFault)
 kept_of tick found books =
-    when holds_later tick found books then kept true (later tick found books) else kept false books
+    when holds_later tick found books then outcome (Ok tt) (later tick found books)
+    else outcome (Err Full) books

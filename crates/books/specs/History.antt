@@ -1,15 +1,16 @@
 -- A flight with books: calls of `step_books` in a row, with the same books.
 -- Assumes nothing.
-use Rattle.std.specs.Prelude.{ℕ, Bool, ◌&&◌, List, [], ◌∷◌, ◌++◌, take}
+use Rattle.std.specs.Prelude.{ℕ, Bool, ◌&&◌, List, [], ◌∷◌, ◌++◌, take, Result}
 use Rattle.basics.specs.Choice.{when◌then◌else◌}
 use Rattle.basics.specs.Outcome.{Outcome}
 use Rattle.frames.specs.Kind.{report_bytes}
 use Rattle.frames.specs.About.{is_tick}
+use Rattle.frames.specs.declared.answer.Answer.{Answer}
 use Rattle.supervisor.specs.History.{Call, about_of, is_done}
 use Rattle.supervisor.specs.declared.state.State.{State}
 use Rattle.books.specs.Answer.{book_number}
 use Rattle.books.specs.Step.{WithBooks, step_books_of}
-use Rattle.books.specs.declared.answer.BookAnswer.{BookAnswer}
+use Rattle.books.specs.declared.answer.BookFault.{BookFault}
 use Rattle.books.specs.declared.step.Booked.{Booked}
 
 -- the board between two calls: its state, and the books beside it
@@ -22,7 +23,7 @@ abbrev pub called_with : Board → Call → Outcome (WithBooks Booked)
 called_with b c = step_books_of b.state c.input c.room b.books
 
 -- what it answers
-abbrev pub answer_with : Board → Call → BookAnswer
+abbrev pub answer_with : Board → Call → Result Answer BookFault
 answer_with b c = (called_with b c).result.result.answer
 
 -- the board that it leaves

@@ -1,11 +1,9 @@
 -- Rounded down: a share is as many whole thousandths as the seconds on make of the three numbers together.
 -- Assumes nothing.
-use Rattle.std.specs.Prelude.{ℕ, ◌+◌, ◌*◌, ◌<◌, ◌≤◌, ◌≡◌, List, T, get_or, length}
+use Rattle.std.specs.Prelude.{ℕ, ◌+◌, ◌*◌, ◌<◌, ◌≤◌, ◌≡◌, List, T, get_or, length, Ok}
 use Rattle.modules.specs.Groups.{module_count}
-use Rattle.frames.specs.declared.answer.Answer.TheVariants.{Done}
 use Rattle.books.specs.Books.{book_numbers, number_in, none_above}
-use Rattle.books.specs.Summary.{summary_of}
-use Rattle.books.specs.declared.answer.BookAnswer.TheVariants.{Plain}
+use Rattle.books.specs.Summary.{shares_of, summary_of}
 
 -- a module's three numbers together
 abbrev pub all_in : (books : List ℕ) (m : ℕ) → ℕ
@@ -22,8 +20,8 @@ abbrev pub SharesBy : (rounded : (on all share : ℕ) → Type 0) → Type 0
 SharesBy rounded =
     (books : List ℕ) → length books ≡ book_numbers → T (none_above books) →
     record {
-      answer : (summary_of books).answer ≡ Plain Done;
-      shares : (m : ℕ) → m < module_count → rounded (number_in books m 0) (all_in books m) (get_or (summary_of books).shares m 0);
+      answer : summary_of books ≡ Ok (shares_of books);
+      shares : (m : ℕ) → m < module_count → rounded (number_in books m 0) (all_in books m) (get_or (shares_of books) m 0);
     }
 
 abbrev pub RoundedDown : Type 0

@@ -1,13 +1,12 @@
 -- The summary of the books: each module's share on, in thousandths.
 -- Assumes nothing.
-use Rattle.std.specs.Prelude.{ℕ, ◌+◌, ◌*◌, ◌/◌, not, List, ◌++◌, eqb, length, take, drop, replicate}
+use Rattle.std.specs.Prelude.{ℕ, ◌+◌, ◌*◌, ◌/◌, not, List, ◌++◌, eqb, length, take, drop, replicate, Result, Ok, Err}
 use Rattle.basics.specs.Choice.{when◌then◌else◌}
 use Rattle.basics.specs.Each.{each}
 use Rattle.modules.specs.Groups.{module_count}
-use Rattle.frames.specs.declared.answer.Answer.TheVariants.{Done}
 use Rattle.books.specs.Books.{book_numbers, number_in, none_above}
-use Rattle.books.specs.declared.answer.BookAnswer.TheVariants.{Plain, Full, NotBooks}
-use Rattle.books.specs.declared.shares.Summary.{Summary}
+use Rattle.books.specs.declared.answer.BookFault.{BookFault}
+use Rattle.books.specs.declared.answer.BookFault.TheVariants.{Full, NotBooks}
 
 -- thousandths of the three together, rounded down, 0 where they are 0
 abbrev pub share_of : (on off failed : ℕ) → ℕ
@@ -26,12 +25,12 @@ no_shares = replicate module_count 0
 unfoldable pub shares_of : (books : List ℕ) → List ℕ
 shares_of books = each (λ m none. share_in books m) no_shares
 
--- 18, unless there are 24 numbers, then 17, when any is above the most: every share is then 0
-unfoldable pub summary_of : (books : List ℕ) → Summary
+-- 18, unless there are 24 numbers, then 17, when any is above the most
+unfoldable pub summary_of : (books : List ℕ) → Result (List ℕ) BookFault
 summary_of books =
-    when not (eqb (length books) book_numbers) then record { answer = NotBooks; shares = no_shares }
-    else when none_above books then record { answer = Plain Done; shares = shares_of books }
-    else record { answer = Full; shares = no_shares }
+    when not (eqb (length books) book_numbers) then Err NotBooks
+    else when none_above books then Ok (shares_of books)
+    else Err Full
 
 -- shares at the front of a room, as many as it has place for; what stands past them stays
 unfoldable pub put_into : (shares room : List ℕ) → List ℕ

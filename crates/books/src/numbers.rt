@@ -1,7 +1,9 @@
 // The numbers of the books: module m's seconds on, off and failed are numbers 3m, 3m + 1 and 3m + 2.
-ghost use Rattle.std.specs.Prelude.{◌≤◌, ◌≡◌, true, length};
-ghost use Rattle.books.specs.Books.{book_numbers, shown_as, counted, none_above, kept, kept_of};
+ghost use Rattle.std.specs.Prelude.{◌≡◌, true};
+ghost use Rattle.basics.specs.Outcome.{outcome};
+ghost use Rattle.books.specs.Books.{shown_as, counted, none_above, kept_of};
 
+use crate::answer::BookFault;
 use modules::masks::Masks;
 use modules::stage::has;
 
@@ -15,17 +17,10 @@ pub const MOST: u64 = 1000000000000000;
 pub const MODULES: usize = 8;
 
 // Whether no number is above the most.
-pub(crate) fn none_above(books: &[u64]) -> bool
+pub(crate) fn none_above(books: &[u64; NUMBERS]) -> bool
     ensures { result ≡ none_above books.now }
 {
-    let mut i = books.len();
-    while 0 < i {
-        i -= 1;
-        if MOST < books[i] {
-            return false;
-        }
-    }
-    true
+    books.iter().all(|seconds| *seconds <= MOST)
 }
 
 // Which of module m's three numbers a second goes to, by the masks: on is 0, off 1, failed 2.
@@ -42,15 +37,12 @@ fn second(masks: Masks, m: usize) -> usize
 }
 
 // Whether a tick that leaves these masks takes no number above the most: those that it adds to are below it.
-fn takes_tick(books: &[u64], masks: Masks) -> bool
-    requires { (length books.now ≡ book_numbers) × (none_above books.now ≡ true) }
+fn takes_tick(books: &[u64; NUMBERS], masks: Masks) -> bool
+    requires { none_above books.now ≡ true }
     ensures { result ≡ none_above (counted (shown_as masks) books.now) }
 {
-    let mut m = MODULES;
-    while 0 < m {
-        m -= 1;
-        let at = 3 * m + second(masks, m);
-        if MOST <= books[at] {
+    for m in 0..MODULES {
+        if MOST <= books[3 * m + second(masks, m)] {
             return false;
         }
     }
@@ -58,33 +50,29 @@ fn takes_tick(books: &[u64], masks: Masks) -> bool
 }
 
 // Counts a tick that leaves these masks: one number of each module grows by 1.
-fn count(books: &mut [u64], masks: Masks)
-    requires { (length books.old ≡ book_numbers) × (none_above (counted (shown_as masks) books.old) ≡ true) }
+fn count(books: &mut [u64; NUMBERS], masks: Masks)
+    requires { none_above (counted (shown_as masks) books.old) ≡ true }
     ensures { books.new ≡ counted (shown_as masks) books.old }
 {
-    let mut m = 0;
-    while m < MODULES {
-        let at = 3 * m + second(masks, m);
-        books[at] += 1;
-        m += 1;
+    for m in 0..MODULES {
+        books[3 * m + second(masks, m)] += 1;
     }
 }
 
 // Keeps the books after a call that leaves these masks: a done tick is counted. Where a number is above the most, or the
-// tick would take it above, it says so, and the numbers stay.
-pub(crate) fn keep(books: &mut [u64], tick: bool, masks: Masks) -> bool
-    requires { length books.old ≡ book_numbers }
-    ensures { kept result books.new ≡ kept_of tick (shown_as masks) books.old }
+// tick would take it above, they are full, and the numbers stay.
+#[tactic(auto, unfolding(crate::specs::Books::kept_of))]
+pub(crate) fn keep(books: &mut [u64; NUMBERS], tick: bool, masks: Masks) -> Result<(), BookFault>
+    ensures { outcome result books.new ≡ kept_of tick (shown_as masks) books.old }
 {
     if !none_above(books) {
-        return false;
+        return Err(BookFault::Full);
     }
-    if !tick {
-        return true;
+    if tick {
+        if !takes_tick(books, masks) {
+            return Err(BookFault::Full);
+        }
+        count(books, masks);
     }
-    if !takes_tick(books, masks) {
-        return false;
-    }
-    count(books, masks);
-    true
+    Ok(())
 }

@@ -3,15 +3,7 @@ ghost use Rattle.std.specs.Prelude.{◌≤◌, ◌≡◌};
 ghost use Rattle.books.specs.Books.{most_seconds};
 ghost use Rattle.books.specs.Summary.{share_of, put_into};
 
-use crate::answer::BookAnswer;
 use crate::numbers::MODULES;
-
-// The answer, and each module's share on in thousandths; every share is 0 at a refusal.
-#[derive(Clone, Copy)]
-pub struct Summary {
-    pub answer: BookAnswer,
-    pub shares: [u16; MODULES],
-}
 
 // The share on of a module's three numbers, in thousandths, rounded down; 0 where they are 0.
 pub(crate) fn share(on: u64, off: u64, failed: u64) -> u16
@@ -27,12 +19,10 @@ pub(crate) fn share(on: u64, off: u64, failed: u64) -> u16
 }
 
 // Puts shares at the front of a room, as many as it has place for. What stands past them stays.
+#[tactic(auto, unfolding(crate::specs::Summary::put_into))]
 pub fn put(shares: [u16; MODULES], room: &mut [u16])
     ensures { room.new ≡ put_into shares room.old }
 {
-    let mut i = 0;
-    while (i < MODULES) & (i < room.len()) {
-        room[i] = shares[i];
-        i += 1;
-    }
+    let n = room.len().min(MODULES);
+    room[..n].copy_from_slice(&shares[..n]);
 }

@@ -2,18 +2,18 @@
 -- Assumes nothing.
 use Prim.Native.Nat.{ℕ, ◌<◌}
 use mathlib.Core.Path.{◌≡◌, refl, sym, ap, ◌∙◌}
-use mathlib.Core.Bool.{Bool, true, false, ◌&&◌}
+use mathlib.Core.Bool.{Bool, true, false}
 use mathlib.Core.List.{List}
 use native.Mathlib.Omega.{arith}
 use lib.Dec.{T, eqb, ltb}
 use lib.IntN.{ℤ}
 use lib.ListN.{length}
 use borrow.Author.Tests.{eq-eqb}
+use Rattle.std.specs.Prelude.{Some, None}
+use Rattle.basics.specs.Choice.{when◌then◌else◌}
 use Rattle.basics.specs.Outcome.{Outcome, outcome, Reply, reply}
 use Rattle.basics.proofs.ChoiceLaws.{is_true, holds}
-use Rattle.modules.specs.Groups.{module_count}
 use Rattle.std.specs.Prelude.{Result, Ok, Err}
-use Rattle.morse.specs.Answers.{no_room}
 use Rattle.morse.specs.Keying.{key_fault_number, key_reply}
 use Rattle.morse.specs.declared.keying.KeyFault.{KeyFault}
 use Rattle.hearing.specs.Reading.{read_fault_number, read_reply, Read}
@@ -32,11 +32,14 @@ use Rattle.pass.proofs.PassLaws.{pass_outside, pass_keeps_range}
 use Rattle.pass.proofs.Flight.{pass_idle}
 use Rattle.counting.specs.Counting.{modules_on_of}
 use Rattle.books.specs.Books.{book_numbers}
-use Rattle.books.specs.Answer.{book_number, is_book_reported}
+use Rattle.books.specs.Answer.{book_fault_number, book_number, is_book_reported}
 use Rattle.books.specs.Step.{WithBooks, with_books, step_books_of}
-use Rattle.books.specs.Summary.{summary_of, put_into}
 use Rattle.books.specs.History.{Board, called_with, board_after}
-use Rattle.books.specs.declared.answer.BookAnswer.TheVariants.{NotBooks}
+use Rattle.books.specs.Summary.{no_shares, summary_of, put_into}
+use Rattle.books.specs.declared.answer.BookFault.{BookFault}
+use Rattle.books.specs.declared.answer.BookFault.TheVariants.{NotBooks}
+use Rattle.modules.specs.Groups.{module_count}
+use Rattle.morse.specs.Answers.{done, no_room}
 use Rattle.books.specs.declared.step.Booked.{Booked}
 use Rattle.books.proofs.WaysLaws.{booked_valid, booked_in_range, booked_left, booked_outside}
 use Rattle.beacon.specs.Writing.{beacon_of}
@@ -47,8 +50,8 @@ use Rattle.beacon.specs.declared.writing.WriteFault.TheVariants.{BadState}
 use Rattle.beacon.proofs.WritingLaws.{beacon_outside}
 use Rattle.tracker.specs.Tracker.{track_number}
 use Rattle.tracker.specs.declared.Tracked.{Tracked}
-use Rattle.flight.specs.Saving.{saved}
-use Rattle.flight.specs.Loading.{has_layout, decoded, loaded}
+use Rattle.flight.specs.Saving.{image_bytes, saved}
+use Rattle.flight.specs.Loading.{has_layout, decoded, loaded, fields_say}
 use Rattle.flight.specs.Calls.{imaged, bad_state, stepped_to, step_image, passed_to, pass_image, modules_on_reply, modules_on_image, beacon_image}
 use Rattle.flight.specs.Calls.{booked_to, step_books_image, summary_reply}
 use Rattle.flight.specs.Calls.{told, replied, ReadReplied}
@@ -56,15 +59,39 @@ use Rattle.flight.specs.Calls.{tracks, tracked_to}
 use Rattle.flight.proofs.FieldsLaws.{AllBytes}
 use Rattle.flight.proofs.LoadingLaws.{layout, saved_decoded}
 
--- counting asks for no room
-pub count_foreign : (image : List ℕ) → has_layout image ≡ false → reply bad_state 0 ≡ modules_on_image image
-unfolding modules_on_image loaded
-count_foreign image other = simp other
+-- what the fields say is of this layout; bytes that say nothing are of another
+module _ (image : List ℕ) where
+  pub says_nothing : fields_say image ≡ None → has_layout image ≡ false
+  unfolding fields_say
+  says_nothing e = by_test (has_layout image) refl e
+    where
+      by_test : (t : Bool) → has_layout image ≡ t → (when t then Some (decoded image) else None) ≡ None → has_layout image ≡ false
+      by_test true l z = let never : ◌≡◌ {A = ℕ} 0 1 = cc in absurd (omega arith)
+      by_test false l z = l
 
-pub count_worked : (image : List ℕ) → has_layout image ≡ true → (s : State) → s ≡ decoded image → modules_on_reply (modules_on_of s) ≡ modules_on_image image
+  pub says_state : (s : State) → fields_say image ≡ Some s → (has_layout image ≡ true) × (s ≡ decoded image)
+  unfolding fields_say
+  says_state s e = by_test (has_layout image) refl e
+    where
+      by_test : (t : Bool) → has_layout image ≡ t → (when t then Some (decoded image) else None) ≡ Some s → (has_layout image ≡ true) × (s ≡ decoded image)
+      by_test true l z = let same : s ≡ decoded image = cc in (l, same)
+      by_test false l z = let never : ◌≡◌ {A = ℕ} 0 1 = cc in absurd (omega arith)
+
+-- counting asks for no room
+pub count_foreign : (image : List ℕ) → fields_say image ≡ None → reply bad_state 0 ≡ modules_on_image image
+unfolding modules_on_image loaded
+count_foreign image nothing = simp (says_nothing image nothing)
+
+pub count_worked : (image : List ℕ) (s : State) → fields_say image ≡ Some s → modules_on_reply (modules_on_of s) ≡ modules_on_image image
 unfolding modules_on_image modules_on_of loaded
-count_worked image own s says = by_range (in_range s) refl
+count_worked image s say = by_range (in_range s) refl
   where
+    own : has_layout image ≡ true
+    own = (says_state image s say).0
+
+    says : s ≡ decoded image
+    says = (says_state image s say).1
+
     by_range : (t : Bool) → in_range s ≡ t → modules_on_reply (modules_on_of s) ≡ modules_on_image image
     by_range true e = simp (own, sym says, e)
     by_range false e = simp (own, sym says, e)
@@ -72,24 +99,29 @@ count_worked image own s says = by_range (in_range s) refl
 -- too few numbers, or too many, are refused before the image is looked at
 pub books_none :
     (image frame room books : List ℕ) → eqb (length books) book_numbers ≡ false →
-    outcome (with_books (imaged (book_number NotBooks) image) books) room ≡ step_books_image image frame room books
+    outcome (with_books (imaged (book_fault_number NotBooks) image) books) room ≡ step_books_image image frame room books
 unfolding step_books_image
 books_none image frame room books e = simp e
 
--- a summary with no place for the shares, and any other
-pub summed_short :
-    (books room : List ℕ) → (eqb (book_number (summary_of books).answer) 0 && ltb (length room) module_count) ≡ true → outcome no_room room ≡ summary_reply books room
-unfolding summary_reply
-summed_short books room e = simp e
+-- a summary with no place for the shares, one with, and one that is refused
+module _ (books room : List ℕ) where
+  pub summed_short : (shares : List ℕ) → summary_of books ≡ Ok shares → ltb (length room) module_count ≡ true → outcome no_room room ≡ summary_reply books room
+  unfolding summary_reply
+  summed_short shares e short = simp (e, short)
 
-pub summed_put :
-    (books room room' : List ℕ) (n : ℕ) → (eqb (book_number (summary_of books).answer) 0 && ltb (length room) module_count) ≡ false →
-    n ≡ book_number (summary_of books).answer → room' ≡ put_into (summary_of books).shares room → outcome n room' ≡ summary_reply books room
-unfolding summary_reply
-summed_put books room room' n e number puts = simp (e, number, puts)
+  pub summed_put : (shares : List ℕ) → summary_of books ≡ Ok shares → ltb (length room) module_count ≡ false → outcome done (put_into shares room) ≡ summary_reply books room
+  unfolding summary_reply
+  summed_put shares e fits = simp (e, fits)
+
+  pub summed_refused : (fault : BookFault) → summary_of books ≡ Err fault → outcome (book_fault_number fault) (put_into no_shares room) ≡ summary_reply books room
+  unfolding summary_reply
+  summed_refused fault e = simp e
 
 -- bytes of another layout
-module _ (image room : List ℕ) (other : has_layout image ≡ false) where
+module _ (image room : List ℕ) (nothing : fields_say image ≡ None) where
+  other : has_layout image ≡ false
+  other = says_nothing image nothing
+
   pub step_foreign : (frame : List ℕ) → outcome (imaged bad_state image) room ≡ step_image image frame room
   unfolding step_image loaded
   step_foreign frame = simp other
@@ -108,7 +140,16 @@ module _ (image room : List ℕ) (other : has_layout image ≡ false) where
   beacon_foreign form = simp other
 
 -- bytes of the layout: the state that they say is worked, in range or not
-module _ (image room : List ℕ) (own : has_layout image ≡ true) (s : State) (says : s ≡ decoded image) where
+module _ (image room : List ℕ) (s : State) (say : fields_say image ≡ Some s) where
+  own : has_layout image ≡ true
+  own = (says_state image s say).0
+
+  says : s ≡ decoded image
+  says = (says_state image s say).1
+
+  pub size_said : length image ≡ image_bytes
+  size_said = (layout image own).size
+
   pub beacon_worked : (form : Form) → beacon_of form s room ≡ beacon_image form image room
   unfolding beacon_image loaded
   beacon_worked form = by_range (in_range s) refl

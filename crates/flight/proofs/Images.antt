@@ -5,7 +5,7 @@ use Prim.Native.Nat.{ℕ}
 use mathlib.Core.Path.{◌≡◌, refl}
 use mathlib.Core.Bool.{Bool, true, false}
 use mathlib.Core.List.{List}
-use mathlib.Core.Option.{Option, none, some}
+use Rattle.std.specs.Prelude.{Option, Some, None, Err}
 use lib.Dec.{eqb}
 use lib.ListN.{length}
 use borrow.Author.Tests.{eq-eqb}
@@ -52,12 +52,12 @@ module _ (s : State) (e : in_range s ≡ true) (eight : Eight s) (room : List �
 
 -- bytes that are the save of no state in range
 module _ (image room : List ℕ) (small : AllBytes image) (never : (s : State) → in_range s ≡ true → saved s ≡ image → ⊥) where
-  no_state : loaded image ≡ none
+  no_state : loaded image ≡ None
   no_state = by_state (loaded image) refl
     where
-      by_state : (o : Option State) → loaded image ≡ o → o ≡ none
-      by_state none e = refl
-      by_state (some s) e = absurd (never s (loaded_in_range image s e) (save_load image s e small))
+      by_state : (o : Option State) → loaded image ≡ o → o ≡ None
+      by_state None e = refl
+      by_state (Some s) e = absurd (never s (loaded_in_range image s e) (save_load image s e small))
 
   pub step_bad : (frame : List ℕ) → step_image image frame room ≡ outcome (imaged bad_state image) room
   unfolding step_image

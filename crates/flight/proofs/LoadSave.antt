@@ -5,7 +5,7 @@ use native.Mathlib.Omega.{arith}
 use mathlib.Core.Path.{◌≡◌, refl, sym, ap, ◌∙◌}
 use mathlib.Core.Bool.{Bool, true, false, ◌&&◌}
 use mathlib.Core.List.{List}
-use mathlib.Core.Option.{none, some}
+use Rattle.std.specs.Prelude.{Some, None}
 use borrow.Author.Tests.{eq-eqb}
 use lib.ListN.{length}
 use Rattle.basics.specs.Choice.{when◌then◌else◌}
@@ -23,14 +23,14 @@ unfolding has_layout saved head_bytes
 saved_layout s e eight = simp (eq-eqb (length (saved s)) image_bytes (length_saved s e eight), flag_low s.antennas)
 
 -- load (save s) = s
-pub load_save : (s : State) → in_range s ≡ true → Eight s → loaded (saved s) ≡ some s
+pub load_save : (s : State) → in_range s ≡ true → Eight s → loaded (saved s) ≡ Some s
 unfolding loaded
 load_save s e eight = simp (saved_layout s e eight, decoded_saved s e eight, e)
 
 -- what bytes that load are
-module _ (bytes : List ℕ) (s : State) (e : loaded bytes ≡ some s) where
+module _ (bytes : List ℕ) (s : State) (e : loaded bytes ≡ Some s) where
   by_tests :
-      (t : Bool) → has_layout bytes ≡ t → (u : Bool) → in_range (decoded bytes) ≡ u → (when t && u then some (decoded bytes) else none) ≡ some s →
+      (t : Bool) → has_layout bytes ≡ t → (u : Bool) → in_range (decoded bytes) ≡ u → (when t && u then Some (decoded bytes) else None) ≡ Some s →
       (has_layout bytes ≡ true) × (in_range s ≡ true) × (decoded bytes ≡ s)
   by_tests true l true r z = let same : decoded bytes ≡ s = cc in (l, ap in_range (sym same) ∙ r, same)
   by_tests true l false r z = let never : ◌≡◌ {A = ℕ} 0 1 = cc in absurd (omega arith)

@@ -1,6 +1,6 @@
 -- Laws of saving: an image's length, the ranges of what it holds, and how it is stored part by part.
 -- Assumes nothing.
-use Prim.Native.Nat.{ℕ, zero, suc, ◌+◌, ◌*◌, ◌<◌, ◌≤◌}
+use Prim.Native.Nat.{ℕ, zero, suc, ◌+◌, ◌-◌, ◌*◌, ◌/◌, ◌%◌, ◌<◌, ◌≤◌}
 use native.Mathlib.Omega.{arith}
 use native.Mathlib.Nat.{le_of_suc-le-suc, not-suc-le-zero}
 use native.Mathlib.Numerals.{add-one}
@@ -9,10 +9,10 @@ use mathlib.Core.Bool.{true}
 use mathlib.Core.List.{List, [], ◌∷◌, ◌++◌, append-nil, append_assoc}
 use lib.Dec.{T}
 use lib.ListN.{length, get_or, take, drop, length-append, drop_of_length-le}
-use lib.Seq.{sets, sets-eq, take-length, drop-cons, drop-drop}
+use lib.Seq.{sets, sets-eq, drop-cons, drop-drop}
+use Rattle.std.specs.Int.{w16, w32, to_le_bytes}
 use Rattle.basics.proofs.ChoiceLaws.{holds, is_true, and_left, and_right}
 use Rattle.basics.proofs.Stores.{sets_append, sets_front}
-use Rattle.basics.proofs.PartLaws.{part_from, lent_back, part_from_law, lent_back_law}
 use Rattle.modules.specs.Power.{power_in_range}
 use Rattle.modules.specs.Stage.{modules_in_range}
 use Rattle.modules.specs.declared.power.Module.{Module}
@@ -24,7 +24,7 @@ use Rattle.supervisor.specs.declared.state.State.{State}
 use Rattle.supervisor.proofs.ModuleLaws.{Eight}
 use Rattle.supervisor.proofs.RangeLaws.{parts, phase_in_range_law}
 use Rattle.supervisor.proofs.MessageLaws.{message_fair}
-use Rattle.flight.specs.Fields.{pair_bytes}
+use Rattle.flight.specs.Fields.{pair_bytes, quad_bytes}
 use Rattle.flight.specs.Codes.{safe_code, mode_code, module_code}
 use Rattle.flight.specs.Saving.{image_bytes, message_place, ends_place, masks_place, modules_place}
 use Rattle.flight.specs.Saving.{message_bytes, ends_bytes, masks_bytes, modules_bytes, head_bytes, saved}
@@ -91,42 +91,51 @@ module_in_range (m ∷ ms) (suc i) d h r = module_in_range ms i d (le_of_suc-le-
 
 -- storing, part by part
 
-pub stored_turn :
-    (ms : List Module) (i at : ℕ) (room : List ℕ) (d : Module) → i < length ms →
-    sets (sets room at (pair_bytes (module_code (get_or ms i d)))) (at + 2) (modules_bytes (drop (i + 1) ms)) ≡ sets room at (modules_bytes (drop i ms))
-unfolding modules_bytes
-stored_turn ms i at room d h =
-    let rest : drop i ms ≡ get_or ms i d ∷ drop (i + 1) ms = rw add-one (drop-cons ms i d h) in
-    rw rest (sym (sets_append (pair_bytes (module_code (get_or ms i d))) (modules_bytes (drop (i + 1) ms)) room at))
+-- two bytes of a number that are had of it as one of 16 bits, and four as one of 32
+pub pair_of : (n : ℕ) → n < 65536 → to_le_bytes w16 n ≡ pair_bytes n
+pair_of n h = ap (λ high. n % 256 ∷ high ∷ []) (omega arith)
 
--- a text that is copied into a room from a place on
-pub text_stored :
-    (room text : List ℕ) (at : ℕ) → at + length text ≤ length room →
-    lent_back room at (take (length text) text ++ drop (length text) (part_from room at)) ≡ sets room at text
-text_stored room text at h =
-    lent_back_law room at (take (length text) text ++ drop (length text) (part_from room at))
-    ∙ rw (take-length text, part_from_law room at, drop-drop (length text) at room)
-    (sym (append_assoc (take at room) text (drop (at + length text) room)) ∙ sym (sets-eq text room at h))
+pub quad_of : (n : ℕ) → n < 4294967296 → to_le_bytes w32 n ≡ quad_bytes n
+quad_of n h = ap (λ high. n % 256 ∷ n / 256 % 256 ∷ n / 65536 % 256 ∷ high ∷ []) (omega arith)
+
+-- a module's bytes, and then those of the modules after it
+pub stored_turn :
+    (ms : List Module) (i : ℕ) (room bytes : List ℕ) (d : Module) → i < length ms → bytes ≡ pair_bytes (module_code (get_or ms i d)) →
+    sets (sets room (modules_place + 2 * i) bytes) (modules_place + 2 * (i + 1)) (modules_bytes (drop (i + 1) ms))
+    ≡ sets room (modules_place + 2 * i) (modules_bytes (drop i ms))
+unfolding modules_bytes
+stored_turn ms i room bytes d h e =
+    let own = pair_bytes (module_code (get_or ms i d)) in
+    let rest : drop i ms ≡ get_or ms i d ∷ drop (i + 1) ms = rw add-one (drop-cons ms i d h) in
+    let next : modules_place + 2 * (i + 1) ≡ modules_place + 2 * i + 2 = omega arith in
+    rw (e, rest, next) (sym (sets_append own (modules_bytes (drop (i + 1) ms)) room (modules_place + 2 * i)))
+
+-- a part of a room, from a place on, that is written over
+pub part_stored :
+    (room part : List ℕ) (at n : ℕ) → length part ≡ n → at + n ≤ length room →
+    take at room ++ (part ++ drop (at + n - at) (drop at room)) ≡ sets room at part
+part_stored room part at n long h =
+    let size : at + n - at ≡ length part = omega (arith, long) in
+    rw (size, drop-drop (length part) at room)
+    (sym (append_assoc (take at room) part (drop (at + length part) room)) ∙ sym (sets-eq part room at (omega (arith, long))))
 
 from_start : {n m : ℕ} → n ≡ m → n ≡ 0 + m
 from_start e = omega (arith, e)
 
--- the message, the ends, the masks and the modules after a head that was copied
+-- the head, the message, the ends, the masks and the modules, one after another
 pub stored_state :
-    (s : State) (head room : List ℕ) → head ≡ head_bytes s → in_range s ≡ true → Eight s → length room ≡ image_bytes →
+    (s : State) (room : List ℕ) → in_range s ≡ true → Eight s → length room ≡ image_bytes →
     sets
-    (sets (sets (sets (take (length head) head ++ drop (length head) room) message_place (message_bytes s.message)) ends_place (ends_bytes s.ends)) masks_place
+    (sets (sets (sets (sets room 0 (head_bytes s)) message_place (message_bytes s.message)) ends_place (ends_bytes s.ends)) masks_place
     (masks_bytes s.masks)) modules_place (modules_bytes s.modules) ≡ saved s
 unfolding saved head_bytes
-stored_state s head room e valid eight fits =
+stored_state s room valid eight fits =
     let n = length_saved s valid eight in
     let message = message_bytes s.message in
     let ends = ends_bytes s.ends in
     let masks = masks_bytes s.masks in
     let modules = modules_bytes s.modules in
-    rw (take-length head, e)
-    (ap (λ r. sets (sets (sets (sets r message_place message) ends_place ends) masks_place masks) modules_place modules) (sym (sets_front (head_bytes s) room (omega arith)))
-    ∙ ap (λ r. sets (sets (sets r ends_place ends) masks_place masks) modules_place modules) (sym (sets_append (head_bytes s) message room 0))
+    ap (λ r. sets (sets (sets r ends_place ends) masks_place masks) modules_place modules) (sym (sets_append (head_bytes s) message room 0))
     ∙ ap (λ at. sets (sets (sets (sets room 0 (front_bytes s)) at ends) masks_place masks) modules_place modules) (from_start (sym (length_front s valid)))
     ∙ ap (λ r. sets (sets r masks_place masks) modules_place modules) (sym (sets_append (front_bytes s) ends room 0))
     ∙ ap (λ at. sets (sets (sets room 0 (front_bytes s ++ ends)) at masks) modules_place modules) (from_start (sym (length_ends s valid)))
@@ -135,4 +144,4 @@ stored_state s head room e valid eight fits =
     ∙ sym (sets_append (before_modules_bytes s) modules room 0)
     ∙ sets_front (saved s) room (omega arith)
     ∙ ap (λ l. saved s ++ l) (drop_of_length-le room {i = length (saved s)} (omega arith))
-    ∙ append-nil (saved s))
+    ∙ append-nil (saved s)

@@ -1,7 +1,6 @@
 -- What each exported call leaves, over bytes.
 -- Assumes nothing.
-use Rattle.std.specs.Prelude.{ℕ, ◌≡◌, ◌&&◌, List, Result, Ok, Err, eqb, ltb, ℤ, length}
-use Rattle.std.proofs.Math.Option.{Option, none, some}
+use Rattle.std.specs.Prelude.{ℕ, ◌≡◌, List, Option, Some, None, Result, Ok, Err, eqb, ltb, ℤ, length}
 use Rattle.basics.specs.Choice.{when◌then◌else◌}
 use Rattle.basics.specs.Outcome.{Outcome, outcome, Reply, reply}
 use Rattle.modules.specs.Groups.{module_count}
@@ -19,10 +18,11 @@ use Rattle.pass.specs.declared.Passed.{Passed}
 use Rattle.counting.specs.Counting.{modules_on_of}
 use Rattle.counting.specs.declared.ModulesOn.{ModulesOn}
 use Rattle.books.specs.Books.{book_numbers}
-use Rattle.books.specs.Answer.{book_number}
+use Rattle.books.specs.Answer.{book_fault_number, book_number}
 use Rattle.books.specs.Step.{WithBooks, with_books, step_books_of}
-use Rattle.books.specs.Summary.{summary_of, put_into}
-use Rattle.books.specs.declared.answer.BookAnswer.TheVariants.{NotBooks}
+use Rattle.books.specs.Summary.{no_shares, summary_of, put_into}
+use Rattle.books.specs.declared.answer.BookFault.{BookFault}
+use Rattle.books.specs.declared.answer.BookFault.TheVariants.{NotBooks}
 use Rattle.books.specs.declared.step.Booked.{Booked}
 use Rattle.beacon.specs.Writing.{beacon_of}
 use Rattle.supervisor.specs.declared.form.Form.{Form}
@@ -58,8 +58,8 @@ stepped_to after = outcome (imaged (answer_number after.result.answer) (saved af
 
 -- a step of what was loaded; where that is nothing, image and room stay
 abbrev pub step_loaded : Option State → (image frame room : List ℕ) → Outcome (Imaged ℕ)
-step_loaded none image frame room = outcome (imaged bad_state image) room
-step_loaded (some s) image frame room = stepped_to (step_of s frame room)
+step_loaded None image frame room = outcome (imaged bad_state image) room
+step_loaded (Some s) image frame room = stepped_to (step_of s frame room)
 
 -- a step of an image
 unfoldable pub step_image : (image frame room : List ℕ) → Outcome (Imaged ℕ)
@@ -73,8 +73,8 @@ passed_to after =
 
 -- a pass from what was loaded; where that is nothing, image and room stay
 abbrev pub pass_loaded : Option State → (image frames room : List ℕ) → Outcome (Imaged Reply)
-pass_loaded none image frames room = outcome (imaged (reply bad_state 0) image) room
-pass_loaded (some s) image frames room = passed_to (pass_of s frames room)
+pass_loaded None image frames room = outcome (imaged (reply bad_state 0) image) room
+pass_loaded (Some s) image frames room = passed_to (pass_of s frames room)
 
 -- a pass from an image
 unfoldable pub pass_image : (image frames room : List ℕ) → Outcome (Imaged Reply)
@@ -86,8 +86,8 @@ modules_on_reply on = reply (answer_number on.answer) on.count
 
 -- how many are on in what was loaded; where that is nothing, 1 and none
 abbrev pub modules_on_loaded : Option State → Reply
-modules_on_loaded none = reply bad_state 0
-modules_on_loaded (some s) = modules_on_reply (modules_on_of s)
+modules_on_loaded None = reply bad_state 0
+modules_on_loaded (Some s) = modules_on_reply (modules_on_of s)
 
 -- how many are on in an image
 unfoldable pub modules_on_image : (image : List ℕ) → Reply
@@ -101,28 +101,31 @@ booked_to after =
 
 -- a step with books of what was loaded; where that is nothing, image, room and books stay
 abbrev pub step_books_loaded : Option State → (image frame room books : List ℕ) → Outcome (WithBooks (Imaged ℕ))
-step_books_loaded none image frame room books = outcome (with_books (imaged bad_state image) books) room
-step_books_loaded (some s) image frame room books = booked_to (step_books_of s frame room books)
+step_books_loaded None image frame room books = outcome (with_books (imaged bad_state image) books) room
+step_books_loaded (Some s) image frame room books = booked_to (step_books_of s frame room books)
 
 -- a step with books of an image: 18 goes before all, unless 24 numbers are lent
 unfoldable pub step_books_image : (image frame room books : List ℕ) → Outcome (WithBooks (Imaged ℕ))
 step_books_image image frame room books =
     when eqb (length books) book_numbers then step_books_loaded (loaded image) image frame room books
-    else outcome (with_books (imaged (book_number NotBooks) image) books) room
+    else outcome (with_books (imaged (book_fault_number NotBooks) image) books) room
 
--- a summary of books into a room: 18, then 17, with as many zeros as there is place for; then 14 where there is none
--- for eight shares, with nothing written
+-- a summary into a room: a refusal with as many zeros as there is place for; 14 where there is none for eight shares,
+-- with nothing written
+abbrev pub summed_to : Result (List ℕ) BookFault → (room : List ℕ) → Outcome ℕ
+summed_to (Ok shares) room =
+    when ltb (length room) module_count then outcome no_room room
+    else outcome done (put_into shares room)
+summed_to (Err fault) room = outcome (book_fault_number fault) (put_into no_shares room)
+
+-- a summary of books into a room: 18, then 17, then 14
 unfoldable pub summary_reply : (books room : List ℕ) → Outcome ℕ
-summary_reply books room =
-    let summed = summary_of books in
-    let number = book_number summed.answer in
-    when eqb number 0 && ltb (length room) module_count then outcome no_room room
-    else outcome number (put_into summed.shares room)
+summary_reply books room = summed_to (summary_of books) room
 
 -- the beacon's text of what was loaded; where that is nothing, the room stays
 abbrev pub beacon_loaded : Form → Option State → (room : List ℕ) → Outcome (Result ℕ WriteFault)
-beacon_loaded form none room = outcome (Err BadState) room
-beacon_loaded form (some s) room = beacon_of form s room
+beacon_loaded form None room = outcome (Err BadState) room
+beacon_loaded form (Some s) room = beacon_of form s room
 
 -- the beacon's text of an image
 unfoldable pub beacon_image : Form → (image room : List ℕ) → Outcome (Result ℕ WriteFault)

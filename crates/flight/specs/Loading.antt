@@ -1,8 +1,7 @@
 -- The state of an image: what its fields say, if that is in range.
 -- Assumes nothing.
 use Rattle.frames.specs.Serial.{both}
-use Rattle.std.specs.Prelude.{ℕ, ◌+◌, ◌*◌, Bool, ◌&&◌, false, List, eqb, leb, length, take, drop, replicate}
-use Rattle.std.proofs.Math.Option.{Option, none, some}
+use Rattle.std.specs.Prelude.{ℕ, ◌+◌, ◌*◌, Bool, ◌&&◌, false, List, eqb, leb, length, take, drop, replicate, Option, Some, None}
 use Rattle.basics.specs.Choice.{when◌then◌else◌}
 use Rattle.basics.specs.Each.{each}
 use Rattle.modules.specs.Groups.{module_count}
@@ -77,4 +76,8 @@ decoded bytes =
 
 -- the state of an image; no other bytes have one
 unfoldable pub loaded : List ℕ → Option State
-loaded bytes = when has_layout bytes && in_range (decoded bytes) then some (decoded bytes) else none
+loaded bytes = when has_layout bytes && in_range (decoded bytes) then Some (decoded bytes) else None
+
+-- what the fields say, in range or not; bytes that are not of this layout say nothing
+unfoldable pub fields_say : List ℕ → Option State
+fields_say bytes = when has_layout bytes then Some (decoded bytes) else None

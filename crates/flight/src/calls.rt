@@ -11,11 +11,11 @@ ghost use Rattle.flight.specs.Calls.{imaged, fresh_image, step_image, pass_image
 ghost use Rattle.flight.specs.Calls.{modules_on_image, beacon_image, told, replied, ReadReplied};
 ghost use Rattle.flight.specs.Calls.{tracks, tracks_of};
 
-use crate::loading::{decode, has_layout};
+use crate::loading::load;
 use crate::saving::{IMAGE_BYTES, save};
 use basics::Refusal;
 use beacon::writing::WriteFault;
-use books::answer::BookAnswer;
+use books::answer::BookFault;
 use books::numbers::{MODULES, NUMBERS};
 use books::shares::put;
 use books::step::step_books;
@@ -44,17 +44,15 @@ pub extern "C" fn ems_step(image: &mut [u8], frame: &[u8], room: &mut [u8]) -> u
     ensures { outcome (imaged result image.new) room.new
         ≡ step_image image.old frame.now room.old }
 {
-    if !has_layout(image) {
+    let Some(state) = load(image) else {
         return Answer::BadState.number();
-    }
-    let state = decode(image);
+    };
     let after = supervisor::step::step(state, frame, room);
-    let answer = after.answer;
-    let reported = answer.is_reported();
+    let reported = after.answer.is_reported();
     if reported {
         save(after.state, image);
     }
-    answer.number()
+    after.answer.number()
 }
 
 // Takes a whole pass, frames end to end: the image becomes the state's after the last that has a report, the room holds
@@ -69,18 +67,16 @@ pub extern "C" fn ems_pass(
     ensures { outcome (imaged (reply result reported.new) image.new) room.new
         ≡ pass_image image.old frames.now room.old }
 {
-    if !has_layout(image) {
+    let Some(state) = load(image) else {
         *reported = 0;
         return Answer::BadState.number();
-    }
-    let state = decode(image);
+    };
     let passed = pass::pass(state, frames, room);
-    let answer = passed.answer;
     *reported = passed.reported;
     if 0 < passed.reported {
         save(passed.state, image);
     }
-    answer.number()
+    passed.answer.number()
 }
 
 // Tells how many modules are on in an image's state.
@@ -88,11 +84,10 @@ pub extern "C" fn ems_pass(
 pub extern "C" fn ems_modules_on(image: &[u8], count: &mut usize) -> u8
     ensures { reply result count.new ≡ modules_on_image image.now }
 {
-    if !has_layout(image) {
+    let Some(state) = load(image) else {
         *count = 0;
         return Answer::BadState.number();
-    }
-    let state = decode(image);
+    };
     let on = counting::modules_on(state);
     let answer = on.answer;
     *count = on.count as usize;
@@ -111,44 +106,44 @@ pub extern "C" fn ems_step_books(
         ≡ step_books_image image.old frame.now room.old books.old }
 {
     if books.len() != NUMBERS {
-        return BookAnswer::NotBooks.number();
+        return BookFault::NotBooks.number();
     }
-    if !has_layout(image) {
+    let Some(state) = load(image) else {
         return Answer::BadState.number();
-    }
-    let state = decode(image);
+    };
     let booked = step_books(state, frame, room, books);
-    let given = booked.answer;
-    if given.is_reported() {
+    if books::answer::is_reported(booked.answer) {
         save(booked.state, image);
     }
-    given.number()
+    books::answer::number(booked.answer)
 }
 
 // Writes each module's share on, in thousandths, by the books; where these are refused, as many zeros as there is room for.
 #[unsafe(no_mangle)]
+#[tactic(auto, unfolding(crate::specs::Calls::summary_reply))]
 pub extern "C" fn ems_summary(books: &[u64], shares: &mut [u16]) -> u8
     ensures { outcome result shares.new ≡ summary_reply books.now shares.old }
 {
-    let summed = summary(books);
-    let answer = summed.answer;
-    let number = answer.number();
-    if (number == 0) & (shares.len() < MODULES) {
-        return NO_ROOM;
+    match summary(books) {
+        Ok(_) if shares.len() < MODULES => NO_ROOM,
+        Ok(all) => {
+            put(all, shares);
+            DONE
+        }
+        Err(fault) => {
+            put([0; MODULES], shares);
+            fault.number()
+        }
     }
-    let all = summed.shares;
-    put(all, shares);
-    number
 }
 
 // The beacon's text of an image's state.
 fn write_beacon(image: &[u8], form: Form, text: &mut [u8]) -> Result<usize, WriteFault>
     ensures { outcome result text.new ≡ beacon_image form image.now text.old }
 {
-    if !has_layout(image) {
+    let Some(state) = load(image) else {
         return Err(WriteFault::BadState);
-    }
-    let state = decode(image);
+    };
     beacon::writing::write(state, form, text)
 }
 

@@ -31,10 +31,8 @@ pub(crate) fn mode_code(mode: Mode) -> u32
     ensures { result ≡ mode_code mode }
 {
     match mode {
-        Mode::DeployWait(phase) => match phase {
-            Phase::Waiting(waited) => waited,
-            Phase::Settling(left) => SETTLING + (left as u32),
-        },
+        Mode::DeployWait(Phase::Waiting(waited)) => waited,
+        Mode::DeployWait(Phase::Settling(left)) => SETTLING + u32::from(left),
         Mode::Recovery => RECOVERY,
         Mode::Safe => SAFE,
     }
@@ -44,19 +42,13 @@ pub(crate) fn mode_code(mode: Mode) -> u32
 pub(crate) fn mode_from(code: u32) -> Mode
     ensures { result ≡ mode_from code }
 {
-    if code <= SETTLING {
-        return Mode::DeployWait(Phase::Waiting(code));
+    match code {
+        ..=SETTLING => Mode::DeployWait(Phase::Waiting(code)),
+        ..RECOVERY => Mode::DeployWait(Phase::Settling((code - SETTLING) as u16)),
+        RECOVERY => Mode::Recovery,
+        SAFE => Mode::Safe,
+        _ => Mode::DeployWait(Phase::Waiting(code)),
     }
-    if code < RECOVERY {
-        return Mode::DeployWait(Phase::Settling((code - SETTLING) as u16));
-    }
-    if code == RECOVERY {
-        return Mode::Recovery;
-    }
-    if code == SAFE {
-        return Mode::Safe;
-    }
-    Mode::DeployWait(Phase::Waiting(code))
 }
 
 // A power in range as a number.
@@ -65,8 +57,9 @@ fn power_code(power: Power) -> u16
     ensures { result ≡ power_code power }
 {
     match power {
-        Power::On { tries, seconds } => ((tries as u16) - 1) * (CLEAN as u16) + (seconds as u16),
-        Power::Off(tries) => ALL_TRIES + (tries as u16),
+        Power::On { tries, seconds } => u16::from(tries - 1) * u16::from(CLEAN)
+            + u16::from(seconds),
+        Power::Off(tries) => ALL_TRIES + u16::from(tries),
         Power::Failed(left) => FAILED + left,
     }
 }
@@ -76,8 +69,7 @@ pub(crate) fn module_code(m: Module) -> u16
     requires { power_in_range m.power ≡ true }
     ensures { result ≡ module_code m }
 {
-    let power = m.power;
-    let code = power_code(power);
+    let code = power_code(m.power);
     if m.requested { REQUESTED + code } else { code }
 }
 
@@ -85,25 +77,17 @@ pub(crate) fn module_code(m: Module) -> u16
 pub(crate) fn module_from(code: u16) -> Module
     ensures { result ≡ module_from code }
 {
-    let requested = REQUESTED <= code;
-    let left = code % REQUESTED;
-    if left <= ALL_TRIES {
-        return Module {
-            power: Power::On {
-                tries: (left / (CLEAN as u16) + 1) as u8,
-                seconds: (left % (CLEAN as u16)) as u8,
-            },
-            requested,
-        };
-    }
-    if left < FAILED {
-        return Module {
-            power: Power::Off((left - ALL_TRIES) as u8),
-            requested,
-        };
-    }
+    let clean = u16::from(CLEAN);
+    let power = match code % REQUESTED {
+        on @ ..=ALL_TRIES => Power::On {
+            tries: (on / clean + 1) as u8,
+            seconds: (on % clean) as u8,
+        },
+        off @ ..FAILED => Power::Off((off - ALL_TRIES) as u8),
+        failed => Power::Failed(failed - FAILED),
+    };
     Module {
-        power: Power::Failed(left - FAILED),
-        requested,
+        power,
+        requested: REQUESTED <= code,
     }
 }

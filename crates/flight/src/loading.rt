@@ -2,48 +2,43 @@
 // Numbers that no state in range has make a state out of range, which `step` and the beacon refuse.
 ghost use Rattle.std.specs.Prelude.{◌≡◌, length};
 ghost use Rattle.flight.specs.Saving.{image_bytes};
-ghost use Rattle.flight.specs.Loading.{has_layout, message_in, ends_in, modules_in, decoded};
+ghost use Rattle.flight.specs.Loading.{message_in, ends_in, modules_in, decoded, fields_say};
 
 use crate::codes::{mode_from, module_from};
 use crate::fields::{pair_at, quad_at};
 use crate::saving::{
-    ENDS_PLACE, IMAGE_BYTES, MASKS_PLACE, MESSAGE_PLACE, MODULE_COUNT, MODULES_PLACE, TEXT_PLACE,
-    VERSION,
+    ENDS_PLACE, Image, MASKS_PLACE, MESSAGE_PLACE, MODULE_COUNT, MODULES_PLACE, TEXT_PLACE, VERSION,
 };
-use frames::greeting::LONGEST;
 use frames::serial::Serials;
 use modules::ends::Ends;
 use modules::masks::Masks;
 use modules::power::{Module, Power};
 use supervisor::state::{Battery, Message, State, Watch};
 
-// Whether the bytes are of this layout: their number, the version, and antennas that are 0 or 1.
-pub(crate) fn has_layout(image: &[u8]) -> bool
-    ensures { result ≡ has_layout image.now }
-{
-    if image.len() != IMAGE_BYTES {
-        return false;
-    }
-    (image[0] == VERSION) & (image[7] <= 1)
-}
+// A module that stands for none.
+const BLANK: Module = Module {
+    power: Power::On {
+        tries: 0,
+        seconds: 0,
+    },
+    requested: false,
+};
 
 // The message of an image.
-fn message_in(image: &[u8]) -> Message
-    requires { length image.now ≡ image_bytes }
+#[tactic(auto, unfolding(crate::specs::Loading::message_in))]
+fn message_in(image: &Image) -> Message
     ensures { result ≡ message_in image.now }
 {
-    let mut text = [0u8; LONGEST];
-    basics::copy(&image[TEXT_PLACE..ENDS_PLACE], &mut text);
     Message {
         repeats: image[MESSAGE_PLACE],
         length: image[MESSAGE_PLACE + 1],
-        text,
+        text: image[TEXT_PLACE..ENDS_PLACE].try_into().unwrap(),
     }
 }
 
 // The ends of an image.
-fn ends_in(image: &[u8]) -> Ends
-    requires { length image.now ≡ image_bytes }
+#[tactic(auto, unfolding(crate::specs::Loading::ends_in))]
+fn ends_in(image: &Image) -> Ends
     ensures { result ≡ ends_in image.now }
 {
     Ends {
@@ -54,40 +49,26 @@ fn ends_in(image: &[u8]) -> Ends
     }
 }
 
-// The eight modules of an image. The loop goes by the image's length, which the compiler does not know: it stays one.
-fn modules_in(image: &[u8]) -> [Module; MODULE_COUNT]
-    requires { length image.now ≡ image_bytes }
+// The eight modules of an image.
+fn modules_in(image: &Image) -> [Module; MODULE_COUNT]
     ensures { result ≡ modules_in image.now }
 {
-    let blank = Module {
-        power: Power::On {
-            tries: 0,
-            seconds: 0,
-        },
-        requested: false,
-    };
-    let mut modules = [blank; MODULE_COUNT];
-    let mut i: usize = 0;
-    let mut at: usize = MODULES_PLACE;
-    while at < image.len() {
-        modules[i] = module_from(pair_at(image, at));
-        i += 1;
-        at += 2;
+    let mut modules = [BLANK; MODULE_COUNT];
+    for i in 0..MODULE_COUNT {
+        modules[i] = module_from(pair_at(image, MODULES_PLACE + 2 * i));
     }
     modules
 }
 
-// The state that the fields of an image say, in range or not.
-pub(crate) fn decode(image: &[u8]) -> State
-    requires { length image.now ≡ image_bytes }
+// The state that the fields of an image say, in range or not. Each call that loads has `load` in it, and this once for all.
+#[tactic(auto, unfolding(crate::specs::Loading::decoded, crate::specs::Loading::masks_in))]
+#[inline(never)]
+fn decode(image: &Image) -> State
     ensures { result ≡ decoded image.now }
 {
-    let message = message_in(image);
-    let ends = ends_in(image);
-    let modules = modules_in(image);
     State {
         watch: Watch {
-            mode: mode_from((pair_at(image, 1) as u32) + (image[3] as u32) * 65536),
+            mode: mode_from(u32::from_le_bytes([image[1], image[2], image[3], 0])),
             control: image[4],
             beacon: pair_at(image, 5),
         },
@@ -106,8 +87,22 @@ pub(crate) fn decode(image: &[u8]) -> State
             ground: pair_at(image, 14),
             payload: pair_at(image, 16),
         },
-        message,
-        ends,
-        modules,
+        message: message_in(image),
+        ends: ends_in(image),
+        modules: modules_in(image),
+    }
+}
+
+// The state that the fields of an image say, in range or not. Bytes that are not of this layout have none: it has their
+// number, the version, and antennas that are 0 or 1.
+#[tactic(auto, unfolding(crate::specs::Loading::fields_say, crate::specs::Loading::has_layout))]
+pub(crate) fn load(image: &[u8]) -> Option<State>
+    ensures { result ≡ fields_say image.now }
+{
+    let image = image.as_array()?;
+    if (image[0] == VERSION) & (image[7] <= 1) {
+        Some(decode(image))
+    } else {
+        None
     }
 }

@@ -1,14 +1,13 @@
 // The state as an image of 71 bytes: saved.
-ghost use Rattle.std.specs.Prelude.{◌≡◌, true, ◌+◌, ◌≤◌, length};
+ghost use Rattle.std.specs.Prelude.{◌≡◌, true, length};
 ghost use Rattle.std.proofs.lemmas.List.Edits.{sets};
 ghost use Rattle.modules.specs.Stage.{modules_in_range};
 ghost use Rattle.supervisor.specs.Range.{in_range};
-ghost use Rattle.flight.specs.Fields.{pair_bytes, quad_bytes};
 ghost use Rattle.flight.specs.Saving.{image_bytes, message_place, ends_place, masks_place, modules_place};
 ghost use Rattle.flight.specs.Saving.{head_bytes, message_bytes, ends_bytes, masks_bytes, modules_bytes, saved};
 
 use crate::codes::{mode_code, module_code};
-use crate::fields::flag;
+use crate::fields::put;
 use modules::ends::Ends;
 use modules::masks::Masks;
 use modules::power::Module;
@@ -38,88 +37,42 @@ pub(crate) const MODULES_PLACE: usize = 55;
 // How many modules there are.
 pub(crate) const MODULE_COUNT: usize = 8;
 
+// The bytes of a state.
+pub(crate) type Image = [u8; IMAGE_BYTES];
+
 // All but the message, the ends, the masks and the modules.
+#[tactic(auto, using(crate::proofs::SavingLaws::mode_code_small), unfolding(crate::specs::Saving::head_bytes))]
 fn head(state: State) -> [u8; MESSAGE_PLACE]
     requires { in_range state ≡ true }
     ensures { result ≡ head_bytes state }
 {
-    let watch = state.watch;
-    let mode = watch.mode;
-    let code = mode_code(mode);
-    let battery = state.battery;
-    let serials = state.serials;
+    let mode = mode_code(state.watch.mode).to_le_bytes();
+    let beacon = state.watch.beacon.to_le_bytes();
+    let tension = state.battery.tension.to_le_bytes();
+    let ascend = state.battery.ascend.to_le_bytes();
+    let descend = state.battery.descend.to_le_bytes();
+    let ground = state.serials.ground.to_le_bytes();
+    let payload = state.serials.payload.to_le_bytes();
     [
         VERSION,
-        (code % 256) as u8,
-        (code / 256 % 256) as u8,
-        (code / 65536) as u8,
-        watch.control,
-        (watch.beacon % 256) as u8,
-        (watch.beacon / 256) as u8,
-        flag(state.antennas),
-        (battery.tension % 256) as u8,
-        (battery.tension / 256) as u8,
-        (battery.ascend % 256) as u8,
-        (battery.ascend / 256) as u8,
-        (battery.descend % 256) as u8,
-        (battery.descend / 256) as u8,
-        (serials.ground % 256) as u8,
-        (serials.ground / 256) as u8,
-        (serials.payload % 256) as u8,
-        (serials.payload / 256) as u8,
+        mode[0],
+        mode[1],
+        mode[2],
+        state.watch.control,
+        beacon[0],
+        beacon[1],
+        u8::from(state.antennas),
+        tension[0],
+        tension[1],
+        ascend[0],
+        ascend[1],
+        descend[0],
+        descend[1],
+        ground[0],
+        ground[1],
+        payload[0],
+        payload[1],
     ]
-}
-
-// Stores a number as two bytes at a place.
-fn put_pair(bytes: &mut [u8], at: usize, n: u16)
-    requires { at + 2 ≤ length bytes.old }
-    ensures { bytes.new ≡ sets bytes.old at (pair_bytes n) }
-{
-    bytes[at] = (n % 256) as u8;
-    bytes[at + 1] = (n / 256) as u8;
-}
-
-// Stores a number as four bytes at a place.
-fn put_quad(bytes: &mut [u8], at: usize, n: u32)
-    requires { at + 4 ≤ length bytes.old }
-    ensures { bytes.new ≡ sets bytes.old at (quad_bytes n) }
-{
-    bytes[at] = (n % 256) as u8;
-    bytes[at + 1] = (n / 256 % 256) as u8;
-    bytes[at + 2] = (n / 65536 % 256) as u8;
-    bytes[at + 3] = (n / 16777216) as u8;
-}
-
-// Stores the message.
-fn put_message(message: Message, image: &mut [u8])
-    requires { length image.old ≡ image_bytes }
-    ensures { image.new ≡ sets image.old message_place (message_bytes message) }
-{
-    image[MESSAGE_PLACE] = message.repeats;
-    image[MESSAGE_PLACE + 1] = message.length;
-    let text = message.text;
-    basics::copy(&text, &mut image[TEXT_PLACE..]);
-}
-
-// Stores the four ends.
-fn put_ends(ends: Ends, image: &mut [u8])
-    requires { length image.old ≡ image_bytes }
-    ensures { image.new ≡ sets image.old ends_place (ends_bytes ends) }
-{
-    put_quad(image, ENDS_PLACE, ends.adcs);
-    put_quad(image, ENDS_PLACE + 4, ends.payload);
-    put_quad(image, ENDS_PLACE + 8, ends.sband1);
-    put_quad(image, ENDS_PLACE + 12, ends.sband2);
-}
-
-// Stores the three masks.
-fn put_masks(masks: Masks, image: &mut [u8])
-    requires { length image.old ≡ image_bytes }
-    ensures { image.new ≡ sets image.old masks_place (masks_bytes masks) }
-{
-    image[MASKS_PLACE] = masks.requested;
-    image[MASKS_PLACE + 1] = masks.on;
-    image[MASKS_PLACE + 2] = masks.failed;
 }
 
 // Stores the eight modules. The loop goes by the image's length, which the compiler does not know: it stays one.
@@ -127,14 +80,12 @@ fn put_modules(modules: [Module; MODULE_COUNT], image: &mut [u8])
     requires { (length image.old ≡ image_bytes) × (modules_in_range modules ≡ true) }
     ensures { image.new ≡ sets image.old modules_place (modules_bytes modules) }
 {
-    let mut i: usize = 0;
-    let mut at: usize = MODULES_PLACE;
-    while at < image.len() {
-        let m = modules[i];
-        let code = module_code(m);
-        put_pair(image, at, code);
-        i += 1;
-        at += 2;
+    for i in 0..(image.len() - MODULES_PLACE) / 2 {
+        put(
+            image,
+            MODULES_PLACE + 2 * i,
+            module_code(modules[i]).to_le_bytes(),
+        );
     }
 }
 
@@ -143,11 +94,21 @@ pub(crate) fn save(state: State, image: &mut [u8])
     requires { (length image.old ≡ image_bytes) × (in_range state ≡ true) }
     ensures { image.new ≡ saved state }
 {
-    let modules = state.modules;
-    let front = head(state);
-    basics::copy(&front, image);
-    put_message(state.message, image);
-    put_ends(state.ends, image);
-    put_masks(state.masks, image);
-    put_modules(modules, image);
+    put(image, 0, head(state));
+    put(
+        image,
+        MESSAGE_PLACE,
+        [state.message.repeats, state.message.length],
+    );
+    put(image, TEXT_PLACE, state.message.text);
+    put(image, ENDS_PLACE, state.ends.adcs.to_le_bytes());
+    put(image, ENDS_PLACE + 4, state.ends.payload.to_le_bytes());
+    put(image, ENDS_PLACE + 8, state.ends.sband1.to_le_bytes());
+    put(image, ENDS_PLACE + 12, state.ends.sband2.to_le_bytes());
+    put(
+        image,
+        MASKS_PLACE,
+        [state.masks.requested, state.masks.on, state.masks.failed],
+    );
+    put_modules(state.modules, image);
 }

@@ -5,6 +5,7 @@
 use frames::answer::Answer;
 use frames::kind::{Kind, REPORT_BYTES};
 use frames::sender::Origin;
+use modules::stage::has;
 use morse::MOST_UNITS;
 use std::io;
 use supervisor::fresh::fresh;
@@ -34,30 +35,26 @@ fn battery(millivolts: u16) -> [u8; 3] {
 
 // The state after a frame, worked a number of times.
 fn after(mut state: State, frame: &[u8], times: u32) -> State {
-    let mut report = [0u8; REPORT_BYTES];
+    let mut report = [0; REPORT_BYTES];
     for _ in 0..times {
-        let stepped = step(state, frame, &mut report);
-        state = stepped.state;
+        state = step(state, frame, &mut report).state;
     }
     state
 }
 
 // The state after a number of ticks that see no short.
 fn after_ticks(state: State, times: u32) -> State {
-    let frame = [Kind::Tick.number(), 0];
-    after(state, &frame, times)
+    after(state, &[Kind::Tick.number(), 0], times)
 }
 
 // The state after the antennas are reported deployed.
 fn after_deployed(state: State) -> State {
-    let frame = [Kind::Antennas.number(), 1];
-    after(state, &frame, 1)
+    after(state, &[Kind::Antennas.number(), 1], 1)
 }
 
 // The state after a reading of the battery.
 fn after_reading(state: State, millivolts: u16) -> State {
-    let frame = battery(millivolts);
-    after(state, &frame, 1)
+    after(state, &battery(millivolts), 1)
 }
 
 // The state after an order of the ground's for COMM2, 0 off or 1 on, and a tick.
@@ -73,39 +70,29 @@ fn after_comm2(state: State, serial: u8, on: u8) -> State {
     after_ticks(after(state, &frame, 1), 1)
 }
 
-// Whether the mode is RECOVERY.
-fn in_recovery(state: State) -> bool {
-    let watch = state.watch;
-    let mode = watch.mode;
-    match mode {
-        Mode::Recovery => true,
-        _ => false,
-    }
-}
-
-// The ticks that it takes from a state to RECOVERY; 0 where `MOST_TICKS` are not enough.
-fn ticks_to_recovery(mut state: State) -> u64 {
-    for ticks in 0..MOST_TICKS {
+// The ticks that it takes from a state to RECOVERY, if `MOST_TICKS` are enough.
+fn ticks_to_recovery(mut state: State) -> Option<u64> {
+    for ticks in 1..=MOST_TICKS {
         state = after_ticks(state, 1);
-        if in_recovery(state) {
-            return ticks + 1;
+        if matches!(state.watch.mode, Mode::Recovery) {
+            return Some(ticks);
         }
     }
-    0
+    None
 }
 
 // Writes the tick after which the mode is RECOVERY.
 fn say_recovery(rt: &impl Print, state: State) -> io::Result<()> {
-    let ticks = ticks_to_recovery(state);
-    println!(rt; "RECOVERY after tick {ticks}")
+    match ticks_to_recovery(state) {
+        Some(ticks) => println!(rt; "RECOVERY after tick {ticks}"),
+        None => println!(rt; "no RECOVERY after {MOST_TICKS} ticks"),
+    }
 }
 
 // Writes the answer to a reading of the battery.
 fn say_battery(rt: &impl Print, millivolts: u16) -> io::Result<()> {
-    let frame = battery(millivolts);
-    let mut report = [0u8; REPORT_BYTES];
-    let stepped = step(fresh(), &frame, &mut report);
-    match stepped.answer {
+    let mut report = [0; REPORT_BYTES];
+    match step(fresh(), &battery(millivolts), &mut report).answer {
         Answer::Done => println!(rt; "battery {millivolts}: done"),
         answer => println!(rt; "battery {millivolts}: refusal {}", answer.number()),
     }
@@ -113,7 +100,7 @@ fn say_battery(rt: &impl Print, millivolts: u16) -> io::Result<()> {
 
 // Writes how many units a text has.
 fn say_units(rt: &impl Print, text: &str) -> io::Result<()> {
-    let mut units = [0u8; MOST_UNITS];
+    let mut units = [0; MOST_UNITS];
     match morse::key(text.as_bytes(), &mut units) {
         Ok(count) => println!(rt; "{text}: {count} units"),
         Err(_) => println!(rt; "{text}: refused"),
@@ -122,8 +109,7 @@ fn say_units(rt: &impl Print, text: &str) -> io::Result<()> {
 
 // Writes whether COMM2 is on.
 fn say_comm2(rt: &impl Print, state: State) -> io::Result<()> {
-    let on = state.masks.on;
-    if (on >> COMM2) % 2 == 1 {
+    if has(state.masks.on, usize::from(COMM2)) {
         print!(rt; "on")
     } else {
         print!(rt; "off")

@@ -6,9 +6,10 @@ use mathlib.Core.Bool.{Bool, true, false}
 use mathlib.Core.List.{List, [], ◌∷◌, ◌++◌, append_assoc}
 use native.Mathlib.Nat.{zero-add, add-zero, add_assoc}
 use native.Mathlib.Omega.{arith}
-use lib.Dec.{T}
+use borrow.Author.Tests.{eqb-true, eqb-false}
+use lib.Dec.{T, eqb}
 use lib.ListN.{length, take, drop, length-append, length-drop, take-append-drop}
-use lib.Seq.{length-take-le, take-append-add, drop-append-add, drop-drop}
+use lib.Seq.{length-take-le, take-append-add, drop-append-add}
 use Rattle.basics.specs.Outcome.{Outcome, outcome}
 use Rattle.basics.proofs.ChoiceLaws.{is_true}
 use Rattle.basics.proofs.PartLaws.{part_from, lent_back, part_from_law, lent_back_law}
@@ -31,13 +32,12 @@ use Rattle.pass.proofs.FramesLaws.{frames_none, frames_first}
 -- the work of one frame is a step of the frame at the front
 pub work_made :
     (s : State) (rest room : List ℕ) (bytes : ℕ) (stepped : Stepped) (later : List ℕ) → bytes ≡ front_bytes (cut_of rest) (length rest) →
-    outcome stepped later ≡ step_of s (take (bytes - 0) rest) room →
+    outcome stepped later ≡ step_of s (take bytes rest) room →
     outcome (record { answer = stepped.answer; state = stepped.state; bytes = bytes }) later ≡ work_of s rest room
 unfolding work_of front_of
 work_made s rest room bytes stepped later b k =
-    let z : bytes - 0 ≡ bytes = omega arith in
     let front : length (take bytes rest) ≡ bytes = length-take-le bytes rest (rw b (front_within rest)) in
-    rw (← b, front) (rw (← (rw z at k)))
+    rw (← b, front) (rw (← k))
 
 -- one frame of those in order: with a report the others follow, with none it stops there
 module _ (s : State) (frame : List ℕ) (frames : List (List ℕ)) (room : List ℕ) where
@@ -94,45 +94,43 @@ ahead_both reports more room later rest h =
     rw all (rw front at (take-append-add (take (reports * report_bytes) room) later (more * report_bytes))) in
     rw (both, append_assoc, add_assoc reports more)
 
--- where a pass stands: what is used of the bytes and of the room lies within, and what is left makes up the whole
-pub record Underway (s₀ : State) (input room₀ : List ℕ) (s : State) (room : List ℕ) (at reports : ℕ) : Type 0 where
-  pub used_within : at ≤ length input
+-- where a pass stands: what is used of the room lies within, and the bytes that are left make up the whole
+pub record Underway (s₀ : State) (input room₀ : List ℕ) (s : State) (room left : List ℕ) (reports : ℕ) : Type 0 where
   pub reports_within : reports * report_bytes ≤ length room
   pub same_length : length room ≡ length room₀
-  pub rest : ahead reports room (in_order s (frames_in (drop at input)) (drop (reports * report_bytes) room)) ≡ pass_of s₀ input room₀
+  pub rest : ahead reports room (in_order s (frames_in left) (drop (reports * report_bytes) room)) ≡ pass_of s₀ input room₀
 
-pub underway_start : (s : State) (input room : List ℕ) → in_range s ≡ true → Underway s input room s room 0 0
+pub underway_start : (s : State) (input room : List ℕ) → in_range s ≡ true → Underway s input room s room input 0
 unfolding pass_of
 underway_start s input room e =
     record {
-      used_within = omega arith;
       reports_within = omega arith;
       same_length = refl;
       rest = simp (e, zero-add);
     }
 
-module _ {s₀ : State} {input room₀ : List ℕ} {s : State} {room : List ℕ} {at reports : ℕ} (u : Underway s₀ input room₀ s room at reports) where
+module _ {s₀ : State} {input room₀ : List ℕ} {s : State} {room left : List ℕ} {reports : ℕ} (u : Underway s₀ input room₀ s room left reports) where
   -- no bytes are left
-  pub underway_end : length input ≤ at → outcome (record { state = s; reported = reports; answer = Done }) room ≡ pass_of s₀ input room₀
+  pub underway_end : eqb (length left) 0 ≡ true → outcome (record { state = s; reported = reports; answer = Done }) room ≡ pass_of s₀ input room₀
   unfolding in_order
   underway_end h =
-      let none : frames_in (drop at input) ≡ [] = frames_none (drop at input) (rw (length-drop at input) (omega arith)) in
+      let none : frames_in left ≡ [] = frames_none left (eqb-true (length left) 0 h) in
       simp (none, add-zero, take-append-drop) at u.rest
 
   -- some are: the frame at the front is worked, with the rest of the room
-  abbrev left : List ℕ
-  left = drop at input
-
   abbrev spare : List ℕ
   spare = drop (reports * report_bytes) room
 
   abbrev after : Outcome Stepped
   after = step_of s (front_of left) spare
 
-  module _ (some : at < length input) (worked : Worked) (later : List ℕ)
-      (k : outcome worked later ≡ work_of s (part_from input at) (part_from room (reports * report_bytes))) where
+  module _ (some : eqb (length left) 0 ≡ false) (worked : Worked) (later : List ℕ)
+      (k : outcome worked later ≡ work_of s left (part_from room (reports * report_bytes))) where
+    bytes_left : 0 < length left
+    bytes_left = omega (arith, eqb-false (length left) 0 some)
+
     made : outcome worked later ≡ work_of s left spare
-    made = rw (part_from_law input at, part_from_law room (reports * report_bytes)) at k
+    made = rw (part_from_law room (reports * report_bytes)) at k
 
     steps : outcome (record { answer = worked.answer; state = worked.state }) later ≡ after
     unfolding work_of
@@ -145,14 +143,9 @@ module _ {s₀ : State} {input room₀ : List ℕ} {s : State} {room : List ℕ}
     answers : after.result.answer ≡ worked.answer
     answers = ap (λ (o : Outcome Stepped). o.result.answer) (sym steps)
 
-    length_left : length left ≡ length input - at
-    length_left = length-drop at input
-
     -- a frame has a byte or more, and lies within
-    pub frame_within : (0 < worked.bytes) × (at + worked.bytes ≤ length input)
-    frame_within =
-        let front : worked.bytes ≤ length left = rw (measures, length_front left) (front_within left) in
-        (rw measures (front_some left (omega (arith, length_left))), omega (arith, length_left))
+    pub frame_within : (0 < worked.bytes) × (worked.bytes ≤ length left)
+    frame_within = (rw measures (front_some left bytes_left), rw (measures, length_front left) (front_within left))
 
     pub report_within : is_reported worked.answer ≡ true → (reports + 1) * report_bytes ≤ length room
     report_within e =
@@ -175,7 +168,7 @@ module _ {s₀ : State} {input room₀ : List ℕ} {s : State} {room : List ℕ}
 
     -- the frames left are this one, and those that follow it
     frames : frames_in left ≡ front_of left ∷ frames_in (drop worked.bytes left)
-    frames = rw measures (frames_first left (omega (arith, length_left)))
+    frames = rw measures (frames_first left bytes_left)
 
     -- with a report the pass goes on
     goes_on_law :
@@ -183,20 +176,23 @@ module _ {s₀ : State} {input room₀ : List ℕ} {s : State} {room : List ℕ}
         in_order s (frames_in left) spare ≡ ahead 1 later (in_order worked.state (frames_in (drop worked.bytes left)) (drop report_bytes later))
     goes_on_law e = rw (frames, order_follows s (front_of left) (frames_in (drop worked.bytes left)) spare (rw answers e), ← steps)
 
+    -- the bytes after it
+    pub rest_shorter : length (part_from left worked.bytes) < length left
+    rest_shorter = rw (part_from_law left worked.bytes, length-drop) (omega (arith, frame_within))
+
     pub underway_frame :
         is_reported worked.answer ≡ true →
-        Underway s₀ input room₀ worked.state (lent_back room (reports * report_bytes) later) (at + worked.bytes) (reports + 1)
+        Underway s₀ input room₀ worked.state (lent_back room (reports * report_bytes) later) (part_from left worked.bytes) (reports + 1)
     underway_frame e =
         let more : (reports + 1) * report_bytes ≡ reports * report_bytes + report_bytes = omega arith in
         let past : drop ((reports + 1) * report_bytes) (take (reports * report_bytes) room ++ later) ≡ drop report_bytes later =
         rw more (rw front_room at (drop-append-add (take (reports * report_bytes) room) later report_bytes)) in
-        rw back
+        rw (back, part_from_law left worked.bytes)
         (record {
-          used_within = frame_within.1;
           reports_within = rw length_back (report_within e);
           same_length = length_back ∙ u.same_length;
           rest =
-              rw (past, ← drop-drop worked.bytes at input)
+              rw past
               (sym (ahead_both reports 1 room later (in_order worked.state (frames_in (drop worked.bytes left)) (drop report_bytes later)) u.reports_within)
               ∙ ap (ahead reports room) (sym (goes_on_law e)) ∙ u.rest);
         })

@@ -6,7 +6,7 @@ ghost use Rattle.basics.specs.Outcome.{outcome};
 ghost use Rattle.pass.specs.Pass.{work_of, pass_of};
 
 use frames::answer::Answer;
-use frames::cut::{cut, front_bytes};
+use frames::cut::cut;
 use frames::kind::REPORT_BYTES;
 use supervisor::state::State;
 use supervisor::step::step;
@@ -32,20 +32,18 @@ struct Worked {
 fn work(state: State, rest: &[u8], room: &mut [u8]) -> Worked
     ensures { outcome result room.new ≡ work_of state rest.now room.old }
 {
-    let front = cut(rest);
-    let bytes = front_bytes(front, rest.len());
-    let stepped = step(state, &rest[0..bytes], room);
-    let answer = stepped.answer;
-    let next = stepped.state;
+    let bytes = cut(rest).unwrap_or(rest.len());
+    let stepped = step(state, &rest[..bytes], room);
     Worked {
-        answer,
+        answer: stepped.answer,
         bytes,
-        state: next,
+        state: stepped.state,
     }
 }
 
 // Takes frames end to end, and stops before the first that gets no report: it is refused, or no room is left for one.
 // What was done stands; the bytes of the room past the last report stay.
+#[tactic(auto, unfolding(crate::specs::Pass::pass_of))]
 pub fn pass(mut state: State, input: &[u8], room: &mut [u8]) -> Passed
     ensures { outcome result room.new ≡ pass_of state input.now room.old }
 {
@@ -56,21 +54,19 @@ pub fn pass(mut state: State, input: &[u8], room: &mut [u8]) -> Passed
             answer: Answer::BadState,
         };
     }
-    let mut at = 0;
+    let mut rest = input;
     let mut reported = 0;
-    while at < input.len() {
-        let worked = work(state, &input[at..], &mut room[reported * REPORT_BYTES..]);
-        let answer = worked.answer;
-        let next = worked.state;
-        state = next;
-        if !answer.is_reported() {
+    while !rest.is_empty() {
+        let worked = work(state, rest, &mut room[reported * REPORT_BYTES..]);
+        state = worked.state;
+        if !worked.answer.is_reported() {
             return Passed {
                 state,
                 reported,
-                answer,
+                answer: worked.answer,
             };
         }
-        at += worked.bytes;
+        rest = &rest[worked.bytes..];
         reported += 1;
     }
     Passed {

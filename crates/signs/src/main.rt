@@ -39,7 +39,7 @@ fn say_marks(rt: &impl Print, units: &[u8]) -> io::Result<()> {
 
 // What reading units gives.
 fn say_heard(rt: &impl Print, units: &[u8]) -> io::Result<()> {
-    let mut text = [0u8; LONGEST];
+    let mut text = [0; LONGEST];
     match hearing::read(units, &mut text) {
         Ok(n) if n <= LONGEST => say(rt, &text[..n]),
         Ok(_) => Ok(()),
@@ -58,7 +58,7 @@ fn say_keyed(rt: &impl Print, units: &[u8]) -> io::Result<()> {
 // A byte, its sign, and what reading that gives.
 fn say_sign(rt: &impl Print, byte: u8) -> io::Result<()> {
     let text = [byte];
-    let mut units = [0u8; SIGN_ROOM];
+    let mut units = [0; SIGN_ROOM];
     say(rt, &text)?;
     say(rt, b" ")?;
     match morse::key(&text, &mut units) {

@@ -47,13 +47,6 @@ module _ (entries : ℕ) (log : Log) (bytes : List ℕ) (ended : Bool) (room : L
   up_to_stop (inl e) = rw (k, e)
   up_to_stop (inr e) = rw (k, e)
 
--- the entries that are no line
-stops : (e : Entry) → ((frame line : ℕ) → e ≡ Line frame line → ⊥) → ((line : ℕ) → e ≡ Last line → ⊥) → (e ≡ More) ⊎ (e ≡ Full)
-stops More no_line no_last = inl refl
-stops Full no_line no_last = inr refl
-stops (Line frame line) no_line no_last = absurd (no_line frame line refl)
-stops (Last line) no_line no_last = absurd (no_last line refl)
-
 -- where the turns of a piece stand: what is used and what the lines have lie within, and what is left makes up the whole
 pub record Underway (log₀ : Log) (bytes : List ℕ) (ended : Bool) (room₀ : List ℕ) (log : Log) (room : List ℕ) (used lines : ℕ) : Type 0 where
   pub used_within : used ≤ length bytes
@@ -122,9 +115,9 @@ module _ {log₀ : Log} {bytes : List ℕ} {ended : Bool} {room₀ : List ℕ} {
 
   -- no line: the piece ends there
   pub underway_stop :
-      ((frame line : ℕ) → entered.entry ≡ Line frame line → ⊥) → ((line : ℕ) → entered.entry ≡ Last line → ⊥) →
+      (entered.entry ≡ More) ⊎ (entered.entry ≡ Full) →
       outcome (record { entry = entered.entry; log = entered.log; used = used; lines = lines }) (lent_back room lines later) ≡ fill_of log₀ bytes ended room₀
-  underway_stop no_line no_last = rw room_after (simp (up_to_stop u.entries log (drop used bytes) ended (drop lines room) entry_left (stops entered.entry no_line no_last), add-zero) at u.rest)
+  underway_stop e = rw room_after (simp (up_to_stop u.entries log (drop used bytes) ended (drop lines room) entry_left e, add-zero) at u.rest)
 
 -- what is used and what the lines have lie within the bytes and the room
 abbrev FilledWithin : Outcome Filled → (bytes room : ℕ) → Type 0
@@ -152,8 +145,10 @@ up_to_within (suc entries) log bytes ended room =
     (λ frame line. rw (← length-drop frame bytes, ← length-drop line entered.room)
     (up_to_within entries entered.result.log (drop frame bytes) ended (drop line entered.room))))
 
+-- of a piece that is the front of what is at hand
 pub fill_within :
-    (log : Log) (bytes : List ℕ) (ended : Bool) (room : List ℕ) {filled : Filled} {later : List ℕ} →
-    outcome filled later ≡ fill_of log bytes ended room → (filled.used ≤ length bytes) × (filled.lines ≤ length room)
+    (log : Log) (bytes : List ℕ) (unused : ℕ) (ended : Bool) (room : List ℕ) {filled : Filled} {later : List ℕ} → unused ≤ length bytes →
+    outcome filled later ≡ fill_of log (take unused bytes) ended room → (filled.used ≤ unused) × (filled.lines ≤ length room)
 unfolding fill_of
-fill_within log bytes ended room e = rw (← e) at (up_to_within (suc (length bytes)) log bytes ended room)
+fill_within log bytes unused ended room h e =
+    rw (length-take-le unused bytes h) at (rw (← e) at (up_to_within (suc (length (take unused bytes))) log (take unused bytes) ended room))

@@ -22,25 +22,23 @@ pub(crate) fn fill(mut log: Log, bytes: &[u8], ended: bool, room: &mut [u8]) -> 
     let mut lines = 0;
     loop {
         let entered = enter(log, &bytes[used..], ended, &mut room[lines..]);
-        let entry = entered.entry;
-        let next = entered.log;
-        log = next;
-        match entry {
+        log = entered.log;
+        match entered.entry {
             Entry::Line { frame, line } => {
                 used += frame;
                 lines += line;
             }
             Entry::Last(line) => {
                 return Filled {
-                    entry,
+                    entry: entered.entry,
                     log,
                     used,
                     lines: lines + line,
                 };
             }
-            _ => {
+            Entry::More | Entry::Full => {
                 return Filled {
-                    entry,
+                    entry: entered.entry,
                     log,
                     used,
                     lines,
@@ -51,16 +49,11 @@ pub(crate) fn fill(mut log: Log, bytes: &[u8], ended: bool, room: &mut [u8]) -> 
 }
 
 // Moves the bytes from a place to another to the front, and gives how many they are.
+#[tactic(auto, using(crate::proofs::KeepLaws::moved_law), unfolding(crate::specs::Piece::keep_of))]
 pub(crate) fn keep(bytes: &mut [u8], from: usize, to: usize) -> usize
     requires { (from ≤ to) × (to ≤ length bytes.old) }
     ensures { outcome result bytes.new ≡ keep_of bytes.old from to }
 {
-    let mut i = from;
-    let mut kept = 0;
-    while i < to {
-        bytes[kept] = bytes[i];
-        kept += 1;
-        i += 1;
-    }
-    kept
+    bytes.copy_within(from..to, 0);
+    to - from
 }

@@ -23,9 +23,7 @@ pub overflow_add-result : goal.overflow_add-result
 overflow_add-result c = omega (arith, last_within _ _ _ _ c.enter-entered.ensures c.in-Last.is)
 
 pub returns-in-Last : goal.returns-in-Last
-returns-in-Last c =
-    underway_last c.loop-frame.invariant _ _ c.enter-entered.ensures _ c.in-Last.is
+returns-in-Last c = rw c.in-Last.is (underway_last c.loop-frame.invariant _ _ c.enter-entered.ensures _ c.in-Last.is)
 
-pub returns-in_default : goal.returns-in_default
-returns-in_default c =
-    underway_stop c.loop-frame.invariant _ _ c.enter-entered.ensures c.in_default.not-Line c.in_default.not-Last
+pub returns-in-More : goal.returns-in-More
+returns-in-More c = underway_stop c.loop-frame.invariant _ _ c.enter-entered.ensures c.in-More.is
