@@ -9,7 +9,7 @@ use mathlib.Core.Bool.{true}
 use mathlib.Core.List.{List, [], ◌∷◌, ◌++◌, append-nil, append_assoc}
 use lib.Dec.{T}
 use lib.ListN.{length, get_or, take, drop, length-append, drop_of_length-le}
-use lib.Seq.{sets, sets-eq, take-length, drop-cons, drop-drop}
+use lib.Seq.{sets, sets-eq, drop-cons, drop-drop}
 use Rattle.std.specs.Int.{w16, w32, to_le_bytes}
 use Rattle.basics.proofs.ChoiceLaws.{holds, is_true, and_left, and_right}
 use Rattle.basics.proofs.Stores.{sets_append, sets_front}
