@@ -3,11 +3,13 @@
 use Prim.Native.Nat.{ℕ, zero, suc, ◌+◌, ◌*◌, ◌<◌, ◌≤◌}
 use native.Mathlib.Omega.{arith}
 use native.Mathlib.Numerals.{add-one}
-use native.Mathlib.Nat.{add_assoc, le_of_suc-le-suc, not-suc-le-zero}
-use mathlib.Core.Path.{◌≡◌, refl, sym, ap, ◌∙◌}
+use native.Mathlib.Nat.{add-zero, zero-add, add_assoc, le_of_suc-le-suc, not-suc-le-zero}
+use mathlib.Core.Path.{◌≡◌, refl, sym, ap, subst, ◌∙◌}
 use mathlib.Core.Bool.{true}
 use mathlib.Core.List.{List, [], ◌∷◌, ◌++◌, append_assoc}
 use lib.Dec.{T, eqb→eq, leb→le}
+use denote.Param.Members.{Mut, Called}
+use Rattle.std.specs.Array.{IsFromFnResultFrom, IsFromFnResult}
 use lib.ListN.{length, get_or, take, drop, replicate, length-append}
 use lib.Seq.{get_or-append-add, ext_get_or, drop-cons, take_all, take-append-le, take_at}
 use Rattle.basics.specs.Each.{each, each_from}
@@ -42,6 +44,25 @@ module _ (bytes : List ℕ) where
   module_in : (i : ℕ) → i < module_count → get_or (modules_in bytes) i blank ≡ module_from (pair_at (modules_place + 2 * i) bytes)
   unfolding modules_in
   module_in i low = at_each (λ i m. module_from (pair_at (modules_place + 2 * i) bytes)) (replicate module_count blank) i blank low
+
+-- modules made one by one, each of what stands at its place
+module _ {F : Type 0} (bytes : List ℕ) (g : Mut F (ℕ × Unit {0}) Module) (f : F)
+    (one : (i : ℕ) (m : Module) (f' : F) → Called g f (i, tt) m f' → (m ≡ module_from (pair_at (modules_place + 2 * i) bytes)) × (f' ≡ f)) where
+  made_from :
+      (ms : List Module) (f' : F) (i n : ℕ) → f' ≡ f → IsFromFnResultFrom g f' ms i n → (k : ℕ) → k < n →
+      get_or ms (i + k) blank ≡ module_from (pair_at (modules_place + 2 * (i + k)) bytes)
+  made_from ms f' i zero e made k h = absurd (not-suc-le-zero h)
+  made_from ms f' i (suc n) e made zero h =
+      rw (add-zero i) (made.2.1 blank ∙ (one i made.1 made.0 (subst (λ (y : F). Called g y (i, tt) made.1 made.0) e made.3)).0)
+  made_from ms f' i (suc n) e made (suc k) h =
+      let same = (one i made.1 made.0 (subst (λ (y : F). Called g y (i, tt) made.1 made.0) e made.3)).1 in
+      let next : i + suc k ≡ i + 1 + k = omega arith in
+      rw next (made_from ms made.0 (i + 1) n same made.4 k (le_of_suc-le-suc h))
+
+  pub modules_made : (ms : List Module) → IsFromFnResult g f ms module_count → ms ≡ modules_in bytes
+  modules_made ms made =
+      ext_get_or blank ms (modules_in bytes) (made.long ∙ sym (length_in bytes))
+      (λ i h. rw (zero-add i) at (made_from ms f 0 module_count refl made.each i (omega (arith, made.long))) ∙ sym (module_in bytes i (omega (arith, made.long))))
 
 -- what the fields of a saved state say
 
