@@ -51,7 +51,7 @@ pub(crate) fn mode_from(code: u32) -> Mode
     }
 }
 
-// A power in range as a number.
+// A power in range as a number. That it is in range is asked: a `Power` is also what an image says that is to be refused.
 fn power_code(power: Power) -> u16
     requires { power_in_range power ≡ true }
     ensures { result ≡ power_code power }

@@ -12,17 +12,8 @@ use crate::saving::{
 use frames::serial::Serials;
 use modules::ends::Ends;
 use modules::masks::Masks;
-use modules::power::{Module, Power};
+use modules::power::Module;
 use supervisor::state::{Battery, Message, State, Watch};
-
-// A module that stands for none.
-const BLANK: Module = Module {
-    power: Power::On {
-        tries: 0,
-        seconds: 0,
-    },
-    requested: false,
-};
 
 // The message of an image.
 #[tactic(auto, unfolding(crate::specs::Loading::message_in))]
@@ -53,11 +44,7 @@ fn ends_in(image: &Image) -> Ends
 fn modules_in(image: &Image) -> [Module; MODULE_COUNT]
     ensures { result ≡ modules_in image.now }
 {
-    let mut modules = [BLANK; MODULE_COUNT];
-    for i in 0..MODULE_COUNT {
-        modules[i] = module_from(pair_at(image, MODULES_PLACE + 2 * i));
-    }
-    modules
+    std::array::from_fn(|i| module_from(pair_at(image, MODULES_PLACE + 2 * i)))
 }
 
 // The state that the fields of an image say, in range or not. Each call that loads has `load` in it, and this once for all.

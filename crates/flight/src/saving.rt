@@ -89,7 +89,8 @@ fn put_modules(modules: [Module; MODULE_COUNT], image: &mut [u8])
     }
 }
 
-// The image of a state in range.
+// The image of a state in range. It is lent as C lends it, a slice, and asked to be long enough: with `&mut Image` the compiler
+// knows the length too, and writes `put_modules` out eight times.
 pub(crate) fn save(state: State, image: &mut [u8])
     requires { (length image.old ≡ image_bytes) × (in_range state ≡ true) }
     ensures { image.new ≡ saved state }
