@@ -35,6 +35,7 @@ impl Refusal for Fault {
 }
 
 // Whether a byte is of the alphabet.
+#[tactic(auto, using(crate::proofs::TextsLaws::signed_len))]
 fn is_known(c: u8) -> bool
     ensures { result ≡ known c }
 {
@@ -58,10 +59,11 @@ pub fn fault_of(text: &[u8]) -> Result<(), Fault>
     let mut doubled = false;
     let mut before = 0;
     for c in text {
-        if !is_known(*c) {
+        if *c == SPACE {
+            doubled |= before == SPACE;
+        } else if !is_known(*c) {
             return Err(Fault::NotKeyable);
         }
-        doubled |= before == SPACE && *c == SPACE;
         before = *c;
     }
     if is_edged(text) || doubled {
