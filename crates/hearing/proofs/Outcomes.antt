@@ -1,7 +1,11 @@
 -- No second outcome satisfies the contract of a public call of this crate.
 -- Assumes nothing.
-use mathlib.Core.Path.{◌≡◌, sym, ◌∙◌}
-use Rattle.basics.specs.OneOutcome.{OneOutcome}
+use mathlib.Core.Path.{◌≡◌, sym, ap, ◌∙◌}
+use contract.Lifetimes.{Lfts}
+use denote.Triple.Entry.{Args}
+use denote.Triple.Clauses.{at_exit}
+use Rattle.basics.specs.OneOutcome.{Leaves, OneOutcome}
+use Rattle.hearing.specs.Reading.{read_reply}
 use Rattle.basics.specs.Outcome.{outcome}
 use Rattle.hearing.proofs.ReadingLaws.{one_reading}
 use Rattle.hearing.specs.contracts.reading.ReadFaultRefusal.number as heard_number
@@ -19,3 +23,10 @@ read_one = record {
       let e : outcome x.0 x.1.1.0 ≡ outcome y.0 y.1.1.0 = one_reading _ _ _ _ p q in
       λ i. ((e i).result, (tt, ((e i).room, tt)));
 }
+
+-- of all that the contract lets reading answer, the count is one in the page's terms: 0 at a refusal
+pub heard_count_one :
+    (κs : Lfts (read.ended).signature.lifetimes) (a : Args (read.ended).signature κs) (x y : Leaves read.ended κs a) →
+    read_reads.Learnt κs a x.0 (at_exit read.ended κs a x.1) → read_reads.Learnt κs a y.0 (at_exit read.ended κs a y.1) →
+    (read_reply x.0).count ≡ (read_reply y.0).count
+heard_count_one κs a x y p q = ap (λ (z : Leaves read.ended κs a). (read_reply z.0).count) (read_one.one κs a x y p q)

@@ -1,7 +1,11 @@
 -- No second outcome satisfies the contract of a public call of this crate.
 -- Assumes nothing.
-use mathlib.Core.Path.{sym, ◌∙◌}
-use Rattle.basics.specs.OneOutcome.{OneOutcome}
+use mathlib.Core.Path.{◌≡◌, sym, ap, ◌∙◌}
+use contract.Lifetimes.{Lfts}
+use denote.Triple.Entry.{Args}
+use denote.Triple.Clauses.{at_exit}
+use Rattle.basics.specs.OneOutcome.{Leaves, OneOutcome}
+use Rattle.morse.specs.Keying.{key_reply}
 use Rattle.morse.specs.contracts.texts.FaultRefusal.number as fault_number
 use Rattle.morse.proofs.texts.FaultRefusal.number.Reads as fault_number_reads
 use Rattle.morse.specs.contracts.texts.fault_of
@@ -30,3 +34,10 @@ key_one = record {
   taken = λ κs a. tt;
   one = λ κs a x y p q i. (((p ∙ sym q) i).result, (tt, (((p ∙ sym q) i).room, tt)));
 }
+
+-- of all that the contract lets keying answer, the count is one in the page's terms: 0 at a refusal
+pub keyed_count_one :
+    (κs : Lfts (key.ended).signature.lifetimes) (a : Args (key.ended).signature κs) (x y : Leaves key.ended κs a) →
+    key_reads.Learnt κs a x.0 (at_exit key.ended κs a x.1) → key_reads.Learnt κs a y.0 (at_exit key.ended κs a y.1) →
+    (key_reply x.0).count ≡ (key_reply y.0).count
+keyed_count_one κs a x y p q = ap (λ (z : Leaves key.ended κs a). (key_reply z.0).count) (key_one.one κs a x y p q)

@@ -2,15 +2,15 @@
 -- space, and one byte over and over.
 -- Assumes nothing.
 use mathlib.Core.Path.{◌≡◌, refl, sym, ap, ◌∙◌}
-use mathlib.Core.Bool.{Bool, true, false, not, ◌&&◌, ◌||◌, or-false, and-true, and-false}
+use mathlib.Core.Bool.{Bool, true, false, not, ◌&&◌, ◌||◌, or-false, and-false}
 use mathlib.Core.List.{List, [], ◌∷◌, ◌++◌}
 use Prim.Native.Nat.{ℕ, zero, suc, ◌+◌, ◌-◌, ◌<◌, ◌≤◌, zero-le, suc-le-suc}
 use native.Mathlib.Numerals.{add-one}
 use native.Mathlib.Omega.{arith}
-use lib.ListN.{length, get_or, drop, replicate, length-append, length-replicate}
+use lib.ListN.{length, get_or, drop, replicate, length-append, length-replicate, drop_of_length-le}
 use lib.Seq.{drop-cons, get_or-append-add}
 use lib.Dec.{T, ltb}
-use borrow.Author.Tests.{lt-ltb, le-ltb, ltb-false, ne_eqb}
+use borrow.Author.Tests.{lt-ltb, le-ltb, ltb-false}
 use Rattle.std.specs.Prelude.{Result, Ok, Err, is_ok}
 use Rattle.basics.specs.Choice.{when◌then◌else◌}
 use Rattle.basics.specs.Bytes.{space}
@@ -41,22 +41,18 @@ module _ (t : List ℕ) (i : ℕ) (h : i < length t) where
   pub known_step : all_known (drop i t) ≡ (known (get_or t i 0) && all_known (drop (i + 1) t))
   known_step = rw (add-one, drop-cons t i 0)
 
-  pub doubled_step : (before : ℕ) → doubled_after before (drop i t)
-      ≡ (is_space before && is_space (get_or t i 0) || doubled_after (get_or t i 0) (drop (i + 1) t))
-  doubled_step before = rw (add-one, drop-cons t i 0)
+-- a walk through a text has come to its end
+module _ (t : List ℕ) (i : ℕ) (h : length t ≤ i) where
+  none_left : drop i t ≡ []
+  none_left = drop_of_length-le t {i = i} h
 
-pub doubled_end : (before : ℕ) → doubled_after before [] ≡ false
-doubled_end before = or-false (is_space before && false) ∙ and-false (is_space before)
+  pub known_all : all_known (drop i t) ≡ all_known t → all_known t ≡ true
+  known_all e = sym e ∙ ap all_known none_left
 
--- a space is known, and is doubled where one stands before it; nothing else is doubled
-pub space_known : (k : Bool) (b : ℕ) → b ≡ space → k ≡ (k && known b)
-space_known k b e = rw e (sym (and-true k))
-
-pub space_doubled : (d : Bool) (before b : ℕ) → b ≡ space → (d || is_space before) ≡ (d || (is_space before && is_space b))
-space_doubled d before b e = rw e (ap (λ r. d || r) (sym (and-true (is_space before))))
-
-pub other_doubled : (d : Bool) (before b : ℕ) → (b ≡ space → ⊥) → d ≡ (d || (is_space before && is_space b))
-other_doubled d before b h = rw (ne_eqb b space h, and-false (is_space before)) (sym (or-false d))
+  pub doubled_all : (double : Bool) (before : ℕ) → (double || doubled_after before (drop i t)) ≡ doubled t → doubled t ≡ double
+  doubled_all double before e =
+      let end : doubled_after before [] ≡ false = or-false (is_space before && false) ∙ and-false (is_space before) in
+      sym e ∙ ap (λ r. double || doubled_after before r) none_left ∙ ap (λ r. double || r) end ∙ or-false double
 
 -- where the first two refusals do not apply, the spacing decides
 module _ (t : List ℕ) (short : length t ≤ longest) (known : all_known t ≡ true) where

@@ -8,7 +8,6 @@ use Rattle.morse.specs.Answers.{done, text_too_long, not_keyable, bad_space}
 use Rattle.morse.specs.Signs.{sign_of, signed}
 use Rattle.morse.specs.declared.texts.Fault.{Fault}
 use Rattle.morse.specs.declared.texts.Fault.TheVariants.{TextTooLong, NotKeyable, BadSpace}
-use Rattle.morse.specs.declared.texts.Seen.{Seen}
 
 -- the most bytes
 abbrev pub longest : ℕ
@@ -62,7 +61,3 @@ found_number (Err fault) = fault_number fault
 -- a text that keying takes
 abbrev pub is_keyable : List ℕ → Bool
 is_keyable t = is_ok (fault_of t)
-
--- what the code's walk through a text finds
-abbrev pub seen_in : List ℕ → Seen
-seen_in t = record { known = all_known t; doubled = doubled t }

@@ -13,7 +13,8 @@ pub(crate) struct Sign {
     pub(crate) len: u8,
 }
 
-// A sign of no marks.
+// A sign of no marks: that of a byte which has none, and so of the space. It is no `None`, which keying would have to take
+// for no marks again.
 const NO_SIGN: Sign = Sign { marks: 0, len: 0 };
 
 // How many bytes there are from `?` to `Z`.
@@ -78,7 +79,7 @@ fn letters() -> [Sign; LETTER_RUN]
     SIGNS
 }
 
-// The second: likewise.
+// The second: likewise. Each is the one place where its table's test is computed, and the tables have their own lengths.
 fn stops() -> [Sign; STOP_RUN]
     ensures { HasSigns first_stop last_stop result }
 {

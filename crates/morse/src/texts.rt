@@ -2,7 +2,7 @@
 // Refusals 11, 12 and 13, in that order, for any bytes at all.
 ghost use Rattle.std.specs.Prelude.{◌≡◌};
 ghost use Rattle.std.proofs.Common.{rules};
-ghost use Rattle.morse.specs.Texts.{known, seen_in, is_edged, fault_of, fault_number};
+ghost use Rattle.morse.specs.Texts.{known, is_edged, fault_of, fault_number};
 
 use crate::signs::sign_of;
 use basics::Refusal;
@@ -34,36 +34,12 @@ impl Refusal for Fault {
     }
 }
 
-// What one walk through a text finds.
-#[derive(Clone, Copy)]
-struct Seen {
-    known: bool,
-    doubled: bool,
-}
-
 // Whether a byte is of the alphabet.
+#[tactic(auto, using(crate::proofs::TextsLaws::signed_len))]
 fn is_known(c: u8) -> bool
     ensures { result ≡ known c }
 {
     c == SPACE || 0 < sign_of(c).len
-}
-
-// Whether all bytes are of the alphabet, and whether a space is doubled.
-fn look(text: &[u8]) -> Seen
-    ensures { result ≡ seen_in text.now }
-{
-    let mut known = true;
-    let mut doubled = false;
-    let mut before = 0;
-    for c in text {
-        if *c == SPACE {
-            doubled |= before == SPACE;
-        } else {
-            known &= is_known(*c);
-        }
-        before = *c;
-    }
-    Seen { known, doubled }
 }
 
 // Whether a space is first or last.
@@ -80,11 +56,17 @@ pub fn fault_of(text: &[u8]) -> Result<(), Fault>
     if LONGEST < text.len() {
         return Err(Fault::TextTooLong);
     }
-    let seen = look(text);
-    if !seen.known {
-        return Err(Fault::NotKeyable);
+    let mut doubled = false;
+    let mut before = 0;
+    for c in text {
+        if *c == SPACE {
+            doubled |= before == SPACE;
+        } else if !is_known(*c) {
+            return Err(Fault::NotKeyable);
+        }
+        before = *c;
     }
-    if is_edged(text) || seen.doubled {
+    if is_edged(text) || doubled {
         return Err(Fault::BadSpace);
     }
     Ok(())

@@ -24,7 +24,8 @@ const PER_CHARACTER: usize = 22;
 // The most units of a text, 1405: nothing follows the last sign. It is the header's EMS_UNITS_BYTES.
 pub const MOST_UNITS: usize = PER_CHARACTER * LONGEST - BETWEEN_SIGNS;
 
-// Stores v at a place of the room, and nothing where the room has no such place.
+// Stores v at a place of the room, and nothing where the room has no such place. The two stand apart, here and below: in a
+// struct they would hold the caller's room, and each clause would have to speak of it by way of the struct.
 pub fn put(room: &mut [u8], at: usize, v: u8)
     ensures { room.new ≡ set room.old at v }
 {
