@@ -10,7 +10,7 @@ use borrow.Author.Tests.{le-leb, lt-leb}
 use Rattle.std.proofs.Common.{Ok, Err, is_ok}
 use Rattle.basics.specs.Choice.{when◌then◌else◌, within}
 use Rattle.basics.proofs.ChoiceLaws.{holds, and_left, and_right}
-use Rattle.tracker.specs.Tracker.{most_millivolts, most_milliamperes, longest_step, is_reading, is_step, power, headed, done, stopped, moved, in_range, track_of}
+use Rattle.tracker.specs.Tracker.{most_millivolts, most_milliamperes, longest_step, is_reading, is_step, power, headed, done, stopped, moved, in_range, out_of_range, track_of}
 use Rattle.tracker.specs.declared.Reading.{Reading}
 use Rattle.tracker.proofs.SignedLaws.{nat_abs_neg}
 
@@ -76,7 +76,7 @@ module _ (before after : Reading) (point : ℕ) (step : ℤ) where
   unfolding track_of
   track_done e = simp e
 
-  pub track_refused : in_range before after point step ≡ false → track_of before after point step ≡ Err (record {})
+  pub track_refused : in_range before after point step ≡ false → track_of before after point step ≡ Err out_of_range
   unfolding track_of
   track_refused e = simp e
 

@@ -65,7 +65,7 @@ in_range before after point step =
 -- one call; 16 for a reading, set point or step out of range
 unfoldable pub track_of : (before after : Reading) (point : ℕ) (step : ℤ) → Result Tracked OutOfRange
 track_of before after point step =
-    when in_range before after point step then Ok (moved point (headed before after step)) else Err (record {})
+    when in_range before after point step then Ok (moved point (headed before after step)) else Err out_of_range
 
 -- where a call leaves the set point and the step: refused, nothing is moved
 abbrev pub left_at : (point : ℕ) (step : ℤ) → Result Tracked OutOfRange → Tracked
