@@ -6,7 +6,6 @@ use mathlib.Core.Bool.{Bool, true, false, ◌&&◌}
 use mathlib.Core.List.{List}
 use native.Mathlib.Omega.{arith}
 use lib.Dec.{T, eqb, ltb}
-use lib.IntN.{ℤ}
 use lib.ListN.{length}
 use borrow.Author.Tests.{eq-eqb}
 use Rattle.basics.specs.Outcome.{Outcome, outcome, Reply, reply}
@@ -40,14 +39,11 @@ use Rattle.beacon.specs.Writing.{beacon_of}
 use Rattle.beacon.specs.declared.text.Form.{Form}
 use Rattle.beacon.specs.declared.writing.Written.TheVariants.{BadState}
 use Rattle.beacon.proofs.WritingLaws.{beacon_outside}
-use Rattle.tracker.specs.Tracker.{track_number}
-use Rattle.tracker.specs.declared.Tracked.{Tracked}
 use Rattle.flight.specs.Saving.{saved}
 use Rattle.flight.specs.Loading.{has_layout, decoded, loaded}
 use Rattle.flight.specs.Calls.{imaged, bad_state, stepped_to, step_image, passed_to, pass_image, modules_on_reply, modules_on_image, beacon_image}
 use Rattle.flight.specs.Calls.{booked_to, step_books_image, summary_reply}
 use Rattle.flight.specs.Calls.{replied, ReadReplied}
-use Rattle.flight.specs.Calls.{tracks, tracked_to}
 use Rattle.flight.proofs.FieldsLaws.{AllBytes}
 use Rattle.flight.proofs.LoadingLaws.{layout, saved_decoded}
 
@@ -239,8 +235,3 @@ replied_by by p q e = rw (p, q) (ap (replied by) e)
 pub read_replied : {units room room' : List ℕ} (answer : Heard) {n k : ℕ} → Read units room (outcome answer room')
     → n ≡ (read_reply answer).number → k ≡ (read_reply answer).count → ReadReplied units room (outcome (reply n k) room')
 read_replied {room' = room'} answer r p q = record { heard = outcome answer room'; read = r; same = replied_by read_reply {answer = answer} p q refl }
-
--- what the tracker hands back, by its number
-pub tracked_by : {n : ℕ} {next : ℤ} {t o : Tracked} → n ≡ track_number t.answer → next ≡ t.step → t ≡ o
-    → tracks n t.point next ≡ tracked_to o
-tracked_by p q e = rw (p, q) (ap tracked_to e)

@@ -13,6 +13,7 @@ ghost use Rattle.flight.specs.Calls.{tracks, tracks_of};
 
 use crate::loading::{decode, has_layout};
 use crate::saving::{IMAGE_BYTES, save};
+use basics::Refusal;
 use beacon::text::Form;
 use beacon::writing::Written;
 use books::answer::BookAnswer;
@@ -24,6 +25,9 @@ use frames::answer::Answer;
 use morse::answers::NO_ROOM;
 use supervisor::fresh::fresh;
 use tracker::Reading;
+
+// What a call that is done answers.
+const DONE: u8 = 0;
 
 // Writes the image of the fresh start.
 #[unsafe(no_mangle)]
@@ -87,15 +91,17 @@ pub extern "C" fn ems_pass(
 pub extern "C" fn ems_modules_on(image: &[u8], count: &mut usize) -> u8
     ensures { reply result count.new ≡ modules_on_image image.now }
 {
+    *count = 0;
     if !has_layout(image) {
-        *count = 0;
         return Answer::BadState.number();
     }
-    let state = decode(image);
-    let on = counting::modules_on(state);
-    let answer = on.answer;
-    *count = on.count as usize;
-    answer.number()
+    match counting::modules_on(decode(image)) {
+        Ok(on) => {
+            *count = on as usize;
+            DONE
+        }
+        Err(refusal) => refusal.number(),
+    }
 }
 
 // Takes one frame as `ems_step` does, and counts a done tick in the books.
@@ -227,10 +233,12 @@ pub extern "C" fn ems_track(
         millivolts: volts_after,
         milliamperes: amps_after,
     };
-    let tracked = tracker::track(before, after, *set_point, *step);
-    let answer = tracked.answer;
-    let next = tracked.step;
-    *set_point = tracked.point;
-    *step = next;
-    answer.number()
+    match tracker::track(before, after, *set_point, *step) {
+        Ok(tracked) => {
+            *set_point = tracked.point;
+            *step = tracked.step;
+            DONE
+        }
+        Err(refusal) => refusal.number(),
+    }
 }

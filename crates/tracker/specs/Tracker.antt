@@ -71,3 +71,8 @@ track_of before after point step =
 abbrev pub left_at : (point : ℕ) (step : ℤ) → Result Tracked OutOfRange → Tracked
 left_at point step (Ok tracked) = tracked
 left_at point step (Err refusal) = done point step
+
+-- what it answers: 0 where it is done, or the refusal's number
+abbrev pub track_answer : Result Tracked OutOfRange → ℕ
+track_answer (Ok tracked) = 0
+track_answer (Err refusal) = track_number refusal

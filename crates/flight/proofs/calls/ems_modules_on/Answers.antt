@@ -2,7 +2,6 @@
 use Prim.Native.Nat.{ℕ}
 use mathlib.Core.Path.{◌≡◌, ap, sym, ◌∙◌}
 use mathlib.Core.Bool.{true}
-use borrow.Author.Tests.{not-true, not-false}
 use Rattle.basics.specs.Outcome.{reply}
 use Rattle.flight.specs.Calls.{modules_on_reply}
 use Rattle.flight.specs.Loading.{has_layout}
@@ -13,17 +12,21 @@ use Rattle.flight.proofs.calls.ems_modules_on.Goals.{Else-not-has_layout}
 
 pub returns-then-not-has_layout : goal.returns-then-not-has_layout
 returns-then-not-has_layout c =
-    ap (λ (n : ℕ). reply n 0) c.number.ensures ∙ count_foreign _ (sym c.has_layout.ensures ∙ not-true _ c.if-not-has_layout.true-raw)
+    ap (λ (n : ℕ). reply n 0) c.number.ensures ∙ count_foreign _ (sym c.has_layout.ensures ∙ c.if-not-has_layout.true)
 
 -- past the test, the image has the layout
 own : (c : Else-not-has_layout) → has_layout c.args.image.now ≡ true
-own c = sym c.has_layout.ensures ∙ not-false _ c.if-not-has_layout.false-raw
+own c = sym c.has_layout.ensures ∙ c.if-not-has_layout.false
 
-pub decode-state-requires : goal.decode-state-requires
-decode-state-requires c = (layout _ (own c)).size
+pub decode-requires : goal.decode-requires
+decode-requires c = (layout _ (own c)).size
 
-pub returns : goal.returns
-returns c =
-    ap (λ (n : ℕ). reply n c.modules_on-on.result.count) c.number-2.ensures
-    ∙ ap modules_on_reply c.modules_on-on.ensures
-    ∙ count_worked _ (own (goal.at.returns c).Else-not-has_layout) _ c.decode-state.ensures
+pub returns-in-Ok : goal.returns-in-Ok
+returns-in-Ok c =
+    ap modules_on_reply c.in-Ok.ensures ∙ count_worked _ (own (goal.at.returns-in-Ok c).Else-not-has_layout) _ c.decode.ensures
+
+pub returns-in-Err : goal.returns-in-Err
+returns-in-Err c =
+    ap (λ (n : ℕ). reply n 0) c.number-in-Err.ensures
+    ∙ ap modules_on_reply c.in-Err.ensures
+    ∙ count_worked _ (own (goal.at.returns-in-Err c).Else-not-has_layout) _ c.decode.ensures
