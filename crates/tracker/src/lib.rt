@@ -34,7 +34,7 @@ pub const MOST_MILLIVOLTS: u32 = 20000;
 pub const MOST_MILLIAMPERES: u32 = 5000;
 
 // The longest step, either way.
-pub const LONGEST_STEP: i32 = 500;
+pub const LONGEST_STEP: u32 = 500;
 
 impl Refusal for OutOfRange {
     ghost number_of = { track_number };
@@ -74,9 +74,8 @@ impl Step {
     fn of(millivolts: i32) -> Option<Step>
         ensures { MatchOption result (is_step millivolts ≡ false) (λ step. step.millivolts ≡ millivolts) }
     {
-        if ((1 <= millivolts) & (millivolts <= LONGEST_STEP))
-            | ((millivolts <= -1) & (-LONGEST_STEP <= millivolts))
-        {
+        let size = millivolts.unsigned_abs();
+        if (1 <= size) & (size <= LONGEST_STEP) {
             Some(Step { millivolts })
         } else {
             None
@@ -142,12 +141,11 @@ pub fn track(
 ) -> Result<Tracked, OutOfRange>
     ensures { result ≡ track_of before after set_point step }
 {
-    let Some(step) = Step::of(step) else {
+    if !(before.in_range() & after.in_range() & (set_point <= MOST_MILLIVOLTS)) {
         return Err(OutOfRange);
-    };
-    if before.in_range() & after.in_range() & (set_point <= MOST_MILLIVOLTS) {
-        Ok(step.heading(before, after).shift(set_point))
-    } else {
-        Err(OutOfRange)
+    }
+    match Step::of(step) {
+        Some(step) => Ok(step.heading(before, after).shift(set_point)),
+        None => Err(OutOfRange),
     }
 }
