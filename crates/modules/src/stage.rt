@@ -40,10 +40,8 @@ pub fn stage(modules: [Module; 8], wanted: u8, shorts: u8) -> Staged
     let mut all: u32 = 0;
     let mut i: usize = 0;
     while rest != 1 {
-        let m = next[i];
-        let power = m.power;
-        let after = power.second(want % 2 == 1, rest % 2 == 1);
-        next[i] = m.with_power(after);
+        let after = next[i].power.second(want % 2 == 1, rest % 2 == 1);
+        next[i] = next[i].with_power(after);
         all = all / 2 + TOP * power_bits(after);
         rest = rest / 2;
         want = want / 2;
@@ -65,8 +63,7 @@ pub fn request(modules: [Module; 8], mask: u8, on: bool) -> [Module; 8]
     let mut i: usize = 0;
     while rest != 1 {
         if has(mask, i) {
-            let m = next[i];
-            next[i] = m.with_request(on);
+            next[i] = next[i].with_request(on);
         }
         rest = rest / 2;
         i += 1;
@@ -75,14 +72,14 @@ pub fn request(modules: [Module; 8], mask: u8, on: bool) -> [Module; 8]
 }
 
 // The modules with the request of one of them set; there is no module from 8 on.
+#[tactic(auto, using(crate::proofs::StageLaws::request_stored))]
 pub fn request_one(modules: [Module; 8], which: u8, on: bool) -> [Module; 8]
     ensures { result ≡ requested_one which on modules }
 {
     let i = which as usize;
     let mut asked = modules;
     if i < 8 {
-        let m = asked[i];
-        asked[i] = m.with_request(on);
+        asked[i] = asked[i].with_request(on);
     }
     asked
 }
