@@ -8,6 +8,7 @@ use Rattle.morse.specs.Answers.{done, no_room}
 use Rattle.hearing.specs.Reading.{Read, read_reply}
 use Rattle.hearing.specs.declared.reading.ReadFault.{ReadFault}
 use Rattle.frames.specs.Answer.{answer_number}
+use Rattle.frames.specs.declared.answer.Answer.{Answer}
 use Rattle.frames.specs.declared.answer.Answer.TheVariants as answer
 use Rattle.supervisor.specs.Fresh.{fresh_state}
 use Rattle.supervisor.specs.Step.{step_of}
@@ -16,7 +17,6 @@ use Rattle.supervisor.specs.declared.step.Stepped.{Stepped}
 use Rattle.pass.specs.Pass.{pass_of}
 use Rattle.pass.specs.declared.Passed.{Passed}
 use Rattle.counting.specs.Counting.{modules_on_of}
-use Rattle.counting.specs.declared.ModulesOn.{ModulesOn}
 use Rattle.books.specs.Books.{book_numbers}
 use Rattle.books.specs.Answer.{book_fault_number, book_number}
 use Rattle.books.specs.Step.{WithBooks, with_books, step_books_of}
@@ -28,7 +28,8 @@ use Rattle.beacon.specs.Writing.{beacon_of}
 use Rattle.supervisor.specs.declared.form.Form.{Form}
 use Rattle.beacon.specs.declared.writing.WriteFault.{WriteFault}
 use Rattle.beacon.specs.declared.writing.WriteFault.TheVariants.{BadState}
-use Rattle.tracker.specs.Tracker.{track_number, track_of}
+use Rattle.tracker.specs.Tracker.{track_of, left_at, track_answer}
+use Rattle.tracker.specs.declared.OutOfRange.{OutOfRange}
 use Rattle.tracker.specs.declared.Tracked.{Tracked}
 use Rattle.flight.specs.Saving.{image_bytes, saved}
 use Rattle.flight.specs.Loading.{loaded}
@@ -80,9 +81,10 @@ pass_loaded (Some s) image frames room = passed_to (pass_of s frames room)
 unfoldable pub pass_image : (image frames room : List ℕ) → Outcome (Imaged Reply)
 pass_image image frames room = pass_loaded (loaded image) image frames room
 
--- how many modules are on, in the page's terms
-abbrev pub modules_on_reply : ModulesOn → Reply
-modules_on_reply on = reply (answer_number on.answer) on.count
+-- how many modules are on, in the page's terms: a refusal counts none
+abbrev pub modules_on_reply : Result ℕ Answer → Reply
+modules_on_reply (Ok count) = reply (answer_number answer.Done) count
+modules_on_reply (Err refusal) = reply (answer_number refusal) 0
 
 -- how many are on in what was loaded; where that is nothing, 1 and none
 abbrev pub modules_on_loaded : Option State → Reply
@@ -156,14 +158,16 @@ pub record Tracks : Type 0 where
 abbrev pub tracks : (number point : ℕ) (step : ℤ) → Tracks
 tracks number point step = record { number = number; point = point; step = step }
 
--- what a call of it hands back, by its number
-abbrev pub tracked_to : Tracked → Tracks
-tracked_to t = tracks (track_number t.answer) t.point t.step
+-- what a call of it answers, by its number, and where it leaves the two
+abbrev pub tracked_to : (point : ℕ) (step : ℤ) → Result Tracked OutOfRange → Tracks
+tracked_to point step answer =
+    let left = left_at point step answer in
+    tracks (track_answer answer) left.point left.step
 
 -- a call of it, the readings as four numbers
 unfoldable pub tracks_of : (volts_before amps_before volts_after amps_after point : ℕ) (step : ℤ) → Tracks
 tracks_of volts_before amps_before volts_after amps_after point step =
-    tracked_to
+    tracked_to point step
     (track_of
     (record { millivolts = volts_before; milliamperes = amps_before })
     (record { millivolts = volts_after; milliamperes = amps_after })

@@ -84,14 +84,17 @@ pub extern "C" fn ems_pass(
 pub extern "C" fn ems_modules_on(image: &[u8], count: &mut usize) -> u8
     ensures { reply result count.new ≡ modules_on_image image.now }
 {
+    *count = 0;
     let Some(state) = load(image) else {
-        *count = 0;
         return Answer::BadState.number();
     };
-    let on = counting::modules_on(state);
-    let answer = on.answer;
-    *count = on.count as usize;
-    answer.number()
+    match counting::modules_on(state) {
+        Ok(on) => {
+            *count = on as usize;
+            DONE
+        }
+        Err(refusal) => refusal.number(),
+    }
 }
 
 // Takes one frame as `ems_step` does, and counts a done tick in the books.
@@ -225,10 +228,12 @@ pub extern "C" fn ems_track(
         millivolts: volts_after,
         milliamperes: amps_after,
     };
-    let tracked = tracker::track(before, after, *set_point, *step);
-    let answer = tracked.answer;
-    let next = tracked.step;
-    *set_point = tracked.point;
-    *step = next;
-    answer.number()
+    match tracker::track(before, after, *set_point, *step) {
+        Ok(tracked) => {
+            *set_point = tracked.point;
+            *step = tracked.step;
+            DONE
+        }
+        Err(refusal) => refusal.number(),
+    }
 }

@@ -10,9 +10,11 @@ use native.Mathlib.Nat.{lt_of_lt_of_le, pow-suc, div-one}
 use lib.Bits.{bit_and, bit_or, and_step, or_step, and_le_l}
 use lib.Count.{ones, ones_in, ones_step}
 use lib.Dec.{T, eqb, ltb, lit<, eqb_refl, eqb→eq}
-use lib.ListN.{length, drop, take, get_or, length-drop}
+use lib.ListN.{length, take, get_or}
 use lib.Pow.{pow-lt, pow_mono, shr-shr}
 use lib.Seq.{take-suc, length-take-le}
+use mir.Val.{bool_byte}
+use Rattle.std.proofs.Common.{append_assoc, append-nil, length-append}
 use borrow.Author.Tests.{eqb-true, eqb-false, ltb-true, ltb-false, ne_eqb, eq-eqb}
 use Rattle.basics.specs.Choice.{when◌then◌else◌, bit}
 use Rattle.basics.specs.Each.{each, each_from}
@@ -21,13 +23,13 @@ use Rattle.basics.proofs.ChoiceLaws.{and_left, and_right, and_both}
 use Rattle.basics.proofs.EachLaws.{each_at}
 use Rattle.modules.specs.Groups.{module_count}
 use Rattle.modules.specs.Masks.{below, mask_of, masks_of, are_masks_of, packed_masks, count_on, one_bit, bits_set, requests_set}
-use Rattle.modules.specs.Power.{is_on, is_failed, with_request}
-use Rattle.modules.specs.Stage.{module_second, stage_of, module_switched, switched_by, module_requested, requested_by, module_asked, requested_one}
+use Rattle.modules.specs.Power.{is_on, is_failed, power_in_range, with_request}
+use Rattle.modules.specs.Stage.{modules_in_range, module_second, stage_of, module_switched, switched_by, module_requested, requested_by, module_asked, requested_one}
 use Rattle.modules.specs.declared.power.Power.{Power}
 use Rattle.modules.specs.declared.power.Power.TheVariants.{On, Off, Failed}
 use Rattle.modules.specs.declared.power.Module.{Module}
 use Rattle.modules.specs.declared.masks.Masks.{Masks}
-use Rattle.modules.proofs.StageLaws.{no_module, requested_none, request_past}
+use Rattle.modules.proofs.StageLaws.{no_module, one_out, requested_none, request_past}
 
 -- a module's tests, one for each mask
 abbrev is_asked : Module → Bool
@@ -115,14 +117,19 @@ packed ms = packed_masks (masks_of ms)
 abbrev pub power_bits : Power → ℕ
 power_bits p = below (is_on p) 0 * 256 + below (is_failed p) 0 * 65536
 
+-- a request's bit
+asked_bit : (set : Bool) → bool_byte set ≡ below set 0
+asked_bit true = omega arith
+asked_bit false = omega arith
+
 -- one module more, below the others
 abbrev pub packed_with : Module → ℕ → ℕ
-packed_with m all = 2 * all + power_bits m.power + below m.requested 0
+packed_with m all = 2 * all + power_bits m.power + bool_byte m.requested
 
 pub packed_step : (m : Module) (ms : List Module) → packed (m ∷ ms) ≡ packed_with m (packed ms)
 unfolding packed masks_of mask_of
 packed_step m ms =
-    let r = below_shift m.requested (mask_of is_asked ms) in
+    let r = below_shift m.requested (mask_of is_asked ms) ∙ ap (λ (n : ℕ). n + 2 * mask_of is_asked ms) (sym (asked_bit m.requested)) in
     let o = below_shift (is_on m.power) (mask_of is_powered ms) in
     let f = below_shift (is_failed m.power) (mask_of is_given_up ms) in
     omega (arith, r, o, f)
@@ -131,11 +138,11 @@ pub packed_none : packed [] ≡ 0
 unfolding packed masks_of mask_of
 packed_none = refl
 
--- of eight modules, those from the second on leave room for one more
-pub packed_room : (i all : ℕ) (ms : List Module) → length ms ≡ 8 → 0 < i → all ≡ packed (drop i ms) → all < 8421504
+-- seven modules leave room for one more
+packed_room : (ms : List Module) → length ms ≤ 7 → packed ms < 8421504
 unfolding packed masks_of
-packed_room i all ms eight h e =
-    let small : (test : Module → Bool) → mask_of test (drop i ms) < 128 = λ test. mask_of_small test 7 (drop i ms) (simp length-drop (omega arith)) in
+packed_room ms h =
+    let small : (test : Module → Bool) → mask_of test ms < 128 = λ test. mask_of_small test 7 ms h in
     omega (arith, small is_asked, small is_powered, small is_given_up)
 
 pub power_bits_small : (p : Power) → power_bits p ≤ 65536
@@ -143,9 +150,9 @@ power_bits_small (On tries seconds) = omega arith
 power_bits_small (Off tries) = omega arith
 power_bits_small (Failed left) = omega arith
 
-pub request_bit_small : (set : Bool) → below set 0 ≤ 1
-request_bit_small true = omega arith
-request_bit_small false = omega arith
+pub asked_bit_small : (set : Bool) → bool_byte set ≤ 1
+asked_bit_small true = omega arith
+asked_bit_small false = omega arith
 
 same : {a b c x y z : ℕ} → a ≡ x → b ≡ y → c ≡ z → ◌≡◌ {A = Masks} (record { requested = a; on = b; failed = c }) (record { requested = x; on = y; failed = z })
 same p q r = cc
@@ -197,6 +204,48 @@ packed_agree ms masks eight r o f =
     beside
     (mask_of is_asked ms) (mask_of is_powered ms) (mask_of is_given_up ms) masks.requested masks.on masks.failed
     (small is_asked) (small is_powered) (small is_given_up) r o f
+
+-- ---- a walk from the last module to the first
+
+-- some are taken, all in range, and their masks gathered; these are left
+pub record Gathered (left ms : List Module) (all : ℕ) : Type 0 where
+  pub taken : List Module
+  pub whole : left ++ taken ≡ ms
+  pub ranges : modules_in_range taken ≡ true
+  pub done : all ≡ packed taken
+
+pub gathered_start : (left ms : List Module) → left ≡ ms → Gathered left ms 0
+unfolding modules_in_range
+gathered_start left ms e = record { taken = []; whole = append-nil left ∙ e; ranges = refl; done = sym packed_none }
+
+pub gathered_end : (left ms : List Module) (all : ℕ) → length left ≡ 0 → (g : Gathered left ms all) → g.taken ≡ ms
+gathered_end [] ms all e g = g.whole
+gathered_end (m ∷ left) ms all e g = absurd (omega (arith, e))
+
+-- one module more
+module _ (left next ms : List Module) (m : Module) (all : ℕ) (last : left ≡ next ++ m ∷ []) (g : Gathered left ms all) where
+  more : next ++ (m ∷ g.taken) ≡ ms
+  more = sym (append_assoc next (m ∷ []) g.taken) ∙ ap (λ (l : List Module). l ++ g.taken) (sym last) ∙ g.whole
+
+  pub gathered_next : (all' : ℕ) → all' ≡ packed_with m all → power_in_range m.power ≡ true → Gathered next ms all'
+  unfolding modules_in_range
+  gathered_next all' e here =
+      record {
+        taken = m ∷ g.taken;
+        whole = more;
+        ranges = rw (here, g.ranges);
+        done = e ∙ ap (packed_with m) g.done ∙ sym (packed_step m g.taken);
+      }
+
+  -- it is out of range, and so all are
+  pub gathered_out : power_in_range m.power ≡ false → modules_in_range ms ≡ false
+  gathered_out out = ap modules_in_range (sym more) ∙ one_out next g.taken m out
+
+  -- there is room for it
+  pub gathered_room : length ms ≡ 8 → all < 8421504
+  gathered_room eight =
+      let l : length next + suc (length g.taken) ≡ 8 = sym (length-append next (m ∷ g.taken)) ∙ ap length more ∙ eight in
+      rw g.done (packed_room g.taken (omega (arith, l)))
 
 -- ---- requests set in the masks
 

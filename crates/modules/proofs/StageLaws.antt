@@ -1,12 +1,11 @@
 -- Laws of all eight modules: setting one module's request is one store; one module out of range is all out of range; the
 -- stage and the requests keep the ranges of check 1.
 -- Assumes nothing.
-use Prim.Native.Nat.{ℕ, zero, suc, ◌+◌, ◌≤◌, ◌<◌}
+use Prim.Native.Nat.{ℕ, suc, ◌+◌, ◌≤◌}
 use mathlib.Core.Path.{◌≡◌, refl, sym, ap, ◌∙◌}
 use mathlib.Core.Bool.{Bool, true, false, ◌&&◌, true≢false}
-use mathlib.Core.List.{List, [], ◌∷◌}
+use mathlib.Core.List.{List, [], ◌∷◌, ◌++◌}
 use native.Mathlib.Omega.{arith}
-use native.Mathlib.Nat.{le_of_suc-le-suc}
 use lib.Dec.{T, lit<}
 use lib.ListN.{length, get_or, set}
 use lib.Seq.{set_out, set-get_or}
@@ -77,11 +76,10 @@ and_false : (a : Bool) → a && false ≡ false
 and_false true = refl
 and_false false = refl
 
-pub one_out : (i : ℕ) (ms : List Module) (d : Module) → i < length ms → power_in_range (get_or ms i d).power ≡ false → modules_in_range ms ≡ false
+pub one_out : (before after : List Module) (m : Module) → power_in_range m.power ≡ false → modules_in_range (before ++ (m ∷ after)) ≡ false
 unfolding modules_in_range
-one_out i [] d h out = absurd (omega arith)
-one_out zero (m ∷ ms) d h out = rw out
-one_out (suc i) (m ∷ ms) d h out = rw (one_out i ms d (le_of_suc-le-suc h) out) (and_false (power_in_range m.power))
+one_out [] after m out = rw out
+one_out (x ∷ before) after m out = rw (one_out before after m out) (and_false (power_in_range x.power))
 
 -- a rule that keeps each module's tries and seconds in range keeps all
 module _ (f : ℕ → Module → Module) (keeps : (i : ℕ) (m : Module) → T (power_in_range m.power) → T (power_in_range (f i m).power)) where

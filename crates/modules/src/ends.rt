@@ -6,7 +6,7 @@ ghost use Rattle.modules.specs.Ends.{no_ends, ends_fallen, ends_over, with_end, 
 use crate::groups::{ADCS, PAYLOAD, SBAND1, SBAND2};
 
 // Seconds until the module's request goes off; 0 where no end is running.
-#[derive(Clone, Copy)]
+#[derive(Clone, Copy, Default)]
 pub struct Ends {
     pub adcs: u32,
     pub payload: u32,
@@ -18,23 +18,16 @@ pub struct Ends {
 const LONGEST: u32 = 86400;
 
 // The bit of ADCS in a mask.
-const ADCS_BIT: u8 = 8;
+const ADCS_BIT: u8 = 1 << ADCS;
 
 // Of PAYLOAD.
-const PAYLOAD_BIT: u8 = 16;
+const PAYLOAD_BIT: u8 = 1 << PAYLOAD;
 
 // Of SBAND1.
-const SBAND1_BIT: u8 = 64;
+const SBAND1_BIT: u8 = 1 << SBAND1;
 
 // Of SBAND2.
-const SBAND2_BIT: u8 = 128;
-
-// One second of an end.
-fn fallen(end: u32) -> u32
-    ensures { result ≡ end - 1 }
-{
-    if end == 0 { 0 } else { end - 1 }
-}
+const SBAND2_BIT: u8 = 1 << SBAND2;
 
 // A bit, if an end is in its last second.
 fn last_bit(end: u32, bit: u8) -> u8
@@ -47,28 +40,25 @@ fn last_bit(end: u32, bit: u8) -> u8
 pub fn none() -> Ends
     ensures { result ≡ no_ends }
 {
-    Ends {
-        adcs: 0,
-        payload: 0,
-        sband1: 0,
-        sband2: 0,
-    }
+    Ends::default()
 }
 
 impl Ends {
     // The ends after one second: each running one falls by 1.
+    #[tactic(auto, unfolding(crate::specs::Ends::ends_fallen))]
     pub fn fall(self) -> Ends
         ensures { result ≡ ends_fallen self }
     {
         Ends {
-            adcs: fallen(self.adcs),
-            payload: fallen(self.payload),
-            sband1: fallen(self.sband1),
-            sband2: fallen(self.sband2),
+            adcs: self.adcs.saturating_sub(1),
+            payload: self.payload.saturating_sub(1),
+            sband1: self.sband1.saturating_sub(1),
+            sband2: self.sband2.saturating_sub(1),
         }
     }
 
     // The mask of the modules whose end reaches 0 in this second.
+    #[tactic(auto, unfolding(crate::specs::Ends::ends_over))]
     pub fn over(self) -> u8
         ensures { result ≡ ends_over self }
     {
@@ -79,28 +69,33 @@ impl Ends {
     }
 
     // The ends with that of one module set; a module that has none is passed over.
-    pub fn with_end(mut self, which: u8, seconds: u32) -> Ends
+    #[tactic(auto, unfolding(crate::specs::Ends::with_end))]
+    pub fn with_end(self, which: u8, seconds: u32) -> Ends
         ensures { result ≡ with_end which seconds self }
     {
         match which {
-            ADCS => {
-                self.adcs = seconds;
-            }
-            PAYLOAD => {
-                self.payload = seconds;
-            }
-            SBAND1 => {
-                self.sband1 = seconds;
-            }
-            SBAND2 => {
-                self.sband2 = seconds;
-            }
-            _ => {}
+            ADCS => Ends {
+                adcs: seconds,
+                ..self
+            },
+            PAYLOAD => Ends {
+                payload: seconds,
+                ..self
+            },
+            SBAND1 => Ends {
+                sband1: seconds,
+                ..self
+            },
+            SBAND2 => Ends {
+                sband2: seconds,
+                ..self
+            },
+            _ => self,
         }
-        self
     }
 
     // Whether no end is longer than the longest.
+    #[tactic(auto, unfolding(crate::specs::Ends::ends_in_range))]
     pub fn in_range(self) -> bool
         ensures { result ≡ ends_in_range self }
     {

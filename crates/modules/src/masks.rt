@@ -21,22 +21,12 @@ pub(crate) const ON: u32 = 256;
 // Failed from here up.
 pub(crate) const FAILED: u32 = 65536;
 
-// A module's bit among the requested.
-fn request_bit(requested: bool) -> u32
-    ensures { result ≡ below requested 0 }
-{
-    if requested { 1 } else { 0 }
-}
-
 // A module's bits among those on and those failed.
 pub(crate) fn power_bits(power: Power) -> u32
     ensures { result ≡ below (is_on power) 0 * 256 + below (is_failed power) 0 * 65536 }
 {
     match power {
-        Power::On {
-            tries: _,
-            seconds: _,
-        } => ON,
+        Power::On { .. } => ON,
         Power::Off(_) => 0,
         Power::Failed(_) => FAILED,
     }
@@ -47,15 +37,11 @@ pub fn in_range(modules: [Module; 8], masks: Masks) -> bool
     ensures { result ≡ (modules_in_range modules && are_masks_of modules masks) }
 {
     let mut all: u32 = 0;
-    let mut i: usize = 8;
-    while 0 < i {
-        i -= 1;
-        let m = modules[i];
-        let power = m.power;
-        if !power.in_range() {
+    for m in modules.iter().rev() {
+        if !m.power.in_range() {
             return false;
         }
-        all = 2 * all + power_bits(power) + request_bit(m.requested);
+        all = 2 * all + power_bits(m.power) + u32::from(m.requested);
     }
     all == masks.packed()
 }
@@ -80,9 +66,9 @@ impl Masks {
         ensures { result ≡ requests_set mask on self }
     {
         if on {
-            self.requested = self.requested | mask;
+            self.requested |= mask;
         } else {
-            self.requested = self.requested - (self.requested & mask);
+            self.requested -= self.requested & mask;
         }
         self
     }

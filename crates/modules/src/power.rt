@@ -53,15 +53,15 @@ fn stayed_on(tries: u8, seconds: u8) -> Power
     ensures { result ≡ stayed_on tries seconds }
 {
     if tries == TRIES {
-        return Power::On { tries, seconds };
-    }
-    if seconds < CLEAN - 1 {
-        return Power::On {
+        Power::On { tries, seconds }
+    } else if seconds < CLEAN - 1 {
+        Power::On {
             tries,
             seconds: seconds + 1,
-        };
+        }
+    } else {
+        started(TRIES)
     }
-    started(TRIES)
 }
 
 impl Power {
@@ -71,37 +71,16 @@ impl Power {
         ensures { result ≡ switched wanted short self }
     {
         match self {
-            Power::On { tries, seconds } => {
-                if short {
-                    return one_try_fewer(tries);
-                }
-                if wanted {
-                    return stayed_on(tries, seconds);
-                }
-                Power::Off(tries)
-            }
-            Power::Off(tries) => {
-                if !wanted {
-                    return self;
-                }
-                if short {
-                    return one_try_fewer(tries);
-                }
-                started(tries)
-            }
-            Power::Failed(left) => {
-                if 0 < left {
-                    Power::Failed(left - 1)
-                } else if wanted {
-                    if short {
-                        Power::Failed(RETRY)
-                    } else {
-                        started(1)
-                    }
-                } else {
-                    Power::Failed(0)
-                }
-            }
+            Power::On { tries, .. } if short => one_try_fewer(tries),
+            Power::On { tries, seconds } if wanted => stayed_on(tries, seconds),
+            Power::On { tries, .. } => Power::Off(tries),
+            Power::Off(_) if !wanted => self,
+            Power::Off(tries) if short => one_try_fewer(tries),
+            Power::Off(tries) => started(tries),
+            Power::Failed(left) if 0 < left => Power::Failed(left - 1),
+            Power::Failed(_) if !wanted => self,
+            Power::Failed(_) if short => Power::Failed(RETRY),
+            Power::Failed(_) => started(1),
         }
     }
 
@@ -110,13 +89,11 @@ impl Power {
         ensures { result ≡ power_in_range self }
     {
         match self {
-            Power::On { tries, seconds } => {
-                if tries == TRIES {
-                    seconds == 0
-                } else {
-                    (1 <= tries) & (tries <= TRIES) & (seconds < CLEAN)
-                }
-            }
+            Power::On {
+                tries: TRIES,
+                seconds,
+            } => seconds == 0,
+            Power::On { tries, seconds } => (1 <= tries) & (tries <= TRIES) & (seconds < CLEAN),
             Power::Off(tries) => (1 <= tries) & (tries <= TRIES),
             Power::Failed(left) => left <= RETRY,
         }
@@ -128,17 +105,13 @@ impl Module {
     pub fn with_power(self, power: Power) -> Module
         ensures { result ≡ with_power power self }
     {
-        Module {
-            power,
-            requested: self.requested,
-        }
+        Module { power, ..self }
     }
 
     // The module with another request.
     pub fn with_request(self, requested: bool) -> Module
         ensures { result ≡ with_request requested self }
     {
-        let power = self.power;
-        Module { power, requested }
+        Module { requested, ..self }
     }
 }

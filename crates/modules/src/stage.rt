@@ -31,58 +31,51 @@ pub fn has(mask: u8, i: usize) -> bool
 
 // The modules after one second, given the mask of those wanted and the mask of shorts. Both are halved as it goes, so that
 // the lowest bit of each is module i's; and each module's bits among those on and failed are put in on the way.
-pub fn stage(modules: [Module; 8], wanted: u8, shorts: u8) -> Staged
+pub fn stage(mut modules: [Module; 8], wanted: u8, shorts: u8) -> Staged
     ensures { result ≡ staged (switched_by wanted shorts modules) }
 {
-    let mut next = modules;
     let mut rest = MARK + (shorts as u32);
     let mut want = wanted;
     let mut all: u32 = 0;
     let mut i: usize = 0;
     while rest != 1 {
-        let m = next[i];
-        let power = m.power;
-        let after = power.second(want % 2 == 1, rest % 2 == 1);
-        next[i] = m.with_power(after);
+        let after = modules[i].power.second(want % 2 == 1, rest % 2 == 1);
+        modules[i].power = after;
         all = all / 2 + TOP * power_bits(after);
-        rest = rest / 2;
-        want = want / 2;
+        rest /= 2;
+        want /= 2;
         i += 1;
     }
     Staged {
-        modules: next,
+        modules,
         on: (all / ON % 256) as u8,
         failed: (all / FAILED % 256) as u8,
     }
 }
 
 // The modules with the request of each module of the mask set to on or off.
-pub fn request(modules: [Module; 8], mask: u8, on: bool) -> [Module; 8]
+pub fn request(mut modules: [Module; 8], mask: u8, on: bool) -> [Module; 8]
     ensures { result ≡ requested_by mask on modules }
 {
-    let mut next = modules;
     let mut rest = MARK + (mask as u32);
     let mut i: usize = 0;
     while rest != 1 {
         if has(mask, i) {
-            let m = next[i];
-            next[i] = m.with_request(on);
+            modules[i].requested = on;
         }
-        rest = rest / 2;
+        rest /= 2;
         i += 1;
     }
-    next
+    modules
 }
 
 // The modules with the request of one of them set; there is no module from 8 on.
-pub fn request_one(modules: [Module; 8], which: u8, on: bool) -> [Module; 8]
+#[tactic(auto, using(crate::proofs::StageLaws::request_stored))]
+pub fn request_one(mut modules: [Module; 8], which: u8, on: bool) -> [Module; 8]
     ensures { result ≡ requested_one which on modules }
 {
-    let i = which as usize;
-    let mut asked = modules;
-    if i < 8 {
-        let m = asked[i];
-        asked[i] = m.with_request(on);
+    if which < 8 {
+        modules[which as usize].requested = on;
     }
-    asked
+    modules
 }

@@ -5,13 +5,13 @@ use mathlib.Core.Path.{◌≡◌, refl, sym, ap, ◌∙◌}
 use mathlib.Core.Bool.{Bool, true, false, true≢false}
 use lib.Count.{ones}
 use lib.Dec.{T}
+use Rattle.std.proofs.Common.{Ok}
 use Rattle.basics.proofs.ChoiceLaws.{is_true, holds}
 use Rattle.modules.specs.Masks.{count_on}
 use Rattle.modules.specs.declared.masks.Masks.{Masks}
 use Rattle.modules.proofs.MasksLaws.{ones_on}
 use Rattle.frames.specs.Answer.{is_reported}
 use Rattle.frames.specs.Greeting.{greeting_text}
-use Rattle.frames.specs.declared.answer.Answer.TheVariants.{Done}
 use Rattle.frames.specs.declared.frame.Frame.TheVariants as frame
 use Rattle.frames.proofs.AnswerLaws.{refusal}
 use Rattle.supervisor.specs.State.{HasMasks}
@@ -61,7 +61,7 @@ by_ones_law : Reached (Counts (λ s. ones s.masks.on))
 by_ones_law cs =
     let s = after fresh_state cs in
     let many : ones s.masks.on ≡ count_on s.modules = ap (λ (m : Masks). ones m.on) (kept cs) ∙ ones_on s.modules in
-    counted cs ∙ ap (λ (n : ℕ). record { answer = Done; count = n }) (sym many)
+    counted cs ∙ ap (λ (n : ℕ). Ok n) (sym many)
 
 refused : (s : State) → (HasMasks s → ⊥) → Uncounted s
 unfolding modules_on_of

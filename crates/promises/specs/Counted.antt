@@ -1,7 +1,7 @@
 -- As many as are on: the masks that a board keeps are true after every call, its reports show them, and the modules that
 -- are on are counted by the ones of one of them.
 -- Assumes nothing.
-use Rattle.std.specs.Prelude.{ℕ, ◌≡◌, Bool, true, List}
+use Rattle.std.specs.Prelude.{ℕ, ◌≡◌, Bool, true, List, Ok, Err}
 use Rattle.std.specs.Int.Count.{ones}
 use contract.Lifetimes.{Lfts}
 use denote.Triple.Entry.{Args}
@@ -11,7 +11,7 @@ use Rattle.basics.specs.Outcome.{Reply, reply}
 use Rattle.modules.specs.Masks.{count_on}
 use Rattle.frames.specs.Answer.{is_reported}
 use Rattle.frames.specs.declared.answer.Answer.{Answer}
-use Rattle.frames.specs.declared.answer.Answer.TheVariants.{Done, BadState}
+use Rattle.frames.specs.declared.answer.Answer.TheVariants.{BadState}
 use Rattle.supervisor.specs.State.{HasMasks}
 use Rattle.supervisor.specs.Fresh.{fresh_state}
 use Rattle.supervisor.specs.Report.{shown_in}
@@ -34,11 +34,11 @@ ShownWhere test =
 
 -- the count of a state is done, and it is so many
 abbrev pub Counts : (State → ℕ) → State → Type 0
-Counts many s = modules_on_of s ≡ record { answer = Done; count = many s }
+Counts many s = modules_on_of s ≡ Ok (many s)
 
 -- it is refused with 1, and counts none
 abbrev pub Uncounted : State → Type 0
-Uncounted s = modules_on_of s ≡ record { answer = BadState; count = 0 }
+Uncounted s = modules_on_of s ≡ Err BadState
 
 -- what is so of the call that C makes, ems_modules_on(image, count): of all that its contract, as the toolchain reads it
 -- from the source, lets it return

@@ -6,6 +6,7 @@ use mathlib.Core.Path.{◌≡◌, refl}
 use mathlib.Core.Bool.{Bool, true, false}
 use lib.Dec.{leb, ltb}
 use lib.IntN.{pos}
+use Rattle.std.proofs.Common.{Ok}
 use borrow.Author.Tests.{le-leb, lt-ltb, le-ltb, ltb-false, leb-true, leb-false}
 use Rattle.basics.specs.Choice.{when◌then◌else◌}
 use Rattle.tracker.specs.Tracker.{most_millivolts, power, done, headed, stopped, moved, track_of}
@@ -44,7 +45,7 @@ steep_peaked = record { low = omega arith; rises = rises; falls = falls }
 -- a done call, from its two readings
 abbrev call :
     (curve : Curve) (p q : Place) (before after : Reading) → ReadAt curve p.was before → ReadAt curve p.point after →
-    track_of before after p.point p.step ≡ done q.point q.step → q.was ≡ p.point → Called curve p q
+    track_of before after p.point p.step ≡ Ok (done q.point q.step) → q.was ≡ p.point → Called curve p q
 call curve p q before after b a t f =
     record { before = before; after = after; read_before = b; read_after = a; tracks = t; from = f }
 
@@ -139,4 +140,4 @@ not_rounded_down says =
 -- a set point may come to 20,000
 pub not_below_the_end : RangeTo 19999 → ⊥
 unfolding track_of headed moved stopped
-not_below_the_end says = omega (arith, (says.kept (reads 0 0) (reads 0 0) 19900 (pos 100) refl).low)
+not_below_the_end says = omega (arith, (says.kept (reads 0 0) (reads 0 0) 19900 (pos 100) (done 20000 (pos 100)) refl).low)

@@ -2,8 +2,8 @@
 -- Assumes nothing.
 use mathlib.Core.Path.{sym, ◌∙◌}
 use Rattle.basics.specs.OneOutcome.{OneOutcome}
-use Rattle.tracker.specs.contracts.Answer.number
-use Rattle.tracker.proofs.Answer.number.Reads as number_reads
+use Rattle.tracker.specs.contracts.OutOfRangeRefusal.number
+use Rattle.tracker.proofs.OutOfRangeRefusal.number.Reads as number_reads
 use Rattle.tracker.specs.contracts.track
 use Rattle.tracker.proofs.track.Reads as track_reads
 

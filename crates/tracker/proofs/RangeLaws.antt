@@ -5,24 +5,16 @@ use native.Mathlib.Omega.{arith}
 use mathlib.Core.Path.{◌≡◌, refl, sym, ap, ◌∙◌}
 use mathlib.Core.Bool.{Bool, true, false, cond}
 use lib.Dec.{ltb}
-use lib.IntN.{ℤ, pos, negsuc, neg_ℤ, nat_abs, ◌+ℤ◌}
-use lib.Signed.{lt_z}
+use lib.IntN.{ℤ, pos, negsuc, neg_ℤ, nat_abs}
 use borrow.Author.Tests.{le-ltb, ltb-true, ltb-false}
-use Rattle.basics.proofs.ChoiceLaws.{either, within_low}
-use Rattle.tracker.specs.Tracker.{most_millivolts, longest_step, track_number, done, headed, stopped, moved, in_range, track_of}
+use Rattle.std.proofs.Common.{Ok, Err, is_ok}
+use Rattle.basics.proofs.ChoiceLaws.{within_low}
+use Rattle.tracker.specs.Tracker.{most_millivolts, longest_step, done, headed, stopped, moved, in_range, out_of_range, track_of, left_at}
 use Rattle.tracker.specs.Range.{step_to, Moves, goes_up, goes_down, stops_above, stops_below, Kept, Stands, Range}
-use Rattle.tracker.specs.declared.Answer.TheVariants.{Done, OutOfRange}
 use Rattle.tracker.specs.declared.Reading.{Reading}
 use Rattle.tracker.specs.declared.Tracked.{Tracked}
 use Rattle.tracker.proofs.SignedLaws.{Signed, sign_of, step_to_size}
-use Rattle.tracker.proofs.TrackerLaws.{headed_size, InRange, ranges, track_done, track_refused, done_in_range}
-
--- a move is done
-moved_done : (point : ℕ) (step : ℤ) → (moved point step).answer ≡ Done
-unfolding moved stopped
-moved_done point step =
-    either (λ (t : Tracked). t.answer ≡ Done) (lt_z (pos most_millivolts) (pos point +ℤ step)) refl
-    (either (λ (t : Tracked). t.answer ≡ Done) (lt_z (pos point +ℤ step) (pos 0)) refl refl)
+use Rattle.tracker.proofs.TrackerLaws.{headed_size, InRange, ranges, track_done, done_in_range}
 
 module _ (size from : ℕ) (some : 1 ≤ size) (low : from ≤ most_millivolts) where
   moves_up : (past : Bool) → ltb most_millivolts (from + size) ≡ past → Moves size from true (moved from (pos size)).point (moved from (pos size)).step
@@ -60,19 +52,19 @@ moves_size size from false to step (stops_below h e s) = ap nat_abs s ∙ step_t
 
 module _ (before after : Reading) (point : ℕ) (step : ℤ) where
   -- a call in range moves by the step that is kept or turned
-  pub track_moves : (way : Bool) (size : ℕ) → in_range before after point step ≡ true → headed before after step ≡ step_to way size → Moves size point way (track_of before after point step).point (track_of before after point step).step
-  track_moves way size e h =
+  pub track_moves : (way : Bool) (size : ℕ) (t : Tracked) → track_of before after point step ≡ Ok t → headed before after step ≡ step_to way size → Moves size point way t.point t.step
+  track_moves way size t d h =
+      let e : in_range before after point step ≡ true = done_in_range before after point step (ap is_ok d) in
       let r : InRange before after point step = ranges before after point step e in
       let same : nat_abs step ≡ size = sym (headed_size before after step) ∙ ap nat_abs h ∙ step_to_size way size in
-      rw (track_done before after point step e, h)
+      rw (ap (left_at point step) (sym d ∙ track_done before after point step e), h)
       (moves size point way (omega (arith, same, within_low 1 longest_step (nat_abs step) r.is_step_law)) r.point_low)
 
-  done_kept : in_range before after point step ≡ true → Kept most_millivolts point step (track_of before after point step)
-  done_kept e =
-      let t : Tracked = track_of before after point step in
-      let r : InRange before after point step = ranges before after point step e in
+  done_kept : (t : Tracked) → track_of before after point step ≡ Ok t → Kept most_millivolts point step t
+  done_kept t d =
+      let r : InRange before after point step = ranges before after point step (done_in_range before after point step (ap is_ok d)) in
       let sign : Signed (nat_abs (headed before after step)) (headed before after step) = sign_of (headed before after step) in
-      let m : Moves (nat_abs step) point sign.way t.point t.step = track_moves sign.way (nat_abs step) e (sign.is ∙ ap (step_to sign.way) (headed_size before after step)) in
+      let m : Moves (nat_abs step) point sign.way t.point t.step = track_moves sign.way (nat_abs step) t d (sign.is ∙ ap (step_to sign.way) (headed_size before after step)) in
       record {
         low = moves_low (nat_abs step) point sign.way t.point t.step r.point_low m;
         size = moves_size (nat_abs step) point sign.way t.point t.step m;
@@ -80,14 +72,13 @@ module _ (before after : Reading) (point : ℕ) (step : ℤ) where
         move = m;
       }
 
-  refused_stands : (b : Bool) → in_range before after point step ≡ b → (track_of before after point step).answer ≡ OutOfRange → Stands point step (track_of before after point step)
-  refused_stands false e a = rw (track_refused before after point step e) (record { point_same = refl; step_same = refl })
-  refused_stands true e a = absurd (omega (arith, ap track_number (sym a ∙ ap (λ (t : Tracked). t.answer) (track_done before after point step e) ∙ moved_done point (headed before after step))))
+  refused_stands : track_of before after point step ≡ Err out_of_range → Stands point step (left_at point step (track_of before after point step))
+  refused_stands e = rw e (record { point_same = refl; step_same = refl })
 
 pub range : Range
 range =
     record {
-      taken = λ before after point step e. ap (λ (t : Tracked). t.answer) (track_done before after point step e) ∙ moved_done point (headed before after step);
-      kept = λ before after point step d. done_kept before after point step (done_in_range before after point step d);
-      refused = λ before after point step a. refused_stands before after point step (in_range before after point step) refl a;
+      taken = λ before after point step e. ap is_ok (track_done before after point step e);
+      kept = done_kept;
+      refused = refused_stands;
     }

@@ -1,19 +1,17 @@
 -- Laws of a call: which way the step heads, and what a call in range comes to.
 -- Assumes nothing.
 use Prim.Native.Nat.{ℕ, ◌<◌, ◌≤◌}
-use native.Mathlib.Omega.{arith}
 use mathlib.Core.Path.{◌≡◌, refl, sym, ap, subst, ◌∙◌}
-use mathlib.Core.Bool.{Bool, true, false, ◌&&◌}
+use mathlib.Core.Bool.{Bool, true, false, ◌&&◌, false≢true}
 use lib.Dec.{T, leb, leb→le}
 use lib.IntN.{ℤ, pos, neg_ℤ, nat_abs, ◌+ℤ◌}
 use lib.Signed.{lt_z}
 use borrow.Author.Tests.{le-leb, lt-leb}
+use Rattle.std.proofs.Common.{Ok, Err, is_ok}
 use Rattle.basics.specs.Choice.{when◌then◌else◌, within}
 use Rattle.basics.proofs.ChoiceLaws.{holds, and_left, and_right}
-use Rattle.tracker.specs.Tracker.{most_millivolts, most_milliamperes, longest_step, track_number, is_reading, is_step, power, headed, done, stopped, moved, in_range, track_of}
-use Rattle.tracker.specs.declared.Answer.TheVariants.{Done, OutOfRange}
+use Rattle.tracker.specs.Tracker.{most_millivolts, most_milliamperes, longest_step, is_reading, is_step, power, headed, done, stopped, moved, in_range, out_of_range, track_of}
 use Rattle.tracker.specs.declared.Reading.{Reading}
-use Rattle.tracker.specs.declared.Tracked.{Tracked}
 use Rattle.tracker.proofs.SignedLaws.{nat_abs_neg}
 
 module _ (before after : Reading) (step : ℤ) where
@@ -74,18 +72,18 @@ module _ (before after : Reading) (point : ℕ) (step : ℤ) where
         is_step_law = and_right (is_reading before && is_reading after && leb point most_millivolts) (is_step step) all;
       }
 
-  pub track_done : in_range before after point step ≡ true → track_of before after point step ≡ moved point (headed before after step)
+  pub track_done : in_range before after point step ≡ true → track_of before after point step ≡ Ok (moved point (headed before after step))
   unfolding track_of
   track_done e = simp e
 
-  pub track_refused : in_range before after point step ≡ false → track_of before after point step ≡ record { answer = OutOfRange; point = point; step = step }
+  pub track_refused : in_range before after point step ≡ false → track_of before after point step ≡ Err out_of_range
   unfolding track_of
   track_refused e = simp e
 
   -- a call that is done was in range
-  pub done_in_range : (track_of before after point step).answer ≡ Done → in_range before after point step ≡ true
+  pub done_in_range : is_ok (track_of before after point step) ≡ true → in_range before after point step ≡ true
   done_in_range d = by (in_range before after point step) refl
     where
       by : (b : Bool) → in_range before after point step ≡ b → in_range before after point step ≡ true
       by true e = e
-      by false e = absurd (omega (arith, ap track_number (ap (λ (t : Tracked). t.answer) (sym (track_refused e)) ∙ d)))
+      by false e = absurd (false≢true (ap is_ok (sym (track_refused e)) ∙ d))

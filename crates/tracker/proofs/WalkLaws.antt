@@ -3,16 +3,16 @@
 use Prim.Native.Nat.{ℕ, ◌+◌, ◌<◌, ◌≤◌}
 use native.Mathlib.Omega.{arith}
 use native.Mathlib.Nat.{le_of_mul-le-mul_right, lt_of_mul-lt-mul_right}
-use mathlib.Core.Path.{◌≡◌, ap, subst, ◌∙◌}
+use mathlib.Core.Path.{◌≡◌, ap, ◌∙◌}
 use mathlib.Core.Bool.{Bool, true, false, not}
 use lib.IntN.{ℤ, neg_ℤ}
+use Rattle.std.proofs.Common.{is_ok}
 use Rattle.basics.proofs.ChoiceLaws.{within_low, within_high}
-use Rattle.tracker.specs.Tracker.{most_millivolts, longest_step, headed, in_range, track_of}
+use Rattle.tracker.specs.Tracker.{most_millivolts, longest_step, headed, done, in_range}
 use Rattle.tracker.specs.Range.{step_to, Moves, goes_up, goes_down, stops_above, stops_below, Kept}
 use Rattle.tracker.specs.Walk.{Curve, Place, size_of, Called}
 use Rattle.tracker.specs.TwoSteps.{Lower, Peaked}
 use Rattle.tracker.specs.Arrival.{way_to}
-use Rattle.tracker.specs.declared.Tracked.{Tracked}
 use Rattle.tracker.proofs.SignedLaws.{step_to_turned}
 use Rattle.tracker.proofs.TrackerLaws.{headed_kept, headed_turned, InRange, ranges, done_in_range}
 use Rattle.tracker.proofs.RangeLaws.{track_moves, range}
@@ -24,7 +24,7 @@ Further false size from to = to + size ≡ from
 
 module _ (curve : Curve) (p q : Place) (c : Called curve p q) where
   called_in_range : in_range c.before c.after p.point p.step ≡ true
-  called_in_range = done_in_range c.before c.after p.point p.step (ap (λ (t : Tracked). t.answer) c.tracks)
+  called_in_range = done_in_range c.before c.after p.point p.step (ap is_ok c.tracks)
 
   in_range_law : InRange c.before c.after p.point p.step
   in_range_law = ranges c.before c.after p.point p.step called_in_range
@@ -43,8 +43,7 @@ module _ (curve : Curve) (p q : Place) (c : Called curve p q) where
 
   goes : (up : Bool) (size : ℕ) → headed c.before c.after p.step ≡ step_to up size → Moves size p.point up q.point q.step
   goes up size e =
-      subst (λ (t : Tracked). Moves size p.point up t.point t.step) c.tracks
-      (track_moves c.before c.after p.point p.step up size called_in_range e)
+      track_moves c.before c.after p.point p.step up size (done q.point q.step) c.tracks e
 
   -- a call after a move that lost no power goes on the same way
   pub keeps : (up : Bool) (size : ℕ) → p.step ≡ step_to up size → curve.at p.was ≤ curve.at p.point → Moves size p.point up q.point q.step
@@ -65,9 +64,8 @@ module _ (curve : Curve) (p q : Place) (c : Called curve p q) where
 
   pub some_way : Goes
   some_way =
-      let t : Tracked = track_of c.before c.after p.point p.step in
-      let k : Kept most_millivolts p.point p.step t = range.kept c.before c.after p.point p.step (ap (λ (t : Tracked). t.answer) c.tracks) in
-      record { way = k.way; move = subst (λ (t : Tracked). Moves (size_of p) p.point k.way t.point t.step) c.tracks k.move }
+      let k : Kept most_millivolts p.point p.step (done q.point q.step) = range.kept c.before c.after p.point p.step (done q.point q.step) c.tracks in
+      record { way = k.way; move = k.move }
 
 module _ (curve : Curve) (peak : ℕ) (peaked : Peaked Lower curve peak) where
   -- what is further on the way to the peak has more power

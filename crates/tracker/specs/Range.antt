@@ -1,8 +1,7 @@
 -- What a call keeps in range, and where a move stops.
 -- Assumes nothing.
-use Rattle.std.specs.Prelude.{ℕ, ◌+◌, ◌<◌, ◌≤◌, ◌≡◌, Bool, true, false, ℤ, pos, neg_ℤ, nat_abs}
-use Rattle.tracker.specs.Tracker.{most_millivolts, in_range, track_of}
-use Rattle.tracker.specs.declared.Answer.TheVariants.{Done, OutOfRange}
+use Rattle.std.specs.Prelude.{ℕ, ◌+◌, ◌<◌, ◌≤◌, ◌≡◌, Bool, true, false, ℤ, pos, neg_ℤ, nat_abs, Ok, Err, IsOk}
+use Rattle.tracker.specs.Tracker.{most_millivolts, in_range, out_of_range, track_of, left_at}
 use Rattle.tracker.specs.declared.Reading.{Reading}
 use Rattle.tracker.specs.declared.Tracked.{Tracked}
 
@@ -36,7 +35,7 @@ pub record Kept (most point : ℕ) (step : ℤ) (t : Tracked) : Type 0 where
   pub way : Bool
   pub move : Moves (nat_abs step) point way t.point t.step
 
--- a refused call: both stand
+-- where a refused call leaves them: both stand
 pub record Stands (point : ℕ) (step : ℤ) (t : Tracked) : Type 0 where
   pub point_same : t.point ≡ point
   pub step_same : t.step ≡ step
@@ -46,13 +45,13 @@ pub record RangeTo (most : ℕ) : Type 0 where
   -- what is in range is done
   pub taken :
       (before after : Reading) (point : ℕ) (step : ℤ) → in_range before after point step ≡ true →
-      (track_of before after point step).answer ≡ Done
+      IsOk (track_of before after point step)
   pub kept :
-      (before after : Reading) (point : ℕ) (step : ℤ) → (track_of before after point step).answer ≡ Done →
-      Kept most point step (track_of before after point step)
+      (before after : Reading) (point : ℕ) (step : ℤ) (t : Tracked) → track_of before after point step ≡ Ok t →
+      Kept most point step t
   pub refused :
-      (before after : Reading) (point : ℕ) (step : ℤ) → (track_of before after point step).answer ≡ OutOfRange →
-      Stands point step (track_of before after point step)
+      (before after : Reading) (point : ℕ) (step : ℤ) → track_of before after point step ≡ Err out_of_range →
+      Stands point step (left_at point step (track_of before after point step))
 
 abbrev pub Range : Type 0
 Range = RangeTo most_millivolts

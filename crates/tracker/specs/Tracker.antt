@@ -1,10 +1,9 @@
 -- The panel tracker: the ranges, the power, and what one call makes of the set point and the step.
 -- Assumes nothing.
-use Rattle.std.specs.Prelude.{ℕ, ◌*◌, Bool, ◌&&◌, leb, ℤ, pos, neg_ℤ, nat_abs, ◌+ℤ◌}
+use Rattle.std.specs.Prelude.{ℕ, ◌*◌, Bool, ◌&&◌, leb, ℤ, pos, neg_ℤ, nat_abs, ◌+ℤ◌, Result, Ok, Err}
 use Rattle.std.specs.Int.Signed.{lt_z}
 use Rattle.basics.specs.Choice.{when◌then◌else◌, within}
-use Rattle.tracker.specs.declared.Answer.{Answer}
-use Rattle.tracker.specs.declared.Answer.TheVariants.{Done, OutOfRange}
+use Rattle.tracker.specs.declared.OutOfRange.{OutOfRange}
 use Rattle.tracker.specs.declared.Reading.{Reading}
 use Rattle.tracker.specs.declared.Tracked.{Tracked}
 
@@ -20,10 +19,12 @@ most_milliamperes = 5000
 abbrev pub longest_step : ℕ
 longest_step = 500
 
--- the number of an answer
-abbrev pub track_number : Answer → ℕ
-track_number Done = 0
-track_number OutOfRange = 16
+-- the refusal, and its number
+abbrev pub out_of_range : OutOfRange
+out_of_range = record {}
+
+abbrev pub track_number : OutOfRange → ℕ
+track_number refusal = 16
 
 -- a panel's voltage and current, as whole millivolts and milliamperes, 0 to 20,000 and 0 to 5,000
 abbrev pub is_reading : Reading → Bool
@@ -43,7 +44,7 @@ headed before after step = when leb (power before) (power after) then step else 
 
 -- a call that is done hands back a set point and a step
 abbrev pub done : (point : ℕ) (step : ℤ) → Tracked
-done point step = record { answer = Done; point = point; step = step }
+done point step = record { point = point; step = step }
 
 -- a move that leads so far, within 0 to 20,000: past an end it stops there, and the step handed back is turned
 unfoldable pub stopped : (to step : ℤ) → Tracked
@@ -61,8 +62,17 @@ abbrev pub in_range : (before after : Reading) (point : ℕ) (step : ℤ) → Bo
 in_range before after point step =
     is_reading before && is_reading after && leb point most_millivolts && is_step step
 
--- one call; 16 for a reading, set point or step out of range, with nothing moved
-unfoldable pub track_of : (before after : Reading) (point : ℕ) (step : ℤ) → Tracked
+-- one call; 16 for a reading, set point or step out of range
+unfoldable pub track_of : (before after : Reading) (point : ℕ) (step : ℤ) → Result Tracked OutOfRange
 track_of before after point step =
-    when in_range before after point step then moved point (headed before after step)
-    else record { answer = OutOfRange; point = point; step = step }
+    when in_range before after point step then Ok (moved point (headed before after step)) else Err out_of_range
+
+-- where a call leaves the set point and the step: refused, nothing is moved
+abbrev pub left_at : (point : ℕ) (step : ℤ) → Result Tracked OutOfRange → Tracked
+left_at point step (Ok tracked) = tracked
+left_at point step (Err refusal) = done point step
+
+-- what it answers: 0 where it is done, or the refusal's number
+abbrev pub track_answer : Result Tracked OutOfRange → ℕ
+track_answer (Ok tracked) = 0
+track_answer (Err refusal) = track_number refusal

@@ -1,6 +1,6 @@
 -- The tracker on a panel's curve: the measured voltage is the set point, and the readings are the curve's own.
 -- Assumes nothing.
-use Rattle.std.specs.Prelude.{ℕ, suc, ◌*◌, ◌≤◌, ◌≡◌, ℤ, nat_abs}
+use Rattle.std.specs.Prelude.{ℕ, suc, ◌*◌, ◌≤◌, ◌≡◌, ℤ, nat_abs, Ok}
 use Rattle.tracker.specs.Tracker.{power, done, track_of}
 use Rattle.tracker.specs.declared.Reading.{Reading}
 
@@ -32,7 +32,7 @@ pub record Called (curve : Curve) (p q : Place) : Type 0 where
   pub after : Reading
   pub read_before : ReadAt curve p.was before
   pub read_after : ReadAt curve p.point after
-  pub tracks : track_of before after p.point p.step ≡ done q.point q.step
+  pub tracks : track_of before after p.point p.step ≡ Ok (done q.point q.step)
   pub from : q.was ≡ p.point
 
 -- so many calls, one after the other

@@ -2,18 +2,16 @@
 // One call keeps or turns the step by the power before and after the last move, and moves the set point by it.
 #![tactic(auto)]
 
-ghost use Rattle.std.specs.Prelude.{◌≤◌, ◌≡◌, T, neg_ℤ};
+ghost use Rattle.std.specs.Prelude.{◌≤◌, ◌≡◌, IsTrue, MatchOption, false, neg_ℤ};
+ghost use Rattle.std.proofs.Common.{rules};
 ghost use Rattle.tracker.specs.Tracker.{most_millivolts, track_number, is_reading, is_step, power};
 ghost use Rattle.tracker.specs.Tracker.{headed, done, moved, track_of};
 
-// What a call answers.
+use basics::Refusal;
+
+// A reading, the set point or the step is out of range.
 #[derive(Clone, Copy)]
-pub enum Answer {
-    // 0: the set point has moved
-    Done,
-    // 16: a reading, the set point or the step is out of range
-    OutOfRange,
-}
+pub struct OutOfRange;
 
 // A panel's voltage and current.
 #[derive(Clone, Copy)]
@@ -22,10 +20,9 @@ pub struct Reading {
     pub milliamperes: u32,
 }
 
-// What a call hands back: the answer, the set point in millivolts, and the step.
+// What a call hands back: the set point in millivolts, and the step.
 #[derive(Clone, Copy)]
 pub struct Tracked {
-    pub answer: Answer,
     pub point: u32,
     pub step: i32,
 }
@@ -37,18 +34,16 @@ pub const MOST_MILLIVOLTS: u32 = 20000;
 pub const MOST_MILLIAMPERES: u32 = 5000;
 
 // The longest step, either way.
-pub const LONGEST_STEP: i32 = 500;
+pub const LONGEST_STEP: u32 = 500;
 
-impl Answer {
-    // The page's number.
-    pub fn number(self) -> u8
-        ensures { result ≡ track_number self }
-    {
-        match self {
-            Answer::Done => 0,
-            Answer::OutOfRange => 16,
-        }
+impl Refusal for OutOfRange {
+    ghost number_of = { track_number };
+
+    fn number(self) -> u8 {
+        16
     }
+
+    ghost is_told = { Prim.search (rules) };
 }
 
 impl Reading {
@@ -67,74 +62,90 @@ impl Reading {
     }
 }
 
-// Whether a step is in its range.
-fn is_step(step: i32) -> bool
-    ensures { result ≡ is_step step }
-{
-    ((1 <= step) & (step <= LONGEST_STEP)) | ((step <= -1) & (-LONGEST_STEP <= step))
+// A step that is in its range.
+#[derive(Clone, Copy)]
+struct Step {
+    millivolts: i32,
+    ghost in_range: { IsTrue (is_step millivolts) },
 }
 
-// The step the other way.
-fn turned(step: i32) -> i32
-    requires { T (is_step step) }
-    ensures { result ≡ neg_ℤ step }
-{
-    -step
-}
-
-// The step as the powers before and after the last move say: kept, or turned.
-fn heading(before: Reading, after: Reading, step: i32) -> i32
-    requires { T (is_step step) }
-    ensures { result ≡ headed before after step }
-{
-    let had = before.power();
-    let has = after.power();
-    if had <= has { step } else { turned(step) }
-}
-
-// A move past an end stops there, and the step handed back is turned.
-fn stop_at(end: u32, step: i32) -> Tracked
-    requires { T (is_step step) }
-    ensures { result ≡ done end (neg_ℤ step) }
-{
-    let back = turned(step);
-    Tracked {
-        answer: Answer::Done,
-        point: end,
-        step: back,
+impl Step {
+    // The step of so many millivolts, if it is in its range.
+    fn of(millivolts: i32) -> Option<Step>
+        ensures { MatchOption result (is_step millivolts ≡ false) (λ step. step.millivolts ≡ millivolts) }
+    {
+        let size = millivolts.unsigned_abs();
+        if (1 <= size) & (size <= LONGEST_STEP) {
+            Some(Step { millivolts })
+        } else {
+            None
+        }
     }
-}
 
-// The set point moved by a step, within the ends.
-fn shift(point: u32, step: i32) -> Tracked
-    requires { (point ≤ most_millivolts) × T (is_step step) }
-    ensures { result ≡ moved point step }
-{
-    let to = (point as i32) + step;
-    if (MOST_MILLIVOLTS as i32) < to {
-        stop_at(MOST_MILLIVOLTS, step)
-    } else if to < 0 {
-        stop_at(0, step)
-    } else {
+    // The step the other way.
+    fn turned(self) -> Step
+        ensures { result.millivolts ≡ neg_ℤ self.millivolts }
+    {
+        Step {
+            millivolts: -self.millivolts,
+        }
+    }
+
+    // The step as the powers before and after the last move say: kept, or turned.
+    #[tactic(auto, unfolding(crate::specs::Tracker::headed))]
+    fn heading(self, before: Reading, after: Reading) -> Step
+        ensures { result.millivolts ≡ headed before after self.millivolts }
+    {
+        if before.power() <= after.power() {
+            self
+        } else {
+            self.turned()
+        }
+    }
+
+    // A move past an end stops there, and the step handed back is turned.
+    fn stop_at(self, end: u32) -> Tracked
+        ensures { result ≡ done end (neg_ℤ self.millivolts) }
+    {
         Tracked {
-            answer: Answer::Done,
-            point: to as u32,
-            step,
+            point: end,
+            step: self.turned().millivolts,
+        }
+    }
+
+    // The set point moved by the step, within the ends.
+    fn shift(self, point: u32) -> Tracked
+        requires { point ≤ most_millivolts }
+        ensures { result ≡ moved point self.millivolts }
+    {
+        let to = (point as i32) + self.millivolts;
+        if (MOST_MILLIVOLTS as i32) < to {
+            self.stop_at(MOST_MILLIVOLTS)
+        } else if to < 0 {
+            self.stop_at(0)
+        } else {
+            Tracked {
+                point: to as u32,
+                step: self.millivolts,
+            }
         }
     }
 }
 
-// One call, with the readings before and after the last move. What is out of range is refused, and nothing moves.
-pub fn track(before: Reading, after: Reading, set_point: u32, step: i32) -> Tracked
+// One call, with the readings before and after the last move. What is out of range is refused.
+pub fn track(
+    before: Reading,
+    after: Reading,
+    set_point: u32,
+    step: i32,
+) -> Result<Tracked, OutOfRange>
     ensures { result ≡ track_of before after set_point step }
 {
-    if before.in_range() & after.in_range() & (set_point <= MOST_MILLIVOLTS) & is_step(step) {
-        shift(set_point, heading(before, after, step))
-    } else {
-        Tracked {
-            answer: Answer::OutOfRange,
-            point: set_point,
-            step,
-        }
+    if !(before.in_range() & after.in_range() & (set_point <= MOST_MILLIVOLTS)) {
+        return Err(OutOfRange);
+    }
+    match Step::of(step) {
+        Some(step) => Ok(step.heading(before, after).shift(set_point)),
+        None => Err(OutOfRange),
     }
 }

@@ -1,7 +1,6 @@
 -- `modules_on` meets its contract: the ones of the on mask are the modules that are on.
-use mathlib.Core.Path.{◌≡◌, ap, ◌∙◌}
+use mathlib.Core.Path.{◌≡◌, ap, sym, ◌∙◌}
 use mathlib.Core.Bool.{true}
-use borrow.Author.Tests.{not-false, not-true}
 use lib.Count.{ones}
 use Rattle.basics.proofs.ChoiceLaws.{holds}
 use Rattle.modules.specs.Masks.{count_on}
@@ -12,14 +11,10 @@ use Rattle.supervisor.proofs.RangeLaws.{parts}
 use Rattle.counting.specs.Counting.{modules_on_of}
 use Rattle.counting.proofs.modules_on.Goals as goal
 
-pub returns-then-not-in_range : goal.returns-then-not-in_range
-unfolding modules_on_of
-returns-then-not-in_range c = simp (rw c.in_range.ensures at (not-true c.in_range.result c.if-not-in_range.true-raw))
-
 pub returns : goal.returns
 unfolding modules_on_of
 returns c =
     let s = c.args.state in
-    let valid : in_range s ≡ true = rw c.in_range.ensures at (not-false c.in_range.result c.if-not-in_range.false-raw) in
+    let valid : in_range s ≡ true = sym c.in_range.ensures ∙ c.if-not-in_range.false in
     let counted : ones s.masks.on ≡ count_on s.modules = ap (λ (m : Masks). ones m.on) (parts s (holds (in_range s) valid)).masks ∙ ones_on s.modules in
     simp (valid, counted)

@@ -10,8 +10,12 @@ pub returns-in_default : goal.returns-in_default
 returns-in_default c =
     ap (λ (n : ℕ). reply n 0) c.number.ensures ∙ count_foreign _ (sym c.load.ensures ∙ c.in_default.is)
 
-pub returns : goal.returns
-returns c =
-    ap (λ (n : ℕ). reply n c.modules_on-on.result.count) c.number-2.ensures
-    ∙ ap modules_on_reply c.modules_on-on.ensures
+pub returns-in-Ok : goal.returns-in-Ok
+returns-in-Ok c =
+    ap modules_on_reply c.in-Ok.ensures ∙ count_worked _ _ (sym c.load.ensures ∙ c.in-Some.is)
+
+pub returns-in-Err : goal.returns-in-Err
+returns-in-Err c =
+    ap (λ (n : ℕ). reply n 0) c.number-in-Err.ensures
+    ∙ ap modules_on_reply c.in-Err.ensures
     ∙ count_worked _ _ (sym c.load.ensures ∙ c.in-Some.is)

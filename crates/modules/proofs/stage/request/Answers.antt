@@ -13,11 +13,8 @@ use Rattle.modules.proofs.stage.request.Goals.{then-has, else-has}
 pub loop-rest-init : goal.loop-rest-init
 loop-rest-init c = record { low = search rules; left = marked_none _; done = worked_none _ _ }
 
-pub bounds-next-i : goal.bounds-next-i
-bounds-next-i c = search (rules, marked_more)
-
-pub bounds-next-i-then-has : goal.bounds-next-i-then-has
-bounds-next-i-then-has c = search (rules, marked_more)
+pub bounds-modules-i : goal.bounds-modules-i
+bounds-modules-i c = search (rules, marked_more)
 
 pub loop-rest-smaller : goal.loop-rest-smaller
 loop-rest-smaller c =
@@ -30,8 +27,8 @@ loop-rest-preserved c =
       left = ap (λ (r : ℕ). r / 2) c.loop-rest.invariant.left ∙ marked_next _ _;
       done =
           elim c.if-has.branch [
-            | then-has w ↦ w.next-is ∙ simp (w.with_request.ensures, c.loop-rest.invariant.done) (in_mask _ _ c.loop-rest.i _ _ (sym c.has.ensures ∙ w.if-has.true))
-            | else-has w ↦ w.next-is ∙ c.loop-rest.invariant.done ∙ not_in_mask _ _ c.loop-rest.i _ no_module (sym c.has.ensures ∙ w.if-has.false)
+            | then-has w ↦ w.modules-is ∙ simp c.loop-rest.invariant.done (in_mask _ _ c.loop-rest.i _ _ (sym c.has.ensures ∙ w.if-has.true))
+            | else-has w ↦ w.modules-is ∙ c.loop-rest.invariant.done ∙ not_in_mask _ _ c.loop-rest.i _ no_module (sym c.has.ensures ∙ w.if-has.false)
           ];
     }
 

@@ -3,15 +3,11 @@ use mathlib.Core.Path.{◌≡◌}
 use native.Mathlib.Omega.{arith}
 use lib.ListN.{length}
 use Rattle.basics.proofs.EachLaws.{length_mapped}
-use Rattle.modules.proofs.StageLaws.{no_module, request_stored, request_past}
+use Rattle.modules.proofs.StageLaws.{no_module, request_past}
 use borrow.Author.Rules.{rules}
 use Rattle.modules.proofs.stage.request_one.Goals as goal
 
-pub returns-then-i-lt8 : goal.returns-then-i-lt8
-returns-then-i-lt8 c =
-    simp c.with_request.ensures (request_stored c.args.which c.args.on c.args.modules _)
-
-pub returns-else-i-lt8 : goal.returns-else-i-lt8
-returns-else-i-lt8 c =
+pub returns-else-which-lt8 : goal.returns-else-which-lt8
+returns-else-which-lt8 c =
     let eight : length c.args.modules ≡ 8 = search (rules, length_mapped) in
     request_past c.args.which c.args.on c.args.modules no_module (omega arith)

@@ -29,11 +29,11 @@ loop-rest-init c =
       small = search rules;
     }
 
-pub bounds-next-i : goal.bounds-next-i
-bounds-next-i c = search (rules, marked_more)
+pub bounds-modules-i : goal.bounds-modules-i
+bounds-modules-i c = search (rules, marked_more)
 
-pub bounds-next-i-in-loop-rest : goal.bounds-next-i-in-loop-rest
-bounds-next-i-in-loop-rest c = search (rules, marked_more)
+pub bounds-modules-i-in-loop-rest : goal.bounds-modules-i-in-loop-rest
+bounds-modules-i-in-loop-rest c = search (rules, marked_more)
 
 pub overflow_mul-all : goal.overflow_mul-all
 overflow_mul-all c = omega (arith, rw (← c.power_bits.ensures) at (power_bits_small c.second-after.result))
@@ -72,7 +72,6 @@ loop-rest-preserved c =
       bits = ap (λ (r : ℕ). r / 2) c.loop-rest.invariant.bits ∙ shr-shr _ _ 1;
       done =
           simp (
-            c.with_power.ensures,
             after.ensures,
             c.loop-rest.invariant.left,
             c.loop-rest.invariant.bits,

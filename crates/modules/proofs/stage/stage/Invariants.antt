@@ -15,8 +15,8 @@ invariant-loop-rest l =
       low : l.i ≤ 8;
       left : l.rest ≡ marked l.i l.shorts;
       bits : l.want ≡ l.wanted / 2 ^ l.i;
-      done : l.next ≡ worked (module_switched l.wanted l.shorts) l.i l.initial.next;
-      gathered : l.all ≡ powers (take l.i (switched_by l.wanted l.shorts l.initial.next)) * 2 ^ (8 - l.i);
+      done : l.modules ≡ worked (module_switched l.wanted l.shorts) l.i l.fn.modules;
+      gathered : l.all ≡ powers (take l.i (switched_by l.wanted l.shorts l.fn.modules)) * 2 ^ (8 - l.i);
       small : l.all ≤ 16777216;
     }
 
