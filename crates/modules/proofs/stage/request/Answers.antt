@@ -13,13 +13,6 @@ use Rattle.modules.proofs.stage.request.Goals.{then-has, else-has}
 pub loop-rest-init : goal.loop-rest-init
 loop-rest-init c = record { low = search rules; left = marked_none _; done = worked_none _ _ }
 
-pub bounds-modules-i : goal.bounds-modules-i
-bounds-modules-i c = search (rules, marked_more)
-
-pub loop-rest-smaller : goal.loop-rest-smaller
-loop-rest-smaller c =
-    omega (arith, marked_more c.loop-rest.i _ _ c.loop-rest.invariant.low (search rules) c.loop-rest.invariant.left (search rules))
-
 pub loop-rest-preserved : goal.loop-rest-preserved
 loop-rest-preserved c =
     record {

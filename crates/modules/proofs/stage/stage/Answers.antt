@@ -29,23 +29,6 @@ loop-rest-init c =
       small = search rules;
     }
 
-pub bounds-modules-i : goal.bounds-modules-i
-bounds-modules-i c = search (rules, marked_more)
-
-pub bounds-modules-i-in-loop-rest : goal.bounds-modules-i-in-loop-rest
-bounds-modules-i-in-loop-rest c = search (rules, marked_more)
-
-pub overflow_mul-all : goal.overflow_mul-all
-overflow_mul-all c = omega (arith, rw (← c.power_bits.ensures) at (power_bits_small c.second-after.result))
-
-pub overflow_add-all : goal.overflow_add-all
-overflow_add-all c =
-    omega (arith, c.loop-rest.invariant.small, rw (← c.power_bits.ensures) at (power_bits_small c.second-after.result))
-
-pub loop-rest-smaller : goal.loop-rest-smaller
-loop-rest-smaller c =
-    omega (arith, marked_more c.loop-rest.i _ _ c.loop-rest.invariant.low (search rules) c.loop-rest.invariant.left (search rules))
-
 pub loop-rest-preserved : goal.loop-rest-preserved
 unfolding switched_by
 loop-rest-preserved c =
