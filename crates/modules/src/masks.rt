@@ -15,7 +15,7 @@ pub struct Masks {
     pub failed: u8,
 }
 
-// The masks stand side by side in one number: requested lowest, on from here up.
+// The masks stand side by side in one number, for speed (docs/PERFORMANCE.md): requested lowest, on from here up.
 pub(crate) const ON: u32 = 256;
 
 // Failed from here up.
