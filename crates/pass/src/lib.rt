@@ -56,6 +56,7 @@ pub fn pass(mut state: State, input: &[u8], room: &mut [u8]) -> Passed
     }
     let mut rest = input;
     let mut reported = 0;
+    // The room stands whole: where a loop hands on its rest, an invariant has no name for the reports that are written.
     while !rest.is_empty() {
         let worked = work(state, rest, &mut room[reported * REPORT_BYTES..]);
         state = worked.state;
