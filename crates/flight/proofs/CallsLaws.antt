@@ -276,7 +276,8 @@ module _ (image room : List ℕ) (s : State) (say : fields_say image ≡ Some s)
 -- a call's outcome, told, is the outcome by its reply, where that is how each answer is told
 pub told_by : {Refused : Type 0} (number_of : Refused → ℕ) (by : Result ℕ Refused → Reply)
     → ((given : Result ℕ Refused) → told number_of given ≡ by given) → {given : Result ℕ Refused} {room : List ℕ}
-    {o : Outcome (Result ℕ Refused)} {r : Reply} → r ≡ told number_of given → outcome given room ≡ o → outcome r room ≡ replied by o
+    {o : Outcome (Result ℕ Refused)} {r : Reply} → r ≡ told number_of given
+    → outcome given room ≡ o → outcome r room ≡ replied by o
 told_by number_of by same {given} e f = rw (e, same given) (ap (replied by) f)
 
 pub key_told : (given : Result ℕ KeyFault) → told key_fault_number given ≡ key_reply given
@@ -298,4 +299,5 @@ read_told (Err refusal) = refl
 
 pub read_replied : {units room room' : List ℕ} (given : Result ℕ ReadFault) {r : Reply} → Read units room (outcome given room')
     → r ≡ told read_fault_number given → ReadReplied units room (outcome r room')
-read_replied {room' = room'} given r e = record { heard = outcome given room'; read = r; same = told_by read_fault_number read_reply read_told e refl }
+read_replied {room' = room'} given r e =
+    record { heard = outcome given room'; read = r; same = told_by read_fault_number read_reply read_told e refl }

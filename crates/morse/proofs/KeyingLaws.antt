@@ -26,7 +26,8 @@ refused_by (Ok n) fault h = absurd h
 refused_by (Err refusal) fault h = ap Err h
 
 -- what is found of the text decides
-pub key_by_law : (t room : List ℕ) (found : Result Unit Fault) → found ≡ fault_of t → key_by found (units_of t) room ≡ key_of t room
+pub key_by_law : (t room : List ℕ) (found : Result Unit Fault) → found ≡ fault_of t
+    → key_by found (units_of t) room ≡ key_of t room
 unfolding key_of
 key_by_law t room found e = ap (λ x. key_by x (units_of t) room) e
 

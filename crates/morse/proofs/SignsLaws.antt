@@ -70,7 +70,8 @@ pub no_sign_law : (c : ℕ) → (first_sign ≤ c → c ≤ last_sign → ⊥) �
 unfolding alphabet sign_of
 no_sign_law c l f s =
     unsigned (sign_of c)
-    (rw (outside first_sign last_sign c l, outside 48 57 c f, outside first_stop last_stop c s) at (everywhere placed alphabet tt past c))
+    (rw (outside first_sign last_sign c l, outside 48 57 c f, outside first_stop last_stop c s)
+    at (everywhere placed alphabet tt past c))
   where
     past : (k : ℕ) → T (is_in_letters k || is_figure k || is_in_stops k || true)
     past k = or_right (is_in_letters k || is_figure k || is_in_stops k) true tt

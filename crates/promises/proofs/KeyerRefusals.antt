@@ -27,7 +27,8 @@ module _ (room : List ℕ) where
   by_found : (found : Result Unit Fault) (units : List ℕ) → Keeps (key_by found units room)
   unfolding key_units
   by_found (Err fault) units h = record { count = refl; room = refl }
-  by_found (Ok _) units h = either Keeps (ltb (length room) (length units)) (λ t. record { count = refl; room = refl }) (λ t. absurd (omega arith)) h
+  by_found (Ok _) units h =
+      either Keeps (ltb (length room) (length units)) (λ t. record { count = refl; room = refl }) (λ t. absurd (omega arith)) h
 
   pub keying_keeps : (text : List ℕ) → Keeps (key_of text room)
   unfolding key_of
@@ -47,7 +48,8 @@ module _ (units room : List ℕ) where
   text_leaves text h = either Leaves (ltb (length room) (length text)) (λ t. refl) (λ t. absurd (omega arith)) h
 
   -- whether or not the units are the keying of a text, the room is as before; which of the two is not decided here
-  same_room : (after : Outcome (Result ℕ ReadFault)) → Read units room after → 1 ≤ (read_reply after.result).number → (after.room ≡ room → ⊥) → ⊥
+  same_room :
+      (after : Outcome (Result ℕ ReadFault)) → Read units room after → 1 ≤ (read_reply after.result).number → (after.room ≡ room → ⊥) → ⊥
   same_room after r h differs =
       let never : (text : List ℕ) → Keys text units → ⊥ = λ text k. differs (rw (r.told text k) (text_leaves text (rw (r.told text k) at h))) in
       differs (rw (r.refused never) refl)

@@ -32,7 +32,8 @@ module _ (text : List ℕ) (fine : fault_of text ≡ Ok tt) (units : ℕ) (e : l
     given = λ room h.
         ap (λ (o : Outcome (Result ℕ KeyFault)). key_reply o.result) (keyed_within text room fine (omega (arith, e)))
         ∙ ap (reply done) e;
-    short = λ room h. ap (λ (o : Outcome (Result ℕ KeyFault)). key_reply o.result) (keyed_short text room fine (omega (arith, e)));
+    short = λ room h.
+        ap (λ (o : Outcome (Result ℕ KeyFault)). key_reply o.result) (keyed_short text room fine (omega (arith, e)));
   }
 
 -- a byte of the alphabet that is no space, with one of the longest signs, over and over

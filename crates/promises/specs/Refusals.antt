@@ -81,7 +81,8 @@ KeyingFrom first =
 -- reading back, whose contract is `Read`
 abbrev pub ReadingFrom : (first : ℕ) → Type 0
 ReadingFrom first =
-    (units room : List ℕ) (after : Outcome (Result ℕ ReadFault)) → Read units room after → first ≤ (read_reply after.result).number →
+    (units room : List ℕ) (after : Outcome (Result ℕ ReadFault)) → Read units room after →
+    first ≤ (read_reply after.result).number →
     Unwritten (read_reply after.result) room after.room
 
 -- the beacon's text

@@ -15,9 +15,6 @@ returns-then-n-eq0 c =
     let sixteen : length args.text ≡ longest_greeting = search rules in
     c.is_blank.ensures ∙ no_characters args.text sixteen ∙ ap (λ n. is_greeting n args.text) (sym c.if-n-eq0.true)
 
-pub slice_bounds-fault_of-end : goal.slice_bounds-fault_of-end
-slice_bounds-fault_of-end c = sym (length-take-le c.args.length c.args.text (omega arith))
-
 pub returns-then-is_ok : goal.returns-then-is_ok
 returns-then-is_ok c =
     let args = c.args in

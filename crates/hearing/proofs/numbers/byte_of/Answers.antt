@@ -11,7 +11,8 @@ pub returns-then-number-lt-FOUR_MARKS : goal.returns-then-number-lt-FOUR_MARKS
 returns-then-number-lt-FOUR_MARKS c =
     let number = c.args.number in
     c.then_some.ensures ∙ rw c.from.ensures
-    (letter_some _ ∙ same_byte_eq _ _ (upto (is_byte c.table.result) four_marks c.table.ensures number c.if-number-lt-FOUR_MARKS.true))
+    (letter_some _
+    ∙ same_byte_eq _ _ (upto (is_byte c.table.result) four_marks c.table.ensures number c.if-number-lt-FOUR_MARKS.true))
 
 pub returns-then-number-ge-SIX_MARKS : goal.returns-then-number-ge-SIX_MARKS
 unfolding byte_of

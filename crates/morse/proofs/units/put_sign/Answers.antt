@@ -24,7 +24,8 @@ loop-preserved c =
     let l = c.loop in
     let n = c.args.sign.len - l.counter in
     let e : n - 1 ≡ c.args.sign.len - (l.counter + 1) = omega arith in
-    (omega (arith, rw e at (length_sign n l.marks l.up (omega arith))), cc (rw e at (sets_sign n l.marks l.up (omega arith) l.room l.i)))
+    let far = rw e at (length_sign n l.marks l.up (omega arith)) in
+    (omega (arith, far), cc (rw e at (sets_sign n l.marks l.up (omega arith) l.room l.i)))
 
 pub returns : goal.returns
 unfolding marks_of
