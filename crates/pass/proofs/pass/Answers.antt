@@ -1,11 +1,8 @@
 -- `pass` meets its contract. The invariant: what was done and what is left make up the whole. The measure is the bytes left.
 use mathlib.Core.Path.{sym, ◌∙◌}
 use native.Mathlib.Omega.{arith}
-use Rattle.pass.proofs.PassLaws.{underway_start, underway_frame, underway_stop, underway_end, frame_within, rest_shorter}
+use Rattle.pass.proofs.PassLaws.{underway_frame, underway_stop, underway_end, frame_within, rest_shorter}
 use Rattle.pass.proofs.pass.Goals as goal
-
-pub loop-rest-init : goal.loop-rest-init
-loop-rest-init c = underway_start _ _ _ (sym c.in_range.ensures ∙ c.if-not-in_range.false)
 
 pub returns-then-not-is_reported : goal.returns-then-not-is_reported
 returns-then-not-is_reported c =

@@ -1,6 +1,6 @@
 -- `is_greeting` meets its contract: sixteen bytes by their type, and the tests are the rule's.
 use Rattle.std.specs.Prelude.{is_ok, true, false}
-use Rattle.std.proofs.Common.{◌≡◌, ◌-◌, length, drop, refl, sym, ap, ◌∙◌, arith, length-drop, length-take-le, take_all, rules}
+use Rattle.std.proofs.Common.{◌≡◌, ◌-◌, length, drop, refl, sym, ap, ◌∙◌, arith, length-drop, take_all, rules}
 use Rattle.frames.specs.Greeting.{longest_greeting, all_zero, is_greeting}
 use Rattle.frames.proofs.GreetingLaws.{too_long, by_text, no_characters}
 use Rattle.frames.proofs.greeting.is_greeting.Goals as goal
