@@ -2,6 +2,8 @@
 -- Assumes nothing.
 use mathlib.Core.Path.{sym, ◌∙◌}
 use Rattle.basics.specs.OneOutcome.{OneOutcome}
+use Rattle.books.specs.contracts.answer.BookFaultRefusal.number as fault_number
+use Rattle.books.proofs.answer.BookFaultRefusal.number.Reads as fault_number_reads
 use Rattle.books.specs.contracts.answer.number as answer_number
 use Rattle.books.proofs.answer.number.Reads as answer_number_reads
 use Rattle.books.specs.contracts.answer.is_reported as answer_reported
@@ -12,6 +14,9 @@ use Rattle.books.specs.contracts.summary.summary
 use Rattle.books.proofs.summary.summary.Reads as summary_reads
 use Rattle.books.specs.contracts.shares.put
 use Rattle.books.proofs.shares.put.Reads as put_reads
+
+pub fault_number_one : OneOutcome fault_number.ended fault_number_reads.Asked fault_number_reads.Learnt
+fault_number_one = record { taken = λ κs a. tt; one = λ κs a x y p q i. ((p ∙ sym q) i, (tt, tt)) }
 
 pub answer_number_one : OneOutcome answer_number.ended answer_number_reads.Asked answer_number_reads.Learnt
 answer_number_one = record { taken = λ κs a. tt; one = λ κs a x y p q i. ((p ∙ sym q) i, (tt, tt)) }

@@ -6,6 +6,7 @@ use mathlib.Core.Bool.{Bool, true, false}
 use mathlib.Core.List.{List}
 use native.Mathlib.Omega.{arith}
 use lib.Dec.{T, eqb, ltb}
+use lib.IntN.{ℤ}
 use lib.ListN.{length}
 use borrow.Author.Tests.{eq-eqb}
 use Rattle.std.specs.Prelude.{Some, None}
@@ -47,11 +48,13 @@ use Rattle.beacon.specs.Writing.{fault_number, written_reply}
 use Rattle.beacon.specs.declared.writing.WriteFault.{WriteFault}
 use Rattle.beacon.specs.declared.writing.WriteFault.TheVariants.{BadState}
 use Rattle.beacon.proofs.WritingLaws.{beacon_outside}
+use Rattle.tracker.specs.declared.Tracked.{Tracked}
 use Rattle.flight.specs.Saving.{image_bytes, saved}
 use Rattle.flight.specs.Loading.{has_layout, decoded, loaded, fields_say}
 use Rattle.flight.specs.Calls.{imaged, bad_state, stepped_to, step_image, passed_to, pass_image, modules_on_reply, modules_on_image, beacon_image}
 use Rattle.flight.specs.Calls.{booked_to, step_books_image, summary_reply}
 use Rattle.flight.specs.Calls.{told, replied, ReadReplied}
+use Rattle.flight.specs.Calls.{tracks, tracked_to}
 use Rattle.flight.proofs.FieldsLaws.{AllBytes}
 use Rattle.flight.proofs.LoadingLaws.{layout, saved_decoded}
 
@@ -301,3 +304,7 @@ pub read_replied : {units room room' : List ℕ} (given : Result ℕ ReadFault) 
     → r ≡ told read_fault_number given → ReadReplied units room (outcome r room')
 read_replied {room' = room'} given r e =
     record { heard = outcome given room'; read = r; same = told_by read_fault_number read_reply read_told e refl }
+
+-- where the tracker's answer leaves set point and step: those that it hands back; refused, those that there were
+pub tracked_by : (point : ℕ) (step : ℤ) (t : Tracked) → tracks 0 t.point t.step ≡ tracked_to point step (Ok t)
+tracked_by point step t = refl

@@ -20,6 +20,10 @@ use Rattle.frames.specs.contracts.cut.front_bytes
 use Rattle.frames.proofs.cut.front_bytes.Reads as front_bytes_reads
 use Rattle.frames.specs.contracts.cut.cut
 use Rattle.frames.proofs.cut.cut.Reads as cut_reads
+use Rattle.frames.specs.contracts.kind.Kind.number as kind_number
+use Rattle.frames.proofs.kind.Kind.number.Reads as kind_number_reads
+use Rattle.frames.specs.contracts.kind.Kind.total as kind_total
+use Rattle.frames.proofs.kind.Kind.total.Reads as kind_total_reads
 use Rattle.frames.specs.contracts.kind.total
 use Rattle.frames.proofs.kind.total.Reads as total_reads
 use Rattle.frames.specs.contracts.greeting.is_greeting
@@ -41,6 +45,12 @@ is_reported_one = record { taken = λ κs a. tt; one = λ κs a x y p q i. ((p �
 
 pub origin_number_one : OneOutcome origin_number.ended origin_number_reads.Asked origin_number_reads.Learnt
 origin_number_one = record { taken = λ κs a. tt; one = λ κs a x y p q i. ((p ∙ sym q) i, (tt, tt)) }
+
+pub kind_number_one : OneOutcome kind_number.ended kind_number_reads.Asked kind_number_reads.Learnt
+kind_number_one = record { taken = λ κs a. tt; one = λ κs a x y p q i. ((p ∙ sym q) i, (tt, tt)) }
+
+pub kind_total_one : OneOutcome kind_total.ended kind_total_reads.Asked kind_total_reads.Learnt
+kind_total_one = record { taken = λ κs a. tt; one = λ κs a x y p q i. ((p ∙ sym q) i, (tt, tt)) }
 
 pub kind_one : OneOutcome kind.ended kind_reads.Asked kind_reads.Learnt
 kind_one = record { taken = λ κs a. tt; one = λ κs a x y p q i. ((p ∙ sym q) i, (tt, tt)) }
