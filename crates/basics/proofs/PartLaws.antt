@@ -5,7 +5,7 @@ use mathlib.Core.Path.{◌≡◌}
 use mathlib.Core.List.{List, ◌++◌, append-nil}
 use native.Mathlib.Nat.{le_refl}
 use lib.ListN.{length, take, drop, length-drop, drop_of_length-le}
-use lib.Seq.{take_all, take-length}
+use lib.Seq.{take_all}
 
 -- what is lent
 abbrev pub part_from : (room : List ℕ) (from : ℕ) → List ℕ
@@ -24,7 +24,3 @@ module _ (room : List ℕ) (from : ℕ) where
 
   pub lent_back_law : (later : List ℕ) → lent_back room from later ≡ take from room ++ later
   lent_back_law later = rw (drop_of_length-le (drop from room) {i = length room - from} left, append-nil)
-
--- what is copied over a whole room is all that stands there
-pub copied_over : (src room : List ℕ) → length room ≤ length src → take (length src) src ++ drop (length src) room ≡ src
-copied_over src room h = rw (take-length src, drop_of_length-le room {i = length src} h, append-nil)

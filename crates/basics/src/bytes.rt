@@ -12,7 +12,7 @@ pub fn copy(src: &[u8], room: &mut [u8]) -> usize
     n
 }
 
-// The upper-case hex digit of a number below 16.
+// The upper-case hex digit of a number below 16. By hand: std's `char::from_digit` gives an Option of a lower-case character.
 pub fn hex_digit(n: u8) -> u8
     requires { n < 16 }
     ensures { result ≡ hex_digit n }

@@ -1,4 +1,5 @@
-// What it is to refuse: each part's refusals are an enum of its own, and each has a number of the page's.
+// What it is to refuse: each part's refusals are an enum of its own, and each has a number of the page's. What is no refusal,
+// an answer that may be 0, a kind, an origin or a mode, has its number by itself: nothing is written over them all.
 ghost use Rattle.std.specs.Prelude.{◌≡◌, ◌≢◌, ℕ};
 
 // Why a call refuses.

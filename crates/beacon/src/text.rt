@@ -57,7 +57,8 @@ fn letter(mode: Mode) -> u8
     }
 }
 
-// A decimal digit of a tension. A tension out of range may have more than 9 thousands: its text is never written.
+// A decimal digit of a tension, which has four, leading zeros too: no formatting of std's has a contract for them. A tension
+// out of range may have more than 9 thousands: its text is never written.
 fn figure(n: u16) -> u8
     requires { n < 100 }
     ensures { result ≡ figure n }
@@ -104,7 +105,7 @@ fn greeted(complete: [u8; COMPLETE_BYTES], message: [u8; LONGEST]) -> [u8; MOST_
     all
 }
 
-// The complete text of a state, a space, and all bytes of its message.
+// The complete text of a state, a space, and all bytes of its message; of them a form has a front. On the stack: no heap.
 pub(crate) fn full_text(state: State) -> [u8; MOST_BYTES]
     requires { HasMasks state }
     ensures { result ≡ full_text state }

@@ -1,4 +1,5 @@
-// The numbers of the books: module m's seconds on, off and failed are numbers 3m, 3m + 1 and 3m + 2.
+// The numbers of the books, by place, as C lends them: module m's seconds on, off and failed are numbers 3m, 3m + 1 and
+// 3m + 2.
 ghost use Rattle.std.specs.Prelude.{◌≡◌, true};
 ghost use Rattle.basics.specs.Outcome.{outcome};
 ghost use Rattle.books.specs.Books.{shown_as, counted, none_above, kept_of};
@@ -35,6 +36,8 @@ fn second(masks: Masks, m: usize) -> usize
         1
     }
 }
+
+// Books and masks stand apart here: the books are the caller's, lent for the call, the masks the state's.
 
 // Whether a tick that leaves these masks takes no number above the most: those that it adds to are below it.
 fn takes_tick(books: &[u64; NUMBERS], masks: Masks) -> bool

@@ -10,14 +10,14 @@ use frames::kind::{Kind, REPORT_BYTES};
 use supervisor::state::State;
 use supervisor::step::{Stepped, step};
 
-// The answer, and the next state.
+// The answer, and the next state, which is handed back with every answer, as `step` does.
 #[derive(Clone, Copy)]
 pub struct Booked {
     pub answer: Result<Answer, BookFault>,
     pub state: State,
 }
 
-// Whether an answer goes before the books' 17: it is one of 1 to 6.
+// Whether an answer goes before the books' 17: it is one of 1 to 6, in the page's own words; six names would say it longer.
 fn is_early(answer: Answer) -> bool
     ensures { result ≡ is_early answer }
 {

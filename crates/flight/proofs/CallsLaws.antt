@@ -35,8 +35,7 @@ use Rattle.books.specs.Books.{book_numbers}
 use Rattle.books.specs.Answer.{book_fault_number, book_number, is_book_reported}
 use Rattle.books.specs.Step.{WithBooks, with_books, step_books_of}
 use Rattle.books.specs.History.{Board, called_with, board_after}
-use Rattle.books.specs.Summary.{no_shares, summary_of, put_into}
-use Rattle.books.specs.declared.answer.BookFault.{BookFault}
+use Rattle.books.specs.Summary.{summary_of, put_into}
 use Rattle.books.specs.declared.answer.BookFault.TheVariants.{NotBooks}
 use Rattle.modules.specs.Groups.{module_count}
 use Rattle.morse.specs.Answers.{done, no_room}
@@ -48,6 +47,8 @@ use Rattle.beacon.specs.Writing.{fault_number, written_reply}
 use Rattle.beacon.specs.declared.writing.WriteFault.{WriteFault}
 use Rattle.beacon.specs.declared.writing.WriteFault.TheVariants.{BadState}
 use Rattle.beacon.proofs.WritingLaws.{beacon_outside}
+use Rattle.tracker.specs.Tracker.{left_at, track_answer}
+use Rattle.tracker.specs.declared.OutOfRange.{OutOfRange}
 use Rattle.tracker.specs.declared.Tracked.{Tracked}
 use Rattle.flight.specs.Saving.{image_bytes, saved}
 use Rattle.flight.specs.Loading.{has_layout, decoded, loaded, fields_say}
@@ -111,10 +112,6 @@ module _ (books room : List ℕ) where
   pub summed_put : (shares : List ℕ) → summary_of books ≡ Ok shares → ltb (length room) module_count ≡ false → outcome done (put_into shares room) ≡ summary_reply books room
   unfolding summary_reply
   summed_put shares e fits = simp (e, fits)
-
-  pub summed_refused : (fault : BookFault) → summary_of books ≡ Err fault → outcome (book_fault_number fault) (put_into no_shares room) ≡ summary_reply books room
-  unfolding summary_reply
-  summed_refused fault e = simp e
 
 -- bytes of another layout
 module _ (image room : List ℕ) (nothing : fields_say image ≡ None) where
@@ -291,11 +288,6 @@ pub written_told : (given : Result ℕ WriteFault) → told fault_number given �
 written_told (Ok written) = refl
 written_told (Err refusal) = refl
 
--- an answer by its number and its count
-pub replied_by : {Answer : Type 0} (by : Answer → Reply) {answer : Answer} {n k : ℕ} {room : List ℕ} {o : Outcome Answer}
-    → n ≡ (by answer).number → k ≡ (by answer).count → outcome answer room ≡ o → outcome (reply n k) room ≡ replied by o
-replied_by by p q e = rw (p, q) (ap (replied by) e)
-
 read_told : (given : Result ℕ ReadFault) → told read_fault_number given ≡ read_reply given
 read_told (Ok written) = refl
 read_told (Err refusal) = refl
@@ -305,6 +297,7 @@ pub read_replied : {units room room' : List ℕ} (given : Result ℕ ReadFault) 
 read_replied {room' = room'} given r e =
     record { heard = outcome given room'; read = r; same = told_by read_fault_number read_reply read_told e refl }
 
--- where the tracker's answer leaves set point and step: those that it hands back; refused, those that there were
-pub tracked_by : (point : ℕ) (step : ℤ) (t : Tracked) → tracks 0 t.point t.step ≡ tracked_to point step (Ok t)
-tracked_by point step t = refl
+-- where the tracker's answer leaves set point and step, by its number: those that it hands back; refused, those that there were
+pub tracked_by : {n : ℕ} (point : ℕ) (step : ℤ) (answer : Result Tracked OutOfRange) → n ≡ track_answer answer
+    → tracks n (left_at point step answer).point (left_at point step answer).step ≡ tracked_to point step answer
+tracked_by point step answer p = rw p

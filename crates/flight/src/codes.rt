@@ -1,4 +1,5 @@
-// A mode with its phase as one number, and a module as another.
+// A mode with its phase as one number, and a module as another: so an image has them (the C interface). Functions and no
+// `From`, since neither side is a type of this crate. A number that narrows by `as` is proved to lose nothing.
 // Each in range has a number of its own; every other number says one out of range.
 ghost use Rattle.std.specs.Prelude.{◌≡◌, true};
 ghost use Rattle.modules.specs.Power.{power_in_range};

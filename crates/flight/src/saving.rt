@@ -40,7 +40,7 @@ pub(crate) const MODULE_COUNT: usize = 8;
 // The bytes of a state.
 pub(crate) type Image = [u8; IMAGE_BYTES];
 
-// All but the message, the ends, the masks and the modules.
+// All but the message, the ends, the masks and the modules. That the state is in range is asked, as in `supervisor`'s `act`.
 #[tactic(auto, using(crate::proofs::SavingLaws::mode_code_small), unfolding(crate::specs::Saving::head_bytes))]
 fn head(state: State) -> [u8; MESSAGE_PLACE]
     requires { in_range state ≡ true }

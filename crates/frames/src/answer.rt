@@ -6,7 +6,8 @@ ghost use Rattle.frames.specs.declared.answer.Answer.TheVariants.{UnknownKind, B
 use crate::kind::NoKind;
 use crate::sender::NoOrigin;
 
-// The answer, by its number.
+// The answer, by its number. No Result: four of them (0, 8, 9, 10) have a report, and 10 uses a serial up, so that no `Ok`
+// would hold them all but this enum itself.
 #[derive(Clone, Copy)]
 pub enum Answer {
     // done

@@ -28,7 +28,8 @@ pub fn cut(bytes: &[u8]) -> Result<usize, Uncut>
     Ok(total)
 }
 
-// How many of so many bytes are the frame's at their front: where its kind is unknown, or it is cut off, all of them.
+// How many of so many bytes are the frame's at their front: where its kind is unknown, or it is cut off, all of them. `pass`
+// has it in place.
 pub fn front_bytes(front: Result<usize, Uncut>, all: usize) -> usize
     ensures { result ≡ front_bytes front all }
 {

@@ -27,7 +27,7 @@ pub struct Head {
     pub serial: u16,
 }
 
-// A head without origin and serial: a report has zeros for them.
+// A head without origin and serial: a report has zeros for them, and nothing else reads a head, so they are no Options.
 fn bare(kind: Kind) -> Head
     ensures { result ≡ bare_head kind }
 {

@@ -28,7 +28,7 @@ pub struct NoKind(pub u8);
 // The bytes of a greeting.
 pub(crate) const GREETING_BYTES: usize = 22;
 
-// The number of a report, which is only written.
+// The number of a report, which is only written, and so is no `Kind`: each match on what was read would have an arm for it.
 pub const REPORT: u8 = 0x81;
 
 // The bytes of a report.
@@ -70,7 +70,7 @@ impl Kind {
         ensures { result ≡ total_of (kind_number self) }
     {
         let table = totals();
-        table[self.number() as usize] as usize
+        usize::from(table[usize::from(self.number())])
     }
 }
 

@@ -29,7 +29,7 @@ const MOST_MINUTES: u16 = 1440;
 pub fn is_reading(millivolts: u16) -> bool
     ensures { result ≡ is_reading millivolts }
 {
-    (LOWEST_READING <= millivolts) & (millivolts <= HIGHEST_READING)
+    (LOWEST_READING..=HIGHEST_READING).contains(&millivolts)
 }
 
 // Whether two numbers of millivolts are a pair of thresholds.
@@ -43,7 +43,7 @@ pub fn are_thresholds(ascend: u16, descend: u16) -> bool
 fn are_minutes(minutes: u16) -> bool
     ensures { result ≡ are_minutes minutes }
 {
-    (1 <= minutes) & (minutes <= MOST_MINUTES)
+    (1..=MOST_MINUTES).contains(&minutes)
 }
 
 // Whether an origin may not order a module: the payload orders its own alone.
@@ -60,6 +60,8 @@ fn word_at(bytes: &[u8], place: usize) -> u16
 {
     u16::from_be_bytes([bytes[place], bytes[place + 1]])
 }
+
+// Each reader asks for a length of its own: an array type would have it asked a second time, after the table of totals.
 
 // A battery's reading.
 #[tactic(auto, unfolding(crate::specs::Reading::battery_fields))]
@@ -123,7 +125,7 @@ fn order(bytes: &[u8]) -> Result<Frame, Answer>
     })
 }
 
-// A timed order, for one of the mission four.
+// A timed order, for one of the mission four. With `order` it shares one test and one value: a function of both is no plainer.
 #[tactic(auto, unfolding(crate::specs::Reading::timed_fields, crate::specs::Reading::sender_read))]
 fn timed(bytes: &[u8]) -> Result<Frame, Answer>
     requires { length bytes.now ≡ 7 }

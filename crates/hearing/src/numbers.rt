@@ -40,6 +40,7 @@ fn past(first: u8, part: u8) -> Option<u8>
     requires { (first + four_marks < 2 ^ 8) × (0 < part) × (part ≤ four_marks) }
     ensures { result ≡ past_by four_marks first part }
 {
+    // no index is counted: a part is doubled until a bound
     let mut byte = first;
     let mut rest = part;
     while rest < FOUR_MARKS {

@@ -34,6 +34,7 @@ impl Refusal for ReadFault {
 pub fn read(units: &[u8], text: &mut [u8]) -> Result<usize, ReadFault>
     ensures { Read units.now text.old (outcome result text.new) }
 {
+    // on the stack, since there is no heap
     let mut kept = [0u8; LONGEST];
     let n = match decode(units, &mut kept) {
         Some(n) if n <= LONGEST => n,

@@ -5,7 +5,8 @@ ghost use Rattle.modules.specs.Ends.{no_ends, ends_fallen, ends_over, with_end, 
 
 use crate::groups::{ADCS, PAYLOAD, SBAND1, SBAND2};
 
-// Seconds until the module's request goes off; 0 where no end is running.
+// Seconds until the module's request goes off; 0 where no end is running. An Option would be no plainer: 0 is where a count
+// ends by itself, and what an image has. By name: an array by module number would have a place for the core modules too.
 #[derive(Clone, Copy, Default)]
 pub struct Ends {
     pub adcs: u32,

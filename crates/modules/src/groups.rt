@@ -10,6 +10,9 @@ pub const CORE: u8 = 0x27;
 // The mission four: 3 ADCS, 4 PAYLOAD, 6 SBAND1, 7 SBAND2.
 pub const MISSION: u8 = 0xD8;
 
+// A module is told by its number, and not by an enum: masks and arrays go by it, and what is asked of one answers for every
+// number, from 8 on too (`has_one`, `one_bit_one`, `one_request_one`, `with_end_one`).
+
 // ADCS, of the mission four.
 pub const ADCS: u8 = 3;
 
@@ -26,5 +29,5 @@ pub const SBAND2: u8 = 7;
 pub fn is_mission(which: u8) -> bool
     ensures { result ≡ is_mission which }
 {
-    has(MISSION, which as usize)
+    has(MISSION, usize::from(which))
 }

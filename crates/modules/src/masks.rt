@@ -58,7 +58,7 @@ impl Masks {
     fn packed(self) -> u32
         ensures { result ≡ packed_masks self }
     {
-        (self.requested as u32) + (self.on as u32) * ON + (self.failed as u32) * FAILED
+        u32::from(self.requested) + u32::from(self.on) * ON + u32::from(self.failed) * FAILED
     }
 
     // The masks with the requests of a mask's modules set to on or off, all at once.

@@ -93,8 +93,8 @@ impl Power {
                 tries: TRIES,
                 seconds,
             } => seconds == 0,
-            Power::On { tries, seconds } => (1 <= tries) & (tries <= TRIES) & (seconds < CLEAN),
-            Power::Off(tries) => (1 <= tries) & (tries <= TRIES),
+            Power::On { tries, seconds } => (1..=TRIES).contains(&tries) & (seconds < CLEAN),
+            Power::Off(tries) => (1..=TRIES).contains(&tries),
             Power::Failed(left) => left <= RETRY,
         }
     }

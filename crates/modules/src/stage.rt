@@ -35,7 +35,7 @@ pub fn has(mask: u8, i: usize) -> bool
 pub fn stage(mut modules: [Module; 8], wanted: u8, shorts: u8) -> Staged
     ensures { result ≡ staged (switched_by wanted shorts modules) }
 {
-    let mut rest = MARK + (shorts as u32);
+    let mut rest = MARK + u32::from(shorts);
     let mut want = wanted;
     let mut all: u32 = 0;
     let mut i: usize = 0;
@@ -58,7 +58,7 @@ pub fn stage(mut modules: [Module; 8], wanted: u8, shorts: u8) -> Staged
 pub fn request(mut modules: [Module; 8], mask: u8, on: bool) -> [Module; 8]
     ensures { result ≡ requested_by mask on modules }
 {
-    let mut rest = MARK + (mask as u32);
+    let mut rest = MARK + u32::from(mask);
     let mut i: usize = 0;
     while rest != 1 {
         if has(mask, i) {
@@ -76,7 +76,7 @@ pub fn request_one(mut modules: [Module; 8], which: u8, on: bool) -> [Module; 8]
     ensures { result ≡ requested_one which on modules }
 {
     if which < 8 {
-        modules[which as usize].requested = on;
+        modules[usize::from(which)].requested = on;
     }
     modules
 }

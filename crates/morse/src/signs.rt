@@ -6,7 +6,7 @@ ghost use Rattle.morse.specs.Signs.{sign_of};
 ghost use Rattle.morse.specs.SignTable.{marks_of, HasSigns, first_sign, last_sign, first_stop, last_stop};
 ghost use Rattle.morse.specs.SignTable.{figure_count, figure_marks};
 
-// A sign: its dashes as bits, the first mark lowest, and how many marks it has.
+// A sign: its dashes as bits, the first mark lowest, and how many marks it has; two bytes, in constants that fly.
 #[derive(Clone, Copy)]
 pub(crate) struct Sign {
     pub(crate) marks: u8,

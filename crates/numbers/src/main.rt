@@ -57,15 +57,15 @@ fn after_reading(state: State, millivolts: u16) -> State {
     after(state, &battery(millivolts), 1)
 }
 
-// The state after an order of the ground's for COMM2, 0 off or 1 on, and a tick.
-fn after_comm2(state: State, serial: u8, on: u8) -> State {
+// The state after an order of the ground's for COMM2, on or off, and a tick.
+fn after_comm2(state: State, serial: u8, on: bool) -> State {
     let frame = [
         Kind::Order.number(),
         Origin::Ground.number(),
         0,
         serial,
         COMM2,
-        on,
+        u8::from(on),
     ];
     after_ticks(after(state, &frame, 1), 1)
 }
@@ -125,23 +125,23 @@ fn say_both(rt: &impl Print, weaker: State, stronger: State) -> io::Result<()> {
     println!(rt)
 }
 
-// Two craft with the same frames but for one reading, at ascend on the weaker and above it on the stronger.
+// Two craft, each by its name, with the same frames but for one reading, at ascend on the weaker and above it on the stronger.
 fn say_two_craft(rt: &impl Print) -> io::Result<()> {
     let settled = after_ticks(after_deployed(fresh()), TICKS_TO_RECOVERY);
     let mut weaker = after_ticks(after_reading(settled, ASCEND), JUDGE_TICKS);
     let mut stronger = after_ticks(after_reading(settled, ASCEND + 1), JUDGE_TICKS);
     print!(rt; "COMM2 at 7400 mV and 7401 mV")?;
     say_both(rt, weaker, stronger)?;
-    weaker = after_comm2(weaker, 1, 0);
-    stronger = after_comm2(stronger, 1, 0);
+    weaker = after_comm2(weaker, 1, false);
+    stronger = after_comm2(stronger, 1, false);
     print!(rt; "COMM2 ordered off")?;
     say_both(rt, weaker, stronger)?;
     weaker = after_ticks(after_reading(weaker, ASCEND + 1), JUDGE_TICKS - 1);
     stronger = after_ticks(after_reading(stronger, ASCEND + 1), JUDGE_TICKS - 1);
     print!(rt; "COMM2 after the weaker's own upward crossing")?;
     say_both(rt, weaker, stronger)?;
-    weaker = after_comm2(weaker, 2, 1);
-    stronger = after_comm2(stronger, 2, 1);
+    weaker = after_comm2(weaker, 2, true);
+    stronger = after_comm2(stronger, 2, true);
     print!(rt; "COMM2 ordered on")?;
     say_both(rt, weaker, stronger)
 }

@@ -11,7 +11,8 @@ use frames::kind::REPORT_BYTES;
 use supervisor::state::State;
 use supervisor::step::step;
 
-// Where a pass leaves the board: the state, how many frames got a report, and why it stopped, 0 if no bytes are left.
+// Where a pass leaves the board: the state, how many frames got a report, and why it stopped, 0 if no bytes are left. No
+// Result: a pass that stops at a refusal has moved the state all the same.
 #[derive(Clone, Copy)]
 pub struct Passed {
     pub state: State,

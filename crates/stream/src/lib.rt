@@ -14,6 +14,7 @@ mod piece;
 // The room for the bytes of a piece, and that for its lines: much for each read and each write.
 const PIECE: usize = 65536;
 
+// The bytes that are read stand apart from it: they are lent to each read, in one array that is filled again and again.
 // Where a stream stands: the log, how many bytes are read and not yet used, and whether the stream has ended.
 #[derive(Clone, Copy)]
 struct Stream {
@@ -71,6 +72,7 @@ pub fn print_log<R: Read, W: Write>(from: &mut R, to: &mut W) -> io::Result<()> 
         unused: 0,
         ended: false,
     };
+    // a loop without an end would ask for a handle, and none is allowed
     for _ in 0..u64::MAX {
         let Some(next) = turn(stream, from, to, &mut bytes, &mut room)? else {
             break;

@@ -14,7 +14,8 @@ pub(crate) struct Filled {
     pub(crate) lines: usize,
 }
 
-// Enters frame after frame, as long as there is a whole one and room for its line.
+// Enters frame after frame, as long as there is a whole one and room for its line. What is counted is what it gives: the bytes
+// that are used, and those of the lines.
 pub(crate) fn fill(mut log: Log, bytes: &[u8], ended: bool, room: &mut [u8]) -> Filled
     ensures { outcome result room.new ≡ fill_of log bytes.now ended room.old }
 {

@@ -19,7 +19,7 @@ use Rattle.supervisor.specs.declared.control.Crossing.TheVariants.{Upward, Downw
 abbrev pub IsJudged : State → Type 0
 IsJudged s = s.watch.control + 1 ≡ judge_ticks
 
--- what control leaves. Level: the count stays below 30, and if the mode was judged, it crosses nothing.
+-- what control leaves. It stays: the count stays below 30, and if the mode was judged, it crosses nothing.
 -- Upward and downward: the mode was judged, and by which comparison
 pub data Controls (s : State) : Type 0 where
   level :

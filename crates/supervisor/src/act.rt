@@ -9,7 +9,8 @@ use frames::answer::Answer;
 use frames::frame::Frame;
 use frames::greeting::LONGEST;
 
-// A frame that passed checks 1 to 7, worked, with the text beside it.
+// A frame that passed checks 1 to 7, worked, with the text beside it. That the state is in range is asked and no type's: one
+// out of range is a `State` too, which `step` refuses with 1.
 #[tactic(auto, using(crate::proofs::RangeLaws::masks_true), unfolding(crate::specs::Act::act_of))]
 pub(crate) fn act(state: State, frame: Frame, text: [u8; LONGEST]) -> Acted
     requires { in_range state ≡ true }

@@ -34,7 +34,8 @@ pub struct Watch {
     pub beacon: u16,
 }
 
-// The latest reading, 0 before the first, and the two thresholds: millivolts.
+// The latest reading, 0 before the first, and the two thresholds: millivolts. An Option would be no plainer: by the rules 0 is
+// judged, shown and kept in an image as any other tension.
 #[derive(Clone, Copy)]
 pub struct Battery {
     pub tension: u16,
@@ -42,7 +43,9 @@ pub struct Battery {
     pub descend: u16,
 }
 
-// What a school has the beacon say: the beacons that it is still to be sent with, and its text, none where the length is 0.
+// What a school has the beacon say: the beacons that it is still to be sent with, and its text, none where the length is 0. No
+// Option: length 0 with repeats above 0 is in range, and an image keeps it (`load_save`). The text has its sixteen bytes beside
+// its length, since there is no heap, and an image has both.
 #[derive(Clone, Copy)]
 pub struct Message {
     pub repeats: u8,
@@ -67,7 +70,7 @@ pub struct State {
 }
 
 impl Mode {
-    // The mode by its number: 0 DEPLOY_WAIT, 1 RECOVERY, 2 SAFE.
+    // The mode by its number: 0 DEPLOY_WAIT, 1 RECOVERY, 2 SAFE. By a match, since DEPLOY_WAIT bears its phase.
     pub fn number(self) -> u8
         ensures { result ≡ mode_number self }
     {

@@ -34,9 +34,6 @@ module _ (before after : Reading) (step : ℤ) where
       by true = refl
       by false = nat_abs_neg step
 
-  pub headed_is_step : T (is_step step) → T (is_step (headed before after step))
-  headed_is_step t = subst (λ (n : ℕ). T (within 1 longest_step n)) (sym headed_size) t
-
 module _ (point : ℕ) (step : ℤ) where
   -- a move past the upper end, past the lower one, and within them
   pub moved_above : lt_z (pos most_millivolts) (pos point +ℤ step) ≡ true → moved point step ≡ done most_millivolts (neg_ℤ step)

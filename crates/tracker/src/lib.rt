@@ -43,7 +43,7 @@ impl Refusal for OutOfRange {
         16
     }
 
-    ghost is_told = { Prim.search (rules) };
+    ghost is_told = { Prim.search rules };
 }
 
 impl Reading {
@@ -58,7 +58,7 @@ impl Reading {
     fn power(self) -> u64
         ensures { result ≡ power self }
     {
-        (self.millivolts as u64) * (self.milliamperes as u64)
+        u64::from(self.millivolts) * u64::from(self.milliamperes)
     }
 }
 
@@ -75,7 +75,7 @@ impl Step {
         ensures { MatchOption result (is_step millivolts ≡ false) (λ step. step.millivolts ≡ millivolts) }
     {
         let size = millivolts.unsigned_abs();
-        if (1 <= size) & (size <= LONGEST_STEP) {
+        if (1..=LONGEST_STEP).contains(&size) {
             Some(Step { millivolts })
         } else {
             None

@@ -11,7 +11,7 @@ use Rattle.modules.proofs.stage.request.Goals as goal
 use Rattle.modules.proofs.stage.request.Goals.{then-has, else-has}
 
 pub loop-rest-init : goal.loop-rest-init
-loop-rest-init c = record { low = search rules; left = marked_none _; done = worked_none _ _ }
+loop-rest-init c = record { low = search rules; left = rw c.from-rest.ensures (marked_none _); done = worked_none _ _ }
 
 pub loop-rest-preserved : goal.loop-rest-preserved
 loop-rest-preserved c =

@@ -22,7 +22,7 @@ pub loop-rest-init : goal.loop-rest-init
 loop-rest-init c =
     record {
       low = search rules;
-      left = marked_none _;
+      left = rw c.from-rest.ensures (marked_none _);
       bits = sym (div-one _);
       done = worked_none _ _;
       gathered = sym (ap (λ (n : ℕ). n * 256) powers_none);
