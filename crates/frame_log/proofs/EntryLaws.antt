@@ -1,7 +1,7 @@
 -- Laws of entries: what an entry counts lies within the bytes and the room.
 -- Assumes nothing.
-use Rattle.std.proofs.Common.{◌≡◌, ℕ, ◌<◌, ◌≤◌, Bool, true, false, leb, Option, Some, List, length, take, replicate, Result, Ok, Err, refl, sym, le_refl, arith, length-append, length-drop, length-take-le, leb-true}
-use Rattle.basics.specs.Outcome.{Outcome, outcome, written}
+use Rattle.std.proofs.Common.{◌≡◌, ℕ, ◌+◌, ◌%◌, ◌^◌, ◌<◌, ◌≤◌, Bool, true, false, leb, List, length, take, replicate, Result, Ok, Err, refl, le_refl, arith, length-append, length-drop, length-take-le, leb-true}
+use Rattle.basics.specs.Outcome.{Outcome, outcome}
 use Rattle.basics.proofs.ChoiceLaws.{either, decided}
 use Rattle.frames.specs.Answer.{is_reported}
 use Rattle.frames.specs.Kind.{report_bytes}
@@ -27,20 +27,10 @@ Within (Last line) bytes room = line ≤ room
 Within More bytes room = Unit {0}
 Within Full bytes room = Unit {0}
 
--- what is entered where a line is placed
-goes_on_within :
-    (text room : List ℕ) (frame bytes : ℕ) (s : State) (log : Log) → length text ≤ longest → longest ≤ length room → 0 < frame → frame ≤ bytes →
-    Within (goes_on (placed text room).result frame s log).entry bytes (length room)
+count_within : (text room : List ℕ) → length text ≤ longest → longest ≤ length room → (placed text room).result ≤ length room
 unfolding placed
-goes_on_within text room frame bytes s log h l some fits =
-    either (λ (o : Outcome (Option ℕ)). Within (goes_on o.result frame s log).entry bytes (length room)) (leb longest (length room))
-    {x = outcome (Some (length text)) (written text room)} (some, fits, omega arith) tt
-
-ends_within : (text room : List ℕ) (bytes : ℕ) (log : Log) → length text ≤ longest → longest ≤ length room → Within (ends (placed text room).result log).entry bytes (length room)
-unfolding placed
-ends_within text room bytes log h l =
-    either (λ (o : Outcome (Option ℕ)). Within (ends o.result log).entry bytes (length room)) (leb longest (length room))
-    {x = outcome (Some (length text)) (written text room)} (omega arith) tt
+count_within text room h l =
+    either (λ (o : Outcome ℕ). o.result ≤ length room) (leb longest (length room)) (omega arith) (omega arith)
 
 module _ (log : Log) (room : List ℕ) (fits : longest ≤ length room) where
   printed_within :
@@ -48,10 +38,10 @@ module _ (log : Log) (room : List ℕ) (fits : longest ≤ length room) where
       Within (printed answer s report log frame room).result.entry bytes (length room)
   printed_within answer s report frame bytes some h =
       either (λ (o : Outcome Entered). Within o.result.entry bytes (length room)) (is_reported answer)
-      {x = let line = placed (line_of log.n report) room in outcome (goes_on line.result (length frame) s log) line.room}
-      {y = let line = placed (refused_line log.n answer) room in outcome (ends line.result log) line.room}
-      (goes_on_within (line_of log.n report) room (length frame) bytes s log (length_line _ _) fits some h)
-      (ends_within (refused_line log.n answer) room bytes log (length_refused _ _) fits)
+      {x = goes_on (placed (line_of log.n report) room) (length frame) s log}
+      {y = ends (placed (refused_line log.n answer) room) log}
+      (some, h, count_within _ room (length_line _ _) fits)
+      (count_within _ room (length_refused _ _) fits)
 
   worked_within : (frame : List ℕ) (bytes : ℕ) → 0 < length frame → length frame ≤ bytes → Within (worked log frame room).result.entry bytes (length room)
   unfolding worked
@@ -80,15 +70,15 @@ enter_within log bytes ended room =
 placed_length : (text room : List ℕ) → length text ≤ longest → length (placed text room).room ≡ length room
 unfolding placed
 placed_length text room h =
-    decided (λ (o : Outcome (Option ℕ)). length o.room ≡ length room) (leb longest (length room))
+    decided (λ (o : Outcome ℕ). length o.room ≡ length room) (leb longest (length room))
     (λ t. rw (length-append, length-drop) (omega (arith, leb-true longest (length room) t))) (λ t. refl)
 
 module _ (log : Log) (room : List ℕ) where
   printed_length : (answer : Answer) (s : State) (report frame : List ℕ) → length (printed answer s report log frame room).room ≡ length room
   printed_length answer s report frame =
       either (λ (o : Outcome Entered). length o.room ≡ length room) (is_reported answer)
-      {x = let line = placed (line_of log.n report) room in outcome (goes_on line.result (length frame) s log) line.room}
-      {y = let line = placed (refused_line log.n answer) room in outcome (ends line.result log) line.room}
+      {x = goes_on (placed (line_of log.n report) room) (length frame) s log}
+      {y = ends (placed (refused_line log.n answer) room) log}
       (placed_length _ room (length_line _ _)) (placed_length _ room (length_refused _ _))
 
   worked_length : (frame : List ℕ) → length (worked log frame room).room ≡ length room
@@ -110,9 +100,21 @@ enter_length log bytes ended room =
     either (λ (o : Outcome Entered). length o.room ≡ length room) (leb longest (length room))
     {x = entered_at (cut_of bytes) log bytes ended room} (entered_length log room (cut_of bytes) bytes ended) refl
 
--- a whole frame at the front has all its bytes
-pub frame_whole : (bytes : List ℕ) (total : ℕ) → cut_of bytes ≡ Ok total → total ≡ length (take total bytes)
-frame_whole bytes total e = sym (length-take-le total bytes (rw e at (cut_within bytes)).1)
+-- what a step leaves is printed: a line, or a refusal
+module _ (answer : Answer) (s : State) (report : List ℕ) (log : Log) (frame room : List ℕ) (count : ℕ) (later : List ℕ) where
+  pub printed_line :
+      (n : ℕ) → is_reported answer ≡ true → outcome count later ≡ placed (line_of log.n report) room → n ≡ (log.n + 1) % 2 ^ 64 →
+      outcome (record { entry = Line (length frame) count; log = record { state = s; n = n } }) later ≡ printed answer s report log frame room
+  printed_line n t w e = rw (t, ← w, e)
+
+  pub printed_refusal :
+      is_reported answer ≡ false → outcome count later ≡ placed (refused_line log.n answer) room →
+      outcome (record { entry = Last count; log = log }) later ≡ printed answer s report log frame room
+  printed_refusal t w = rw (t, ← w)
+
+-- a whole frame at the front
+pub frame_within : (bytes : List ℕ) (total : ℕ) → cut_of bytes ≡ Ok total → total ≤ length bytes
+frame_within bytes total e = (rw e at (cut_within bytes)).1
 
 -- what an entry counts, where the stream and the room are parts
 module _ (log : Log) (bytes : List ℕ) (ended : Bool) (room : List ℕ) {entered : Entered} {later : List ℕ} where

@@ -1,7 +1,7 @@
 // The log's next entry: the frame at the front of a stream, worked, and its line.
 ghost use Rattle.std.specs.Prelude.{◌≡◌};
 ghost use Rattle.basics.specs.Outcome.{outcome};
-ghost use Rattle.frame_log.specs.Entry.{fresh_log, entered, worked, enter_of};
+ghost use Rattle.frame_log.specs.Entry.{fresh_log, worked, enter_of};
 
 use crate::line::{LONGEST, line, refused};
 use frames::cut::{Uncut, cut};
@@ -36,17 +36,7 @@ pub struct Entered {
     pub log: Log,
 }
 
-impl Log {
-    // An entry that leaves the log where it is.
-    fn stays(self, entry: Entry) -> Entered
-        ensures { result ≡ entered entry self }
-    {
-        Entered { entry, log: self }
-    }
-}
-
 // A log that has no line yet.
-#[tactic(auto, unfolding(crate::specs::Entry::fresh_log))]
 pub fn fresh() -> Log
     ensures { result ≡ fresh_log }
 {
@@ -57,46 +47,59 @@ pub fn fresh() -> Log
 }
 
 // Works a frame and writes its line.
-#[tactic(auto, unfolding(crate::specs::Entry::worked))]
 fn work(log: Log, frame: &[u8], room: &mut [u8]) -> Entered
     ensures { outcome result room.new ≡ worked log frame.now room.old }
 {
-    let mut report = [0; REPORT_BYTES];
+    let mut report = [0u8; REPORT_BYTES];
     let stepped = step(log.state, frame, &mut report);
-    if !stepped.answer.is_reported() {
-        return match refused(log.n, stepped.answer, room) {
-            Some(line) => log.stays(Entry::Last(line)),
-            None => log.stays(Entry::Full),
-        };
-    }
-    match line(log.n, &report, room) {
-        Some(line) => Entered {
+    let answer = stepped.answer;
+    if answer.is_reported() {
+        let state = stepped.state;
+        return Entered {
             entry: Entry::Line {
                 frame: frame.len(),
-                line,
+                line: line(log.n, &report, room),
             },
             log: Log {
-                state: stepped.state,
+                state,
                 n: log.n.wrapping_add(1),
             },
-        },
-        None => log.stays(Entry::Full),
+        };
+    }
+    Entered {
+        entry: Entry::Last(refused(log.n, answer, room)),
+        log,
     }
 }
 
 // Enters the frame at the front of the bytes, which are the last of the stream if it has ended. A frame that is
 // cut off there, like one of unknown kind, is handed over as it is, to be refused.
-#[tactic(auto, using(crate::proofs::EntryLaws::frame_whole), unfolding(crate::specs::Entry::enter_of))]
+#[tactic(auto, using(crate::proofs::EntryLaws::frame_within), unfolding(crate::specs::Entry::enter_of))]
 pub fn enter(log: Log, bytes: &[u8], ended: bool, room: &mut [u8]) -> Entered
     ensures { outcome result room.new ≡ enter_of log bytes.now ended room.old }
 {
     if room.len() < LONGEST {
-        return log.stays(Entry::Full);
+        return Entered {
+            entry: Entry::Full,
+            log,
+        };
     }
     match cut(bytes) {
-        Ok(total) => work(log, &bytes[..total], room),
+        Ok(total) => work(log, &bytes[0..total], room),
         Err(Uncut::Unknown) => work(log, bytes, room),
-        Err(Uncut::Short) if ended => work(log, bytes, room),
-        Err(Uncut::Short | Uncut::Empty) => log.stays(Entry::More),
+        Err(Uncut::Short) => {
+            if ended {
+                work(log, bytes, room)
+            } else {
+                Entered {
+                    entry: Entry::More,
+                    log,
+                }
+            }
+        }
+        Err(Uncut::Empty) => Entered {
+            entry: Entry::More,
+            log,
+        },
     }
 }

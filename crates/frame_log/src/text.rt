@@ -1,49 +1,107 @@
-// A line's text as it is made, and the parts of a line, each put at its end.
-ghost use Rattle.std.specs.Prelude.{◌≡◌, ◌+◌, ◌≤◌, ◌++◌, length};
-ghost use Rattle.arrayvec.specs.ArrayVec.{array_vec_len};
-ghost use Rattle.frame_log.specs.Text.{decimal, hex, spaced, most_digits, most_decimal, most_hex, Put};
-ghost use Rattle.frame_log.specs.Line.{longest};
+// The parts of a line, each stored in a room from a place on. Each call gives the place after what it stored.
+ghost use Rattle.std.specs.Prelude.{◌≡◌, ◌+◌, ◌<◌, ◌≤◌, length, take};
+ghost use Rattle.basics.specs.Choice.{word};
+ghost use Rattle.basics.specs.Bytes.{hex_digit};
+ghost use Rattle.frame_log.specs.Text.{most_digits, digit_count_up_to, decimal, hex, spaced};
+ghost use Rattle.frame_log.specs.Text.{most_decimal, most_hex, Put, PutText};
 
-use crate::line::LONGEST;
-use arrayvec::ArrayVec;
-use basics::hex_digit;
-use itoa::Buffer;
+// The decimal digits of the largest number of 64 bits.
+pub(crate) const MOST_DIGITS: usize = 20;
 
-// A line as it is made: it has place for every one.
-pub(crate) type Text = ArrayVec<u8, LONGEST>;
+// At most so many bytes for a space and a number in decimal.
+pub(crate) const MOST_DECIMAL: usize = 1 + MOST_DIGITS;
+
+// So many bytes for a space and a byte in hex.
+pub(crate) const MOST_HEX: usize = 3;
 
 // Bytes as they are.
-pub(crate) fn put_bytes(text: &mut Text, bytes: &[u8])
-    requires { array_vec_len text.old + length bytes.now ≤ longest }
-    ensures { Put bytes.now (length bytes.now) text.old text.new }
+pub(crate) fn put_bytes(room: &mut [u8], at: usize, text: &[u8]) -> usize
+    requires { at + length text.now ≤ length room.old }
+    ensures { PutText text.now at room.old result room.new }
 {
-    text.try_extend_from_slice(bytes).unwrap()
+    at + basics::copy(text, &mut room[at..])
+}
+
+// How many decimal digits a number has.
+fn digit_count(n: u64) -> usize
+    ensures { result ≡ digit_count_up_to 19 n }
+{
+    let mut rest = n;
+    for count in 1..MOST_DIGITS {
+        if rest < 10 {
+            return count;
+        }
+        rest /= 10;
+    }
+    MOST_DIGITS
+}
+
+// Puts the decimal digits of a number at the front, and gives how many they are.
+fn decimal(n: u64, digits: &mut [u8; MOST_DIGITS]) -> usize
+    ensures within { result ≤ most_digits }
+    ensures text { take result digits.new ≡ decimal n }
+{
+    let count = digit_count(n);
+    let mut rest = n;
+    let mut i = count;
+    while 0 < i {
+        i -= 1;
+        digits[i] = b'0' + (rest % 10) as u8;
+        rest /= 10;
+    }
+    count
 }
 
 // A number in decimal.
-#[tactic(auto, using(crate::proofs::TextLaws::decimal_law))]
-pub(crate) fn put_decimal(text: &mut Text, n: u64)
-    requires { array_vec_len text.old + most_digits ≤ longest }
-    ensures { Put (decimal n) most_digits text.old text.new }
+pub(crate) fn put_decimal(room: &mut [u8], at: usize, n: u64) -> usize
+    requires { at + most_digits ≤ length room.old }
+    ensures { Put (decimal n) most_digits at room.old result room.new }
 {
-    put_bytes(text, Buffer::new().format(n).as_bytes())
+    let mut digits = [0u8; MOST_DIGITS];
+    let k = decimal(n, &mut digits);
+    put_bytes(room, at, &digits[0..k])
+}
+
+// The hex digit of a number below 16, in upper case.
+fn hex_digit(d: u8) -> u8
+    requires { d < 16 }
+    ensures { result ≡ hex_digit d }
+{
+    if d < 10 { b'0' + d } else { b'A' + (d - 10) }
 }
 
 // A space and a number in decimal.
-#[tactic(auto, unfolding(crate::specs::Text::spaced))]
-pub(crate) fn put_number(text: &mut Text, n: u64)
-    requires { array_vec_len text.old + most_decimal ≤ longest }
-    ensures { Put (spaced (decimal n)) most_decimal text.old text.new }
+fn put_spaced(room: &mut [u8], at: usize, n: u64) -> usize
+    requires { at + most_decimal ≤ length room.old }
+    ensures { Put (spaced (decimal n)) most_decimal at room.old result room.new }
 {
-    text.push(b' ');
-    put_decimal(text, n)
+    room[at] = b' ';
+    put_decimal(room, at + 1, n)
 }
 
-// A space and a byte as two hex digits, in upper case.
-#[tactic(auto, unfolding(crate::specs::Text::spaced, crate::specs::Text::hex))]
-pub(crate) fn put_hex(text: &mut Text, byte: u8)
-    requires { array_vec_len text.old + most_hex ≤ longest }
-    ensures { Put (spaced (hex byte)) most_hex text.old text.new }
+// A space and a byte in decimal.
+pub(crate) fn put_byte(room: &mut [u8], at: usize, byte: u8) -> usize
+    requires { at + most_decimal ≤ length room.old }
+    ensures { Put (spaced (decimal byte)) most_decimal at room.old result room.new }
 {
-    put_bytes(text, &[b' ', hex_digit(byte / 16), hex_digit(byte % 16)])
+    put_spaced(room, at, byte as u64)
+}
+
+// A space and a two-byte number, its high byte first, in decimal.
+pub(crate) fn put_word(room: &mut [u8], at: usize, high: u8, low: u8) -> usize
+    requires { at + most_decimal ≤ length room.old }
+    ensures { Put (spaced (decimal (word high low))) most_decimal at room.old result room.new }
+{
+    put_spaced(room, at, (high as u64) * 256 + (low as u64))
+}
+
+// A space and a byte as two hex digits.
+pub(crate) fn put_hex(room: &mut [u8], at: usize, byte: u8) -> usize
+    requires { at + most_hex ≤ length room.old }
+    ensures { Put (spaced (hex byte)) most_hex at room.old result room.new }
+{
+    room[at] = b' ';
+    room[at + 1] = hex_digit(byte / 16);
+    room[at + 2] = hex_digit(byte % 16);
+    at + MOST_HEX
 }
