@@ -1,9 +1,10 @@
 // The parts of a line, each stored in a room from a place on. Each call gives the place after what it stored.
 ghost use Rattle.std.specs.Prelude.{◌≡◌, ◌+◌, ◌<◌, ◌≤◌, length, take};
 ghost use Rattle.basics.specs.Choice.{word};
-ghost use Rattle.basics.specs.Bytes.{hex_digit};
 ghost use Rattle.frame_log.specs.Text.{most_digits, digit_count_up_to, decimal, hex, spaced};
 ghost use Rattle.frame_log.specs.Text.{most_decimal, most_hex, Put, PutText};
+
+use basics::{copy, hex_digit};
 
 // The decimal digits of the largest number of 64 bits.
 pub(crate) const MOST_DIGITS: usize = 20;
@@ -19,12 +20,13 @@ pub(crate) fn put_bytes(room: &mut [u8], at: usize, text: &[u8]) -> usize
     requires { at + length text.now ≤ length room.old }
     ensures { PutText text.now at room.old result room.new }
 {
-    at + basics::copy(text, &mut room[at..])
+    at + copy(text, &mut room[at..])
 }
 
 // How many decimal digits a number has.
 fn digit_count(n: u64) -> usize
-    ensures { result ≡ digit_count_up_to 19 n }
+    ensures within { result ≤ most_digits }
+    ensures count { result ≡ digit_count_up_to 19 n }
 {
     let mut rest = n;
     for count in 1..MOST_DIGITS {
@@ -43,9 +45,7 @@ fn decimal(n: u64, digits: &mut [u8; MOST_DIGITS]) -> usize
 {
     let count = digit_count(n);
     let mut rest = n;
-    let mut i = count;
-    while 0 < i {
-        i -= 1;
+    for i in (0..count).rev() {
         digits[i] = b'0' + (rest % 10) as u8;
         rest /= 10;
     }
@@ -62,14 +62,6 @@ pub(crate) fn put_decimal(room: &mut [u8], at: usize, n: u64) -> usize
     put_bytes(room, at, &digits[0..k])
 }
 
-// The hex digit of a number below 16, in upper case.
-fn hex_digit(d: u8) -> u8
-    requires { d < 16 }
-    ensures { result ≡ hex_digit d }
-{
-    if d < 10 { b'0' + d } else { b'A' + (d - 10) }
-}
-
 // A space and a number in decimal.
 fn put_spaced(room: &mut [u8], at: usize, n: u64) -> usize
     requires { at + most_decimal ≤ length room.old }
@@ -84,7 +76,7 @@ pub(crate) fn put_byte(room: &mut [u8], at: usize, byte: u8) -> usize
     requires { at + most_decimal ≤ length room.old }
     ensures { Put (spaced (decimal byte)) most_decimal at room.old result room.new }
 {
-    put_spaced(room, at, byte as u64)
+    put_spaced(room, at, u64::from(byte))
 }
 
 // A space and a two-byte number, its high byte first, in decimal.
@@ -92,16 +84,14 @@ pub(crate) fn put_word(room: &mut [u8], at: usize, high: u8, low: u8) -> usize
     requires { at + most_decimal ≤ length room.old }
     ensures { Put (spaced (decimal (word high low))) most_decimal at room.old result room.new }
 {
-    put_spaced(room, at, (high as u64) * 256 + (low as u64))
+    put_spaced(room, at, u64::from(u16::from_be_bytes([high, low])))
 }
 
 // A space and a byte as two hex digits.
+#[tactic(auto, unfolding(crate::specs::Text::spaced, crate::specs::Text::hex))]
 pub(crate) fn put_hex(room: &mut [u8], at: usize, byte: u8) -> usize
     requires { at + most_hex ≤ length room.old }
     ensures { Put (spaced (hex byte)) most_hex at room.old result room.new }
 {
-    room[at] = b' ';
-    room[at + 1] = hex_digit(byte / 16);
-    room[at + 2] = hex_digit(byte % 16);
-    at + MOST_HEX
+    put_bytes(room, at, &[b' ', hex_digit(byte / 16), hex_digit(byte % 16)])
 }

@@ -4,8 +4,8 @@ use Rattle.frame_log.specs.Text.{digit_count_up_to}
 use Rattle.frame_log.proofs.TextLaws.{one_digit, more_digits}
 use Rattle.frame_log.proofs.text.digit_count.Goals as goal
 
-pub returns-then-rest-lt10 : goal.returns-then-rest-lt10
-returns-then-rest-lt10 c =
+pub returns-then-rest-lt10-clause-count : goal.returns-then-rest-lt10-clause-count
+returns-then-rest-lt10-clause-count c =
     let l = c.loop-count in
     omega (arith, one_digit (20 - l.count) l.rest c.if-rest-lt10.true)
 
@@ -16,8 +16,8 @@ loop-count-preserved c =
     let e : 20 - l.count ≡ suc more = omega arith in
     omega (arith, rw e at l.invariant, more_digits more l.rest c.if-rest-lt10.false)
 
-pub returns : goal.returns
+pub returns-clause-count : goal.returns-clause-count
 unfolding digit_count_up_to
-returns c =
+returns-clause-count c =
     let e : c.loop-count.count ≡ 20 = omega arith in
     omega (arith, rw e at c.loop-count.invariant)
