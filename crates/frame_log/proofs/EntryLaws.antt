@@ -1,6 +1,6 @@
 -- Laws of entries: what an entry counts lies within the bytes and the room.
 -- Assumes nothing.
-use Rattle.std.proofs.Common.{◌≡◌, ℕ, ◌+◌, ◌%◌, ◌^◌, ◌<◌, ◌≤◌, Bool, true, false, leb, List, length, take, replicate, Result, Ok, Err, refl, le_refl, arith, length-append, length-drop, length-take-le, leb-true}
+use Rattle.std.proofs.Common.{◌≡◌, ℕ, ◌<◌, ◌≤◌, Bool, true, false, leb, Option, unwrap_or, List, length, take, replicate, Result, Ok, Err, refl, sym, le_refl, arith, length-append, length-drop, length-take-le, leb-true}
 use Rattle.basics.specs.Outcome.{Outcome, outcome}
 use Rattle.basics.proofs.ChoiceLaws.{either, decided}
 use Rattle.frames.specs.Answer.{is_reported}
@@ -27,10 +27,10 @@ Within (Last line) bytes room = line ≤ room
 Within More bytes room = Unit {0}
 Within Full bytes room = Unit {0}
 
-count_within : (text room : List ℕ) → length text ≤ longest → longest ≤ length room → (placed text room).result ≤ length room
+count_within : (text room : List ℕ) → length text ≤ longest → longest ≤ length room → unwrap_or (placed text room).result 0 ≤ length room
 unfolding placed
 count_within text room h l =
-    either (λ (o : Outcome ℕ). o.result ≤ length room) (leb longest (length room)) (omega arith) (omega arith)
+    either (λ (o : Outcome (Option ℕ)). unwrap_or o.result 0 ≤ length room) (leb longest (length room)) (omega arith) (omega arith)
 
 module _ (log : Log) (room : List ℕ) (fits : longest ≤ length room) where
   printed_within :
@@ -70,7 +70,7 @@ enter_within log bytes ended room =
 placed_length : (text room : List ℕ) → length text ≤ longest → length (placed text room).room ≡ length room
 unfolding placed
 placed_length text room h =
-    decided (λ (o : Outcome ℕ). length o.room ≡ length room) (leb longest (length room))
+    decided (λ (o : Outcome (Option ℕ)). length o.room ≡ length room) (leb longest (length room))
     (λ t. rw (length-append, length-drop) (omega (arith, leb-true longest (length room) t))) (λ t. refl)
 
 module _ (log : Log) (room : List ℕ) where
@@ -100,21 +100,9 @@ enter_length log bytes ended room =
     either (λ (o : Outcome Entered). length o.room ≡ length room) (leb longest (length room))
     {x = entered_at (cut_of bytes) log bytes ended room} (entered_length log room (cut_of bytes) bytes ended) refl
 
--- what a step leaves is printed: a line, or a refusal
-module _ (answer : Answer) (s : State) (report : List ℕ) (log : Log) (frame room : List ℕ) (count : ℕ) (later : List ℕ) where
-  pub printed_line :
-      (n : ℕ) → is_reported answer ≡ true → outcome count later ≡ placed (line_of log.n report) room → n ≡ (log.n + 1) % 2 ^ 64 →
-      outcome (record { entry = Line (length frame) count; log = record { state = s; n = n } }) later ≡ printed answer s report log frame room
-  printed_line n t w e = rw (t, ← w, e)
-
-  pub printed_refusal :
-      is_reported answer ≡ false → outcome count later ≡ placed (refused_line log.n answer) room →
-      outcome (record { entry = Last count; log = log }) later ≡ printed answer s report log frame room
-  printed_refusal t w = rw (t, ← w)
-
--- a whole frame at the front
-pub frame_within : (bytes : List ℕ) (total : ℕ) → cut_of bytes ≡ Ok total → total ≤ length bytes
-frame_within bytes total e = (rw e at (cut_within bytes)).1
+-- a whole frame at the front has all its bytes
+pub frame_whole : (bytes : List ℕ) (total : ℕ) → cut_of bytes ≡ Ok total → total ≡ length (take total bytes)
+frame_whole bytes total e = sym (length-take-le total bytes (rw e at (cut_within bytes)).1)
 
 -- what an entry counts, where the stream and the room are parts
 module _ (log : Log) (bytes : List ℕ) (ended : Bool) (room : List ℕ) {entered : Entered} {later : List ℕ} where

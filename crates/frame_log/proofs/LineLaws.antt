@@ -1,6 +1,6 @@
 -- Laws of lines: none is longer than the room that every line has its place in, and a line is stored from the room's front.
 -- Assumes nothing.
-use Rattle.std.proofs.Common.{◌≡◌, ℕ, ◌<◌, ◌≤◌, List, length, zero-add, arith, length-append, le-leb}
+use Rattle.std.proofs.Common.{◌≡◌, ℕ, ◌<◌, ◌≤◌, Some, None, List, length, zero-add, arith, length-append, le-leb}
 use borrow.Author.Tests.{lt-leb}
 use Rattle.basics.specs.Outcome.{outcome}
 use Rattle.basics.proofs.Stores.{sets_front}
@@ -12,14 +12,14 @@ use Rattle.frame_log.specs.Line.{line_of, refused_line, longest, placed}
 use Rattle.frame_log.proofs.TextLaws.{length_decimal, length_hex, length_spaced}
 
 -- a text that was stored is placed
-pub placed_text : {text room later : List ℕ} {count most : ℕ} → longest ≤ length room → most ≤ longest → Put text most 0 room count later → outcome count later ≡ placed text room
+pub placed_text : {text room later : List ℕ} {count most : ℕ} → longest ≤ length room → most ≤ longest → Put text most 0 room count later → outcome (Some count) later ≡ placed text room
 unfolding placed
 placed_text {text} {room} h m p =
     let e : _ ≡ length text = rw zero-add at p.after in
     simp (le-leb longest (length room) h, e, p.stored, sets_front text room (omega (arith, p.near)))
 
 -- a room that is too short stays as it is
-pub placed_short : (text room : List ℕ) → length room < longest → outcome 0 room ≡ placed text room
+pub placed_short : (text room : List ℕ) → length room < longest → outcome None room ≡ placed text room
 unfolding placed
 placed_short text room h = simp (lt-leb longest (length room) h)
 

@@ -1,6 +1,6 @@
 -- The log's next entry: the frame at the front of a stream, worked, and its line.
 -- Assumes nothing.
-use Rattle.std.specs.Prelude.{ℕ, ◌+◌, ◌%◌, ◌^◌, Bool, List, length, take, replicate, nat_le, Result, Ok, Err}
+use Rattle.std.specs.Prelude.{ℕ, ◌+◌, ◌%◌, ◌^◌, Bool, List, length, take, replicate, nat_le, Option, Result, Ok, Err, unwrap_or}
 use Rattle.basics.specs.Choice.{when◌then◌else◌}
 use Rattle.basics.specs.Outcome.{Outcome, outcome}
 use Rattle.frames.specs.Answer.{is_reported}
@@ -23,18 +23,18 @@ use Rattle.frame_log.specs.declared.entry.Entry.TheVariants as entry
 unfoldable pub fresh_log : Log
 fresh_log = record { state = fresh_state; n = 1 }
 
--- an entry, where the log stands after it, and the room
-abbrev entered : Entry → Log → (room : List ℕ) → Outcome Entered
-entered e log room = outcome (record { entry = e; log = log }) room
+-- an entry, and where the log stands after it
+abbrev pub entered : Entry → Log → Entered
+entered e log = record { entry = e; log = log }
 
 -- a line for a frame: the log goes on, in the next state and with the next n (of 64 bits)
-abbrev pub goes_on : (line : Outcome ℕ) (frame : ℕ) → State → Log → Outcome Entered
+abbrev pub goes_on : (line : Outcome (Option ℕ)) (frame : ℕ) → State → Log → Outcome Entered
 goes_on line frame s log =
-    entered (entry.Line frame line.result) (record { state = s; n = (log.n + 1) % 2 ^ 64 }) line.room
+    outcome (entered (entry.Line frame (unwrap_or line.result 0)) (record { state = s; n = (log.n + 1) % 2 ^ 64 })) line.room
 
 -- a line that says that the frame is refused: the log ends
-abbrev pub ends : (line : Outcome ℕ) → Log → Outcome Entered
-ends line log = entered (entry.Last line.result) log line.room
+abbrev pub ends : (line : Outcome (Option ℕ)) → Log → Outcome Entered
+ends line log = outcome (entered (entry.Last (unwrap_or line.result 0)) log) line.room
 
 -- what is printed of a step's answer, next state and report
 abbrev pub printed : Answer → State → (report : List ℕ) → Log → (frame room : List ℕ) → Outcome Entered
@@ -55,10 +55,12 @@ worked log frame room = printed_step (step_of log.state frame (replicate report_
 abbrev pub entered_at : Result ℕ Uncut → Log → (bytes : List ℕ) (ended : Bool) (room : List ℕ) → Outcome Entered
 entered_at (Ok total) log bytes ended room = worked log (take total bytes) room
 entered_at (Err uncut.Unknown) log bytes ended room = worked log bytes room
-entered_at (Err uncut.Short) log bytes ended room = when ended then worked log bytes room else entered entry.More log room
-entered_at (Err uncut.Empty) log bytes ended room = entered entry.More log room
+entered_at (Err uncut.Short) log bytes ended room =
+    when ended then worked log bytes room else outcome (entered entry.More log) room
+entered_at (Err uncut.Empty) log bytes ended room = outcome (entered entry.More log) room
 
 -- the frame at the front of the bytes is entered, where the room has place for every line
 unfoldable pub enter_of : Log → (bytes : List ℕ) (ended : Bool) (room : List ℕ) → Outcome Entered
 enter_of log bytes ended room =
-    when nat_le longest (length room) then entered_at (cut_of bytes) log bytes ended room else entered entry.Full log room
+    when nat_le longest (length room) then entered_at (cut_of bytes) log bytes ended room
+    else outcome (entered entry.Full log) room

@@ -1,6 +1,6 @@
 -- A line of the log.
 -- Assumes nothing.
-use Rattle.std.specs.Prelude.{ℕ, ◌+◌, ◌*◌, List, [], ◌∷◌, ◌++◌, length, nat_le}
+use Rattle.std.specs.Prelude.{ℕ, ◌+◌, ◌*◌, List, [], ◌∷◌, ◌++◌, length, nat_le, Option, Some, None}
 use Rattle.basics.specs.Choice.{when◌then◌else◌}
 use Rattle.basics.specs.Outcome.{Outcome, outcome, written}
 use Rattle.frames.specs.Answer.{answer_number}
@@ -62,7 +62,7 @@ abbrev pub longest : ℕ
 longest = most_digits + most_head + most_answer + most_masks + most_decimal + 1
 
 -- a line at the front of a room, and how long it is; a room that is too short stays as it is
-unfoldable pub placed : (text room : List ℕ) → Outcome ℕ
+unfoldable pub placed : (text room : List ℕ) → Outcome (Option ℕ)
 placed text room =
-    when nat_le longest (length room) then outcome (length text) (written text room)
-    else outcome 0 room
+    when nat_le longest (length room) then outcome (Some (length text)) (written text room)
+    else outcome None room

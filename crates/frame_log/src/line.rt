@@ -44,12 +44,12 @@ fn put_masks(room: &mut [u8], at: usize, report: &[u8; REPORT_BYTES]) -> usize
 }
 
 // Writes the line of frame n, whose report is given, at the front of the room, and gives its length.
-// A room shorter than LONGEST stays as it is, and the length is 0.
-pub fn line(n: u64, report: &[u8; REPORT_BYTES], room: &mut [u8]) -> usize
+// A room shorter than LONGEST stays as it is.
+pub fn line(n: u64, report: &[u8; REPORT_BYTES], room: &mut [u8]) -> Option<usize>
     ensures { outcome result room.new ≡ placed (line_of n report.now) room.old }
 {
     if room.len() < LONGEST {
-        return 0;
+        return None;
     }
     let mut at = put_decimal(room, 0, n);
     at = put_head(room, at, report);
@@ -57,19 +57,19 @@ pub fn line(n: u64, report: &[u8; REPORT_BYTES], room: &mut [u8]) -> usize
     at = put_masks(room, at, report);
     at = put_byte(room, at, report[10]);
     room[at] = b'\n';
-    at + 1
+    Some(at + 1)
 }
 
 // Writes the line that says that frame n is refused, likewise.
-pub fn refused(n: u64, answer: Answer, room: &mut [u8]) -> usize
+pub fn refused(n: u64, answer: Answer, room: &mut [u8]) -> Option<usize>
     ensures { outcome result room.new ≡ placed (refused_line n answer) room.old }
 {
     if room.len() < LONGEST {
-        return 0;
+        return None;
     }
     let mut at = put_decimal(room, 0, n);
     at = put_bytes(room, at, b" refused");
     at = put_byte(room, at, answer.number());
     room[at] = b'\n';
-    at + 1
+    Some(at + 1)
 }

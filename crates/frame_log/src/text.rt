@@ -93,5 +93,9 @@ pub(crate) fn put_hex(room: &mut [u8], at: usize, byte: u8) -> usize
     requires { at + most_hex ≤ length room.old }
     ensures { Put (spaced (hex byte)) most_hex at room.old result room.new }
 {
-    put_bytes(room, at, &[b' ', hex_digit(byte / 16), hex_digit(byte % 16)])
+    put_bytes(
+        room,
+        at,
+        &[b' ', hex_digit(byte / 16), hex_digit(byte % 16)],
+    )
 }
