@@ -17,24 +17,21 @@ columns (column ∷ more) = spaced column ++ columns more
 abbrev newline : List ℕ
 newline = 10 ∷ []
 
--- kind origin serial
-abbrev pub head_text : (report : List ℕ) → List ℕ
-head_text report = columns (hex (byte_at 1 report) ∷ decimal (byte_at 2 report) ∷ decimal (word_at 3 report) ∷ [])
-
--- answer mode
-abbrev pub answer_text : (report : List ℕ) → List ℕ
-answer_text report = columns (decimal (byte_at 5 report) ∷ decimal (byte_at 6 report) ∷ [])
-
--- requested on failed
-abbrev pub mask_text : (report : List ℕ) → List ℕ
-mask_text report = columns (hex (byte_at 7 report) ∷ hex (byte_at 8 report) ∷ hex (byte_at 9 report) ∷ [])
-
 -- n kind origin serial answer mode requested on failed beacon:
 -- kind and masks are two upper-case hex digits, the rest are decimal
 unfoldable pub line_of : (n : ℕ) (report : List ℕ) → List ℕ
 line_of n report =
-    decimal n ++ (head_text report ++ (answer_text report ++ (mask_text report
-    ++ (spaced (decimal (byte_at 10 report)) ++ newline))))
+    decimal n ++ (columns (
+    hex (byte_at 1 report)
+    ∷ decimal (byte_at 2 report)
+    ∷ decimal (word_at 3 report)
+    ∷ decimal (byte_at 5 report)
+    ∷ decimal (byte_at 6 report)
+    ∷ hex (byte_at 7 report)
+    ∷ hex (byte_at 8 report)
+    ∷ hex (byte_at 9 report)
+    ∷ decimal (byte_at 10 report)
+    ∷ []) ++ newline)
 
 -- "refused"
 abbrev refused_text : List ℕ
@@ -45,21 +42,9 @@ unfoldable pub refused_line : (n : ℕ) → Answer → List ℕ
 refused_line n answer =
     decimal n ++ (spaced refused_text ++ (spaced (decimal (answer_number answer)) ++ newline))
 
--- at most so many bytes for kind, origin and serial
-abbrev pub most_head : ℕ
-most_head = most_hex + 2 * most_decimal
-
--- for answer and mode
-abbrev pub most_answer : ℕ
-most_answer = 2 * most_decimal
-
--- for the masks
-abbrev pub most_masks : ℕ
-most_masks = 3 * most_hex
-
 -- a room of so many bytes has place for every line: n, the nine columns, a newline
 abbrev pub longest : ℕ
-longest = most_digits + most_head + most_answer + most_masks + most_decimal + 1
+longest = most_digits + 4 * most_hex + 5 * most_decimal + 1
 
 -- a line at the front of a room, and how long it is; a room that is too short stays as it is
 unfoldable pub placed : (text room : List ℕ) → Outcome (Option ℕ)

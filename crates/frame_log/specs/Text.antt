@@ -1,7 +1,6 @@
--- Numbers as text, in ASCII, and text stored in a room.
+-- Numbers as text, in ASCII, and text that is put at the end of a line.
 -- Assumes nothing.
 use Rattle.std.specs.Prelude.{◌≡◌, ℕ, zero, suc, ◌+◌, ◌/◌, ◌%◌, ◌≤◌, List, [], ◌∷◌, ◌++◌, length, nat_lt}
-use Rattle.std.proofs.lemmas.List.Edits.{sets}
 use Rattle.basics.specs.Bytes.{two_hex, space}
 use Rattle.basics.specs.Choice.{when◌then◌else◌}
 
@@ -9,19 +8,15 @@ use Rattle.basics.specs.Choice.{when◌then◌else◌}
 abbrev pub most_digits : ℕ
 most_digits = 20
 
--- how many decimal digits a number has: one, and as many more as its tenth has, if it isn't below 10
-unfoldable pub digit_count_up_to : (more : ℕ) → ℕ → ℕ
-digit_count_up_to zero n = 1
-digit_count_up_to (suc more) n = when nat_lt n 10 then 1 else suc (digit_count_up_to more (n / 10))
+-- a number in decimal, without leading zeros, the most significant digit first: at most so many digits
+unfoldable pub decimal_up_to : (most : ℕ) → ℕ → List ℕ
+decimal_up_to zero n = []
+decimal_up_to (suc more) n =
+    when nat_lt n 10 then (48 + n) ∷ [] else decimal_up_to more (n / 10) ++ ((48 + n % 10) ∷ [])
 
--- the last so many decimal digits of a number, the most significant first
-unfoldable pub last_digits : (count : ℕ) → ℕ → List ℕ
-last_digits zero n = []
-last_digits (suc count) n = last_digits count (n / 10) ++ ((48 + n % 10) ∷ [])
-
--- a number of 64 bits in decimal, without leading zeros
+-- a number of 64 bits in decimal
 unfoldable pub decimal : ℕ → List ℕ
-decimal n = last_digits (digit_count_up_to 19 n) n
+decimal n = decimal_up_to most_digits n
 
 -- a byte as two upper-case hex digits
 unfoldable pub hex : ℕ → List ℕ
@@ -39,12 +34,7 @@ most_decimal = 1 + most_digits
 abbrev pub most_hex : ℕ
 most_hex = 3
 
--- a text of at most so many bytes, stored in a room from a place on: the place after it, and the room then
-pub record Put (text : List ℕ) (most at : ℕ) (room : List ℕ) (next : ℕ) (later : List ℕ) : Type 0 where
-  pub after : next ≡ at + length text
-  pub near : next ≤ at + most
-  pub stored : later ≡ sets room at text
-
--- a text of its own length
-abbrev pub PutText : (text : List ℕ) (at : ℕ) (room : List ℕ) (next : ℕ) (later : List ℕ) → Type 0
-PutText text at room next later = Put text (length text) at room next later
+-- a text of at most so many bytes, put at the end of what there is
+pub record Put (text : List ℕ) (most : ℕ) (old new : List ℕ) : Type 0 where
+  pub near : length new ≤ length old + most
+  pub stored : new ≡ old ++ text

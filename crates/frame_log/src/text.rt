@@ -1,101 +1,104 @@
-// The parts of a line, each stored in a room from a place on. Each call gives the place after what it stored.
-ghost use Rattle.std.specs.Prelude.{◌≡◌, ◌+◌, ◌<◌, ◌≤◌, length, take};
-ghost use Rattle.basics.specs.Choice.{word};
-ghost use Rattle.frame_log.specs.Text.{most_digits, digit_count_up_to, decimal, hex, spaced};
-ghost use Rattle.frame_log.specs.Text.{most_decimal, most_hex, Put, PutText};
+// A line's text as it is made, and the parts of a line, each put at its end.
+ghost use Rattle.std.specs.Prelude.{◌≡◌, ℕ, ◌+◌, ◌≤◌, List, [], length, take, drop};
+ghost use Rattle.basics.specs.Outcome.{outcome};
+ghost use Rattle.frame_log.specs.Text.{decimal, hex, spaced, most_digits, most_decimal, most_hex, Put};
+ghost use Rattle.frame_log.specs.Line.{longest, placed};
 
+use crate::line::LONGEST;
 use basics::{copy, hex_digit};
+use std::marker::Model;
 
 // The decimal digits of the largest number of 64 bits.
-pub(crate) const MOST_DIGITS: usize = 20;
+const MOST_DIGITS: usize = 20;
 
-// At most so many bytes for a space and a number in decimal.
-pub(crate) const MOST_DECIMAL: usize = 1 + MOST_DIGITS;
-
-// So many bytes for a space and a byte in hex.
-pub(crate) const MOST_HEX: usize = 3;
-
-// Bytes as they are.
-pub(crate) fn put_bytes(room: &mut [u8], at: usize, text: &[u8]) -> usize
-    requires { at + length text.now ≤ length room.old }
-    ensures { PutText text.now at room.old result room.new }
-{
-    at + copy(text, &mut room[at..])
-}
-
-// How many decimal digits a number has.
-fn digit_count(n: u64) -> usize
+// Puts the decimal digits of a number at the back, and gives the first one's place.
+fn decimal(n: u64, digits: &mut [u8; MOST_DIGITS]) -> usize
     ensures within { result ≤ most_digits }
-    ensures count { result ≡ digit_count_up_to 19 n }
+    ensures text { drop result digits.new ≡ decimal n }
 {
     let mut rest = n;
-    for count in 1..MOST_DIGITS {
+    for i in (0..MOST_DIGITS).rev() {
+        digits[i] = b'0' + (rest % 10) as u8;
         if rest < 10 {
-            return count;
+            return i;
         }
         rest /= 10;
     }
-    MOST_DIGITS
+    0
 }
 
-// Puts the decimal digits of a number at the front, and gives how many they are.
-fn decimal(n: u64, digits: &mut [u8; MOST_DIGITS]) -> usize
-    ensures within { result ≤ most_digits }
-    ensures text { take result digits.new ≡ decimal n }
-{
-    let count = digit_count(n);
-    let mut rest = n;
-    for i in (0..count).rev() {
-        digits[i] = b'0' + (rest % 10) as u8;
-        rest /= 10;
+// A line as it is made: it has place for every one.
+#[derive(Drop)]
+pub(crate) struct Text {
+    bytes: [u8; LONGEST],
+    length: usize,
+}
+
+impl Model for Text {
+    ghost Value = { List ℕ };
+
+    ghost view = { λ t. take t.length t.bytes };
+
+    ghost invariant = { λ t. t.length ≤ longest };
+}
+
+impl Text {
+    // Nothing yet.
+    pub(crate) fn new() -> Self
+        ensures { result ≡ [] }
+    {
+        Text {
+            bytes: [0; LONGEST],
+            length: 0,
+        }
     }
-    count
-}
 
-// A number in decimal.
-pub(crate) fn put_decimal(room: &mut [u8], at: usize, n: u64) -> usize
-    requires { at + most_digits ≤ length room.old }
-    ensures { Put (decimal n) most_digits at room.old result room.new }
-{
-    let mut digits = [0u8; MOST_DIGITS];
-    let k = decimal(n, &mut digits);
-    put_bytes(room, at, &digits[0..k])
-}
+    // Bytes as they are.
+    pub(crate) fn put_bytes(&mut self, bytes: &[u8])
+        requires { length self.old + length bytes.now ≤ longest }
+        ensures { Put bytes.now (length bytes.now) self.old self.new }
+    {
+        self.length += copy(bytes, &mut self.bytes[self.length..]);
+    }
 
-// A space and a number in decimal.
-fn put_spaced(room: &mut [u8], at: usize, n: u64) -> usize
-    requires { at + most_decimal ≤ length room.old }
-    ensures { Put (spaced (decimal n)) most_decimal at room.old result room.new }
-{
-    room[at] = b' ';
-    put_decimal(room, at + 1, n)
-}
+    // A number in decimal.
+    #[tactic(auto, using(crate::proofs::TextLaws::length_decimal))]
+    pub(crate) fn put_decimal(&mut self, n: u64)
+        requires { length self.old + most_digits ≤ longest }
+        ensures { Put (decimal n) most_digits self.old self.new }
+    {
+        let mut digits = [0; MOST_DIGITS];
+        let first = decimal(n, &mut digits);
+        self.put_bytes(&digits[first..])
+    }
 
-// A space and a byte in decimal.
-pub(crate) fn put_byte(room: &mut [u8], at: usize, byte: u8) -> usize
-    requires { at + most_decimal ≤ length room.old }
-    ensures { Put (spaced (decimal byte)) most_decimal at room.old result room.new }
-{
-    put_spaced(room, at, u64::from(byte))
-}
+    // A space and a number in decimal.
+    #[tactic(auto, unfolding(crate::specs::Text::spaced))]
+    pub(crate) fn put_number(&mut self, n: u64)
+        requires { length self.old + most_decimal ≤ longest }
+        ensures { Put (spaced (decimal n)) most_decimal self.old self.new }
+    {
+        self.put_bytes(b" ");
+        self.put_decimal(n)
+    }
 
-// A space and a two-byte number, its high byte first, in decimal.
-pub(crate) fn put_word(room: &mut [u8], at: usize, high: u8, low: u8) -> usize
-    requires { at + most_decimal ≤ length room.old }
-    ensures { Put (spaced (decimal (word high low))) most_decimal at room.old result room.new }
-{
-    put_spaced(room, at, u64::from(u16::from_be_bytes([high, low])))
-}
+    // A space and a byte as two hex digits, in upper case.
+    #[tactic(auto, unfolding(crate::specs::Text::spaced, crate::specs::Text::hex))]
+    pub(crate) fn put_hex(&mut self, byte: u8)
+        requires { length self.old + most_hex ≤ longest }
+        ensures { Put (spaced (hex byte)) most_hex self.old self.new }
+    {
+        self.put_bytes(&[b' ', hex_digit(byte / 16), hex_digit(byte % 16)])
+    }
 
-// A space and a byte as two hex digits.
-#[tactic(auto, unfolding(crate::specs::Text::spaced, crate::specs::Text::hex))]
-pub(crate) fn put_hex(room: &mut [u8], at: usize, byte: u8) -> usize
-    requires { at + most_hex ≤ length room.old }
-    ensures { Put (spaced (hex byte)) most_hex at room.old result room.new }
-{
-    put_bytes(
-        room,
-        at,
-        &[b' ', hex_digit(byte / 16), hex_digit(byte % 16)],
-    )
+    // Writes the text at the front of the room, and gives its length. A room shorter than LONGEST stays as it is.
+    #[tactic(auto, unfolding(crate::specs::Line::placed))]
+    pub(crate) fn place(&self, room: &mut [u8]) -> Option<usize>
+        ensures { outcome result room.new ≡ placed self.now room.old }
+    {
+        if room.len() < LONGEST {
+            return None;
+        }
+        Some(copy(&self.bytes[..self.length], room))
+    }
 }

@@ -1,22 +1,18 @@
 -- `frame_log::line::line` meets its contract: one part after the other.
-use Rattle.std.proofs.Common.{arith}
-use Rattle.frame_log.specs.Line.{line_of}
-use Rattle.frame_log.proofs.TextLaws.{put_length, put_both, put_one}
-use Rattle.frame_log.proofs.LineLaws.{placed_text, placed_short}
+use Rattle.std.proofs.Common.{refl, ◌≡◌, ◌++◌, List, ℕ, ◌∙◌, ap, append_assoc}
+use Rattle.frame_log.specs.Line.{line_of, placed}
 use Rattle.frame_log.proofs.line.line.Goals as goal
 
-pub returns-then-room-lt-LONGEST : goal.returns-then-room-lt-LONGEST
-returns-then-room-lt-LONGEST c = placed_short _ _ c.if-room-lt-LONGEST.true
-
-pub shape_of-room : goal.shape_of-room
-shape_of-room c =
-    put_length {at = 0} {room = c.args.room.now}
-    (put_both c.put_decimal-at.ensures (put_both c.put_head-at.ensures (put_both c.put_answer-at.ensures
-    (put_both c.put_masks-at.ensures (put_both c.put_byte-at.ensures (put_one 10 _ _))))))
+-- one part more
+then : {text later all : List ℕ} (part : List ℕ) → later ≡ text ++ part → text ≡ all → later ≡ all ++ part
+then part e f = rw (e, f)
 
 pub returns : goal.returns
 unfolding line_of
 returns c =
-    placed_text c.if-room-lt-LONGEST.false (omega arith)
-    (put_both c.put_decimal-at.ensures (put_both c.put_head-at.ensures (put_both c.put_answer-at.ensures
-    (put_both c.put_masks-at.ensures (put_both c.put_byte-at.ensures (put_one 10 _ _))))))
+    c.place.ensures
+    ∙ ap (λ (text : List ℕ). placed text c.args.room.now)
+    (then _ c.put_bytes.ensures.stored (then _ c.put_number-5.ensures.stored (then _ c.put_hex-4.ensures.stored (then _ c.put_hex-3.ensures.stored
+    (then _ c.put_hex-2.ensures.stored (then _ c.put_number-4.ensures.stored (then _ c.put_number-3.ensures.stored (then _ c.put_number-2.ensures.stored
+    (then _ c.put_number.ensures.stored (then _ c.put_hex.ensures.stored (then _ c.put_decimal.ensures.stored c.new-text.ensures))))))))))
+    ∙ simp (append_assoc, c.from.ensures, c.from-2.ensures, c.from-3.ensures, c.from-4.ensures, c.from-5.ensures, c.from_be_bytes.ensures) refl)
