@@ -1,7 +1,7 @@
 -- Laws of entries: what an entry counts lies within the bytes and the room.
 -- Assumes nothing.
-use Rattle.std.proofs.Common.{◌≡◌, ℕ, ◌<◌, ◌≤◌, Bool, true, false, leb, Option, Some, List, length, take, replicate, Result, Ok, Err, refl, sym, le_refl, arith, length-append, length-drop, length-take-le, leb-true}
-use Rattle.basics.specs.Outcome.{Outcome, outcome, written}
+use Rattle.std.proofs.Common.{◌≡◌, ℕ, ◌<◌, ◌≤◌, Bool, true, false, leb, Option, unwrap_or, List, length, take, replicate, Result, Ok, Err, refl, sym, le_refl, arith, length-append, length-drop, length-take-le, leb-true}
+use Rattle.basics.specs.Outcome.{Outcome, outcome}
 use Rattle.basics.proofs.ChoiceLaws.{either, decided}
 use Rattle.frames.specs.Answer.{is_reported}
 use Rattle.frames.specs.Kind.{report_bytes}
@@ -27,20 +27,10 @@ Within (Last line) bytes room = line ≤ room
 Within More bytes room = Unit {0}
 Within Full bytes room = Unit {0}
 
--- what is entered where a line is placed
-goes_on_within :
-    (text room : List ℕ) (frame bytes : ℕ) (s : State) (log : Log) → length text ≤ longest → longest ≤ length room → 0 < frame → frame ≤ bytes →
-    Within (goes_on (placed text room).result frame s log).entry bytes (length room)
+count_within : (text room : List ℕ) → length text ≤ longest → longest ≤ length room → unwrap_or (placed text room).result 0 ≤ length room
 unfolding placed
-goes_on_within text room frame bytes s log h l some fits =
-    either (λ (o : Outcome (Option ℕ)). Within (goes_on o.result frame s log).entry bytes (length room)) (leb longest (length room))
-    {x = outcome (Some (length text)) (written text room)} (some, fits, omega arith) tt
-
-ends_within : (text room : List ℕ) (bytes : ℕ) (log : Log) → length text ≤ longest → longest ≤ length room → Within (ends (placed text room).result log).entry bytes (length room)
-unfolding placed
-ends_within text room bytes log h l =
-    either (λ (o : Outcome (Option ℕ)). Within (ends o.result log).entry bytes (length room)) (leb longest (length room))
-    {x = outcome (Some (length text)) (written text room)} (omega arith) tt
+count_within text room h l =
+    either (λ (o : Outcome (Option ℕ)). unwrap_or o.result 0 ≤ length room) (leb longest (length room)) (omega arith) (omega arith)
 
 module _ (log : Log) (room : List ℕ) (fits : longest ≤ length room) where
   printed_within :
@@ -48,10 +38,10 @@ module _ (log : Log) (room : List ℕ) (fits : longest ≤ length room) where
       Within (printed answer s report log frame room).result.entry bytes (length room)
   printed_within answer s report frame bytes some h =
       either (λ (o : Outcome Entered). Within o.result.entry bytes (length room)) (is_reported answer)
-      {x = let line = placed (line_of log.n report) room in outcome (goes_on line.result (length frame) s log) line.room}
-      {y = let line = placed (refused_line log.n answer) room in outcome (ends line.result log) line.room}
-      (goes_on_within (line_of log.n report) room (length frame) bytes s log (length_line _ _) fits some h)
-      (ends_within (refused_line log.n answer) room bytes log (length_refused _ _) fits)
+      {x = goes_on (placed (line_of log.n report) room) (length frame) s log}
+      {y = ends (placed (refused_line log.n answer) room) log}
+      (some, h, count_within _ room (length_line _ _) fits)
+      (count_within _ room (length_refused _ _) fits)
 
   worked_within : (frame : List ℕ) (bytes : ℕ) → 0 < length frame → length frame ≤ bytes → Within (worked log frame room).result.entry bytes (length room)
   unfolding worked
@@ -87,8 +77,8 @@ module _ (log : Log) (room : List ℕ) where
   printed_length : (answer : Answer) (s : State) (report frame : List ℕ) → length (printed answer s report log frame room).room ≡ length room
   printed_length answer s report frame =
       either (λ (o : Outcome Entered). length o.room ≡ length room) (is_reported answer)
-      {x = let line = placed (line_of log.n report) room in outcome (goes_on line.result (length frame) s log) line.room}
-      {y = let line = placed (refused_line log.n answer) room in outcome (ends line.result log) line.room}
+      {x = goes_on (placed (line_of log.n report) room) (length frame) s log}
+      {y = ends (placed (refused_line log.n answer) room) log}
       (placed_length _ room (length_line _ _)) (placed_length _ room (length_refused _ _))
 
   worked_length : (frame : List ℕ) → length (worked log frame room).room ≡ length room

@@ -1,18 +1,9 @@
--- Laws of text: what std prints of a number are its digits, and how many they are.
+-- Laws of text: a number's digits, the last one first, and how many they are.
 -- Assumes nothing.
-use Rattle.std.proofs.Common.{◌≡◌, ℕ, zero, suc, ◌/◌, ◌^◌, ◌<◌, ◌≤◌, ltb, List, length, arith, rules, sym, length-append}
-use Rattle.std.specs.Fmt.{decimal as printed}
-use Rattle.std.proofs.lemmas.Fmt.{AppendsLastDigit, decimal_from_appends, length-decimal-le}
+use Rattle.std.proofs.Common.{◌≡◌, ℕ, zero, suc, ◌+◌, ◌-◌, ◌/◌, ◌%◌, ◌<◌, ◌≤◌, ltb, List, [], ◌∷◌, ◌++◌, length, drop, set, sym, refl, add-one, arith, append_assoc, not-suc-le-zero, length-append, lt-ltb, le-ltb}
+use Rattle.std.proofs.lemmas.List.{drop-set}
 use Rattle.basics.proofs.ChoiceLaws.{either}
 use Rattle.frame_log.specs.Text.{most_digits, decimal_up_to, decimal}
-
-own : AppendsLastDigit decimal_up_to
-unfolding decimal_up_to
-own = search rules
-
-pub decimal_law : (n : ℕ) → n < 2 ^ 64 → printed n ≡ decimal n
-unfolding decimal
-decimal_law n h = sym (decimal_from_appends decimal_up_to own most_digits n h (search (rules, length-decimal-le 20)))
 
 length_up_to : (most n : ℕ) → length (decimal_up_to most n) ≤ most
 unfolding decimal_up_to
@@ -24,3 +15,25 @@ length_up_to (suc most) n =
 pub length_decimal : (n : ℕ) → length (decimal n) ≤ most_digits
 unfolding decimal
 length_decimal n = length_up_to most_digits n
+
+-- a digit goes to the front of those that are written already, which stand from its place on: the first of all, or one more
+module _ (n digit : ℕ) (digits : List ℕ) (e : digit ≡ 48 + n % 10) where
+  pub first_digit :
+      (place : ℕ) → 0 < place → place ≤ length digits → n < 10 →
+      drop (place - 1) (set digits (place - 1) digit) ≡ decimal_up_to place n ++ drop place digits
+  unfolding decimal_up_to
+  first_digit zero some room h = absurd (not-suc-le-zero some)
+  first_digit (suc i) some room h =
+      let left : suc i - 1 ≡ i = omega arith in
+      let own : digit ≡ 48 + n = omega (arith, e) in
+      rw (left, drop-set digits i digit room, add-one, own, lt-ltb n 10 h) refl
+
+  pub next_digit :
+      (place : ℕ) → 0 < place → place ≤ length digits → 10 ≤ n →
+      decimal_up_to (place - 1) (n / 10) ++ drop (place - 1) (set digits (place - 1) digit) ≡ decimal_up_to place n ++ drop place digits
+  unfolding decimal_up_to
+  next_digit zero some room h = absurd (not-suc-le-zero some)
+  next_digit (suc i) some room h =
+      let left : suc i - 1 ≡ i = omega arith in
+      rw (left, drop-set digits i digit room, add-one, e, le-ltb n 10 h)
+      (sym (append_assoc (decimal_up_to i (n / 10)) ((48 + n % 10) ∷ []) (drop (suc i) digits)))

@@ -1,6 +1,6 @@
 -- The log's next entry: the frame at the front of a stream, worked, and its line.
 -- Assumes nothing.
-use Rattle.std.specs.Prelude.{ℕ, ◌+◌, ◌%◌, ◌^◌, Bool, List, length, take, replicate, nat_le, Option, Some, None, Result, Ok, Err}
+use Rattle.std.specs.Prelude.{ℕ, ◌+◌, ◌%◌, ◌^◌, Bool, List, length, take, replicate, nat_le, Option, Result, Ok, Err, unwrap_or}
 use Rattle.basics.specs.Choice.{when◌then◌else◌}
 use Rattle.basics.specs.Outcome.{Outcome, outcome}
 use Rattle.frames.specs.Answer.{is_reported}
@@ -27,24 +27,20 @@ fresh_log = record { state = fresh_state; n = 1 }
 abbrev pub entered : Entry → Log → Entered
 entered e log = record { entry = e; log = log }
 
--- a line for a frame: the log goes on, in the next state and with the next n (of 64 bits); with no room for it, nothing is
--- entered
-abbrev pub goes_on : (line : Option ℕ) (frame : ℕ) → State → Log → Entered
-goes_on None frame s log = entered entry.Full log
-goes_on (Some line) frame s log =
-    entered (entry.Line frame line) (record { state = s; n = (log.n + 1) % 2 ^ 64 })
+-- a line for a frame: the log goes on, in the next state and with the next n (of 64 bits)
+abbrev pub goes_on : (line : Outcome (Option ℕ)) (frame : ℕ) → State → Log → Outcome Entered
+goes_on line frame s log =
+    outcome (entered (entry.Line frame (unwrap_or line.result 0)) (record { state = s; n = (log.n + 1) % 2 ^ 64 })) line.room
 
--- a line that says that the frame is refused: the log ends; likewise
-abbrev pub ends : (line : Option ℕ) → Log → Entered
-ends None log = entered entry.Full log
-ends (Some line) log = entered (entry.Last line) log
+-- a line that says that the frame is refused: the log ends
+abbrev pub ends : (line : Outcome (Option ℕ)) → Log → Outcome Entered
+ends line log = outcome (entered (entry.Last (unwrap_or line.result 0)) log) line.room
 
 -- what is printed of a step's answer, next state and report
 abbrev pub printed : Answer → State → (report : List ℕ) → Log → (frame room : List ℕ) → Outcome Entered
 printed answer s report log frame room =
-    when is_reported answer then
-    (let line = placed (line_of log.n report) room in outcome (goes_on line.result (length frame) s log) line.room)
-    else (let line = placed (refused_line log.n answer) room in outcome (ends line.result log) line.room)
+    when is_reported answer then goes_on (placed (line_of log.n report) room) (length frame) s log
+    else ends (placed (refused_line log.n answer) room) log
 
 -- the same, of all that a step leaves
 abbrev printed_step : Outcome Stepped → Log → (frame room : List ℕ) → Outcome Entered

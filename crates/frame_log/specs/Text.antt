@@ -1,7 +1,6 @@
 -- Numbers as text, in ASCII, and text that is put at the end of a line.
 -- Assumes nothing.
-use Rattle.std.specs.Prelude.{◌≡◌, ℕ, zero, suc, ◌+◌, ◌/◌, ◌%◌, ◌≤◌, List, [], ◌∷◌, ◌++◌, nat_lt}
-use Rattle.arrayvec.specs.ArrayVec.{ArrayVec, array_vec_len}
+use Rattle.std.specs.Prelude.{◌≡◌, ℕ, zero, suc, ◌+◌, ◌/◌, ◌%◌, ◌≤◌, List, [], ◌∷◌, ◌++◌, length, nat_lt}
 use Rattle.basics.specs.Bytes.{two_hex, space}
 use Rattle.basics.specs.Choice.{when◌then◌else◌}
 
@@ -36,6 +35,6 @@ abbrev pub most_hex : ℕ
 most_hex = 3
 
 -- a text of at most so many bytes, put at the end of what there is
-pub record Put (text : List ℕ) (most : ℕ) (old new : ArrayVec ℕ) : Type 0 where
-  pub near : array_vec_len new ≤ array_vec_len old + most
-  pub stored : new.items ≡ old.items ++ text
+pub record Put (text : List ℕ) (most : ℕ) (old new : List ℕ) : Type 0 where
+  pub near : length new ≤ length old + most
+  pub stored : new ≡ old ++ text

