@@ -127,17 +127,13 @@ pub extern "C" fn ems_step_books(
 pub extern "C" fn ems_summary(books: &[u64], shares: &mut [u16]) -> u8
     ensures { outcome result shares.new ≡ summary_reply books.now shares.old }
 {
-    match summary(books) {
-        Ok(_) if shares.len() < MODULES => NO_ROOM,
-        Ok(all) => {
-            put(all, shares);
-            DONE
-        }
-        Err(fault) => {
-            put([0; MODULES], shares);
-            fault.number()
-        }
-    }
+    let (all, number) = match summary(books) {
+        Ok(_) if shares.len() < MODULES => return NO_ROOM,
+        Ok(all) => (all, DONE),
+        Err(fault) => ([0; MODULES], fault.number()),
+    };
+    put(all, shares);
+    number
 }
 
 // The beacon's text of an image's state.
