@@ -28,8 +28,7 @@ pub fn cut(bytes: &[u8]) -> Result<usize, Uncut>
     Ok(total)
 }
 
-// How many of so many bytes are the frame's at their front: where its kind is unknown, or it is cut off, all of them. `pass`
-// has it in place.
+// How many of so many bytes are the frame's at their front: where its kind is unknown, or it is cut off, all of them.
 pub fn front_bytes(front: Result<usize, Uncut>, all: usize) -> usize
     ensures { result ≡ front_bytes front all }
 {

@@ -41,7 +41,7 @@ pub fn stage(mut modules: [Module; 8], wanted: u8, shorts: u8) -> Staged
     let mut i: usize = 0;
     while rest != 1 {
         let after = modules[i].power.second(want % 2 == 1, rest % 2 == 1);
-        modules[i].power = after;
+        modules[i] = modules[i].with_power(after);
         all = all / 2 + TOP * power_bits(after);
         rest /= 2;
         want /= 2;
@@ -62,7 +62,7 @@ pub fn request(mut modules: [Module; 8], mask: u8, on: bool) -> [Module; 8]
     let mut i: usize = 0;
     while rest != 1 {
         if has(mask, i) {
-            modules[i].requested = on;
+            modules[i] = modules[i].with_request(on);
         }
         rest /= 2;
         i += 1;
@@ -76,7 +76,7 @@ pub fn request_one(mut modules: [Module; 8], which: u8, on: bool) -> [Module; 8]
     ensures { result ≡ requested_one which on modules }
 {
     if which < 8 {
-        modules[usize::from(which)].requested = on;
+        modules[usize::from(which)] = modules[usize::from(which)].with_request(on);
     }
     modules
 }

@@ -6,7 +6,7 @@ ghost use Rattle.basics.specs.Outcome.{outcome};
 ghost use Rattle.pass.specs.Pass.{work_of, pass_of};
 
 use frames::answer::Answer;
-use frames::cut::cut;
+use frames::cut::{cut, front_bytes};
 use frames::kind::REPORT_BYTES;
 use supervisor::state::State;
 use supervisor::step::step;
@@ -33,7 +33,7 @@ struct Worked {
 fn work(state: State, rest: &[u8], room: &mut [u8]) -> Worked
     ensures { outcome result room.new ≡ work_of state rest.now room.old }
 {
-    let bytes = cut(rest).unwrap_or(rest.len());
+    let bytes = front_bytes(cut(rest), rest.len());
     let stepped = step(state, &rest[..bytes], room);
     Worked {
         answer: stepped.answer,

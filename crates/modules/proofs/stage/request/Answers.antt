@@ -20,7 +20,7 @@ loop-rest-preserved c =
       left = ap (λ (r : ℕ). r / 2) c.loop-rest.invariant.left ∙ marked_next _ _;
       done =
           elim c.if-has.branch [
-            | then-has w ↦ w.modules-is ∙ simp c.loop-rest.invariant.done (in_mask _ _ c.loop-rest.i _ _ (sym c.has.ensures ∙ w.if-has.true))
+            | then-has w ↦ w.modules-is ∙ simp (w.with_request.ensures, c.loop-rest.invariant.done) (in_mask _ _ c.loop-rest.i _ _ (sym c.has.ensures ∙ w.if-has.true))
             | else-has w ↦ w.modules-is ∙ c.loop-rest.invariant.done ∙ not_in_mask _ _ c.loop-rest.i _ no_module (sym c.has.ensures ∙ w.if-has.false)
           ];
     }

@@ -55,6 +55,7 @@ loop-rest-preserved c =
       bits = ap (λ (r : ℕ). r / 2) c.loop-rest.invariant.bits ∙ shr-shr _ _ 1;
       done =
           simp (
+            c.with_power.ensures,
             after.ensures,
             c.loop-rest.invariant.left,
             c.loop-rest.invariant.bits,
