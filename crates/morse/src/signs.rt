@@ -104,10 +104,13 @@ fn figure(digit: u8) -> Sign
 pub(crate) fn sign_of(c: u8) -> Sign
     ensures { marks_of result ≡ sign_of c }
 {
+    // A letter is found by the first test: one `match` would test for it last, as LLVM orders ranges.
     match c {
         b'?'..=b'Z' => letters()[usize::from(c - b'?')],
-        b'0'..=b'9' => figure(c - b'0'),
-        b','..=b'/' => stops()[usize::from(c - b',')],
-        _ => NO_SIGN,
+        _ => match c {
+            b'0'..=b'9' => figure(c - b'0'),
+            b','..=b'/' => stops()[usize::from(c - b',')],
+            _ => NO_SIGN,
+        },
     }
 }

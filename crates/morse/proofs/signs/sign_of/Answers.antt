@@ -10,7 +10,7 @@ use Rattle.morse.proofs.signs.sign_of.Goals as goal
 
 pub returns-in-63-to-90 : goal.returns-in-63-to-90
 returns-in-63-to-90 c =
-    rw c.from-in-63-to-90.ensures
+    rw c.from.ensures
     (table_right first_sign last_sign c.letters.result c.letters.ensures c.args.c (omega arith) (omega arith))
 
 pub returns-in-48-to-57 : goal.returns-in-48-to-57
@@ -21,17 +21,13 @@ returns-in-48-to-57 c =
 
 pub returns-in-44-to-47 : goal.returns-in-44-to-47
 returns-in-44-to-47 c =
-    rw c.from.ensures
+    rw c.from-in-44-to-47.ensures
     (table_right first_stop last_stop c.stops.result c.stops.ensures c.args.c (omega arith) (omega arith))
 
-pub returns-in_default : goal.returns-in_default
+pub returns-in_default-c : goal.returns-in_default-c
 unfolding marks_of
-returns-in_default c = sym (no_sign_law _ (λ a b. omega arith) (λ a b. omega arith) (λ a b. omega arith))
+returns-in_default-c c = sym (no_sign_law _ (λ a b. omega arith) (λ a b. omega arith) (λ a b. omega arith))
 
-pub returns-in_default-2 : goal.returns-in_default-2
+pub returns-in_default-c-2 : goal.returns-in_default-c-2
 unfolding marks_of
-returns-in_default-2 c = sym (no_sign_law _ (λ a b. omega arith) (λ a b. omega arith) (λ a b. omega arith))
-
-pub returns-in_default-3 : goal.returns-in_default-3
-unfolding marks_of
-returns-in_default-3 c = sym (no_sign_law _ (λ a b. omega arith) (λ a b. omega arith) (λ a b. omega arith))
+returns-in_default-c-2 c = sym (no_sign_law _ (λ a b. omega arith) (λ a b. omega arith) (λ a b. omega arith))
