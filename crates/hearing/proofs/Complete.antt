@@ -8,10 +8,10 @@ use mathlib.Core.List.{List, [], ◌∷◌, ◌++◌}
 use Rattle.std.specs.Prelude.{Option, Some, None}
 use Rattle.std.specs.Option.{option_map, option_and_then}
 use lib.Dec.{T, eqb}
-use borrow.Author.Tests.{eqb-true, not-true, lt-leb}
+use borrow.Author.Tests.{eqb-true, not-true, lt-leb, ne_eqb}
 use Rattle.basics.specs.Choice.{when◌then◌else◌, within}
 use Rattle.basics.specs.Bytes.{space}
-use Rattle.basics.proofs.ChoiceLaws.{is_true, holds, and_left, and_right, within_high}
+use Rattle.basics.proofs.ChoiceLaws.{is_true, holds, and_left, and_right, within_low, within_high}
 use Rattle.morse.specs.Signs.{Mark, dot, dash, alphabet, sign_of, signed}
 use Rattle.morse.specs.Texts.{is_space, all_known, fault_of}
 use Rattle.morse.specs.Units.{up, span, sign_units, units_after, units_of, between_signs, between_words}
@@ -71,7 +71,12 @@ heard_over false (Some byte) rest t e = rw e
 module _ (n : ℕ) (m : Mark) (short : T (may_grow n)) where
   after_mark_law : after_mark n (span m) ≡ Some (grown n m)
   unfolding after_mark
-  after_mark_law = rw (lt-leb five_marks n (omega (arith, within_high 1 (five_marks - 1) n short))) (by_mark m)
+  after_mark_law =
+      rw (
+        lt-leb five_marks n (omega (arith, within_high 1 (five_marks - 1) n short)),
+        ne_eqb n 0 (omega (arith, within_low 1 (five_marks - 1) n short)),
+      )
+      (by_mark m)
     where
       by_mark : (m : Mark)
           → (when eqb (span m) 1 then Some (grown n dot) else when eqb (span m) 3 then Some (grown n dash) else None)
@@ -87,7 +92,11 @@ module _ (n : ℕ) (m : Mark) (short : T (may_grow n)) where
   -- by the next mark of its sign
   hear_inside : (us : List ℕ) → hear (ear n (span m) 0) (0 ∷ 1 ∷ us) ≡ hear (ear (grown n m) 1 0) us
   unfolding told_by after_gap
-  hear_inside us = rw after_mark_law
+  hear_inside us = rw (after_mark_law, ne_eqb (grown n m) 0 (positive m))
+    where
+      positive : (m : Mark) → grown n m ≡ 0 → ⊥
+      positive dot e = omega (arith, within_low 1 (five_marks - 1) n short)
+      positive dash e = omega arith
 
   -- by the next sign
   hear_gap : (word : Bool) (us t : List ℕ) → hear begun us ≡ Some t

@@ -94,7 +94,8 @@ told_near e unit n d u =
 
     by_mark : (number : Option ℕ) → Next (option_and_then (λ k. after_gap k e.up) number)
     by_mark None = tt
-    by_mark (Some number) = either Next (eqb e.up inside_sign) (omega arith, omega arith) (by_byte (byte_of number))
+    by_mark (Some number) =
+        either Next (eqb e.up inside_sign) (either Next (eqb number 0) tt (omega arith, omega arith)) (by_byte (byte_of number))
 
 pub heard_none : (us : List ℕ) → length us ≡ 0 → heard us ≡ Some []
 unfolding heard

@@ -112,15 +112,20 @@ pub record Marked (number down next : ℕ) : Type 0 where
 
 pub marked : (n d next : ℕ) → after_mark n d ≡ Some next → Marked n d next
 unfolding after_mark
-marked n d next e = by_tests (leb five_marks n) refl (eqb d 1) refl (eqb d 3) refl e
+marked n d next e = by_tests (leb five_marks n) refl (eqb d 1) refl (eqb n 0) (eqb d 3) refl e
   where
-    by_tests : (a : Bool) → leb five_marks n ≡ a → (b : Bool) → eqb d 1 ≡ b → (c : Bool) → eqb d 3 ≡ c
-        → (when a then None else when b then Some (grown n dot) else when c then Some (grown n dash) else None) ≡ Some next
+    by_tests : (a : Bool) → leb five_marks n ≡ a → (b : Bool) → eqb d 1 ≡ b → (z c : Bool) → eqb d 3 ≡ c
+        → (when a then None
+        else when b then (when z then None else Some (grown n dot))
+        else when c then Some (grown n dash) else None) ≡ Some next
         → Marked n d next
-    by_tests true p b q c r e = cc
-    by_tests false p true q c r e = record { mark = dot; spans = eqb-true d 1 q; short = leb-false five_marks n p; grows = cc }
-    by_tests false p false q true r e = record { mark = dash; spans = eqb-true d 3 r; short = leb-false five_marks n p; grows = cc }
-    by_tests false p false q false r e = cc
+    by_tests true p b q z c r e = cc
+    by_tests false p true q true c r e = cc
+    by_tests false p true q false c r e =
+        record { mark = dot; spans = eqb-true d 1 q; short = leb-false five_marks n p; grows = cc }
+    by_tests false p false q z true r e =
+        record { mark = dash; spans = eqb-true d 3 r; short = leb-false five_marks n p; grows = cc }
+    by_tests false p false q z false r e = cc
 
 -- a byte that has the marks of a number
 pub record Spoken (number byte : ℕ) : Type 0 where

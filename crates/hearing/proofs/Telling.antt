@@ -7,7 +7,7 @@ use mathlib.Core.Bool.{false, not}
 use mathlib.Core.List.{List, [], ◌∷◌, ◌++◌, append-nil, append_assoc}
 use lib.Dec.{T, eqb}
 use lib.ListN.{replicate-append-replicate}
-use borrow.Author.Tests.{eqb-true, not-false}
+use borrow.Author.Tests.{eqb-true, ne_eqb, not-false}
 use Rattle.std.specs.Prelude.{Option, Some, None}
 use Rattle.std.specs.Option.{option_and_then}
 use Rattle.basics.proofs.ChoiceLaws.{decided}
@@ -89,13 +89,17 @@ module _ (n d : ℕ) (p : 0 < n) where
     gap_right : (g : ℕ) → Right (ear n d g) 1 (after_gap k g)
     unfolding after_gap
     gap_right g =
-        decided By (eqb g inside_sign) (λ i. rw (eqb-true g 1 i) inside) (λ i. by_byte (byte_of k) refl)
+        decided By (eqb g inside_sign) (λ i. rw (ne_eqb k 0 (omega (arith, some)), eqb-true g 1 i) inside)
+        (λ i. by_byte (byte_of k) refl)
       where
         By : Option Told → Type 0
         By = Right (ear n d g) 1
 
+        some : 0 < k
+        some = rw m.grows (grown_some n m.mark p)
+
         inside : Right (ear n d 1) 1 (Some (On (ear k 1 0)))
-        inside = (rw m.grows (grown_some n m.mark p), sym (ap (λ l. l ++ (1 ∷ [])) lead_marked))
+        inside = (some, sym (ap (λ l. l ++ (1 ∷ [])) lead_marked))
 
         by_byte : (o : Option ℕ) → byte_of k ≡ o → By (option_and_then (over g) o)
         by_byte None e = tt

@@ -29,7 +29,7 @@ over gap byte =
 -- what a gap tells, once the key is down again, after marks with this number, if a keying has it
 unfoldable pub after_gap : (number gap : ℕ) → Option Told
 after_gap number gap =
-    when eqb gap inside_sign then Some (On (ear number 1 0))
+    when eqb gap inside_sign then (when eqb number 0 then None else Some (On (ear number 1 0)))
     else option_and_then (over gap) (byte_of number)
 
 -- what one more unit tells, if a keying has it

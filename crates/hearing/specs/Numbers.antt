@@ -74,6 +74,6 @@ figure_by number =
 unfoldable pub after_mark : (number down : ℕ) → Option ℕ
 after_mark number down =
     when leb five_marks number then None
-    else when eqb down (span dot) then Some (grown number dot)
+    else when eqb down (span dot) then (when eqb number 0 then None else Some (grown number dot))
     else when eqb down (span dash) then Some (grown number dash)
     else None

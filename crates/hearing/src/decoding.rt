@@ -40,7 +40,7 @@ fn after_gap(number: u8, gap: usize) -> Option<Told>
     ensures { result ≡ after_gap number gap }
 {
     if gap == INSIDE_SIGN {
-        return Some(Told::On(Ear { number, ..BEGUN }));
+        return (number != 0).then_some(Told::On(Ear { number, ..BEGUN }));
     }
     let byte = byte_of(number)?;
     match gap {

@@ -103,7 +103,7 @@ pub(crate) fn after_mark(number: u8, down: usize) -> Option<u8>
         return None;
     }
     match down {
-        DOT => Some(2 * number),
+        DOT if number != 0 => Some(2 * number),
         DASH => Some(2 * number + 1),
         _ => None,
     }
