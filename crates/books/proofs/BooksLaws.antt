@@ -23,6 +23,13 @@ use Rattle.modules.proofs.MasksLaws.{on_bit, failed_bit}
 use Rattle.supervisor.specs.State.{off_module}
 use Rattle.books.specs.Books.{book_numbers, most_seconds, second_of, place_of, shown_as, added_to, counted, none_above}
 
+-- a test and another that each imply the other
+same_truth : (a b : Bool) → (T a → T b) → (T b → T a) → a ≡ b
+same_truth true true f g = refl
+same_truth true false f g = absurd (f tt)
+same_truth false true f g = absurd (g tt)
+same_truth false false f g = refl
+
 -- ---- what masks show
 
 shown_power : (p : Power) → (when is_on p then 0 else when is_failed p then 2 else 1) ≡ second_of p

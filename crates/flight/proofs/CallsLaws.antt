@@ -2,7 +2,7 @@
 -- Assumes nothing.
 use Prim.Native.Nat.{ℕ, ◌<◌}
 use mathlib.Core.Path.{◌≡◌, refl, sym, ap, ◌∙◌}
-use mathlib.Core.Bool.{Bool, true, false}
+use mathlib.Core.Bool.{Bool, true, false, ◌&&◌, true≢false}
 use mathlib.Core.List.{List}
 use native.Mathlib.Omega.{arith}
 use lib.Dec.{T, eqb, ltb}
@@ -35,8 +35,9 @@ use Rattle.books.specs.Books.{book_numbers}
 use Rattle.books.specs.Answer.{book_fault_number, book_number, is_book_reported}
 use Rattle.books.specs.Step.{WithBooks, with_books, step_books_of}
 use Rattle.books.specs.History.{Board, called_with, board_after}
-use Rattle.books.specs.Summary.{summary_of, put_into}
-use Rattle.books.specs.declared.answer.BookFault.TheVariants.{NotBooks}
+use Rattle.books.specs.Summary.{no_shares, summary_of, put_into}
+use Rattle.books.specs.declared.answer.BookFault.{BookFault}
+use Rattle.books.specs.declared.answer.BookFault.TheVariants.{Full, NotBooks}
 use Rattle.modules.specs.Groups.{module_count}
 use Rattle.morse.specs.Answers.{done, no_room}
 use Rattle.books.specs.declared.step.Booked.{Booked}
@@ -47,15 +48,15 @@ use Rattle.beacon.specs.Writing.{fault_number, written_reply}
 use Rattle.beacon.specs.declared.writing.WriteFault.{WriteFault}
 use Rattle.beacon.specs.declared.writing.WriteFault.TheVariants.{BadState}
 use Rattle.beacon.proofs.WritingLaws.{beacon_outside}
-use Rattle.tracker.specs.Tracker.{left_at, track_answer}
+use Rattle.tracker.specs.Tracker.{left_at, track_of, track_answer}
 use Rattle.tracker.specs.declared.OutOfRange.{OutOfRange}
 use Rattle.tracker.specs.declared.Tracked.{Tracked}
 use Rattle.flight.specs.Saving.{image_bytes, saved}
 use Rattle.flight.specs.Loading.{has_layout, decoded, loaded, fields_say}
 use Rattle.flight.specs.Calls.{imaged, bad_state, stepped_to, step_image, passed_to, pass_image, modules_on_reply, modules_on_image, beacon_image}
-use Rattle.flight.specs.Calls.{booked_to, step_books_image, summary_reply}
+use Rattle.flight.specs.Calls.{booked_to, step_books_image, summed_to, summary_reply}
 use Rattle.flight.specs.Calls.{told, replied, ReadReplied}
-use Rattle.flight.specs.Calls.{tracks, tracked_to}
+use Rattle.flight.specs.Calls.{tracks, tracked_to, tracks_of}
 use Rattle.flight.proofs.FieldsLaws.{AllBytes}
 use Rattle.flight.proofs.LoadingLaws.{layout, saved_decoded}
 
@@ -103,15 +104,37 @@ pub books_none :
 unfolding step_books_image
 books_none image frame room books e = simp e
 
--- a summary with no place for the shares, one with, and one that is refused
-module _ (books room : List ℕ) where
-  pub summed_short : (shares : List ℕ) → summary_of books ≡ Ok shares → ltb (length room) module_count ≡ true → outcome no_room room ≡ summary_reply books room
-  unfolding summary_reply
-  summed_short shares e short = simp (e, short)
+-- what a summary tells: its number, and its shares, zeros where it is refused
+abbrev pub summed_number : Result (List ℕ) BookFault → ℕ
+summed_number (Ok shares) = done
+summed_number (Err fault) = book_fault_number fault
 
-  pub summed_put : (shares : List ℕ) → summary_of books ≡ Ok shares → ltb (length room) module_count ≡ false → outcome done (put_into shares room) ≡ summary_reply books room
+abbrev pub summed_shares : Result (List ℕ) BookFault → List ℕ
+summed_shares (Ok shares) = shares
+summed_shares (Err fault) = no_shares
+
+-- a summary with no place for the shares, and any other, one that is refused too
+module _ (books room : List ℕ) where
+  pub summed_short : (eqb (summed_number (summary_of books)) 0 && ltb (length room) module_count) ≡ true → outcome no_room room ≡ summary_reply books room
   unfolding summary_reply
-  summed_put shares e fits = simp (e, fits)
+  summed_short = by (summary_of books)
+    where
+      by : (answer : Result (List ℕ) BookFault) → (eqb (summed_number answer) 0 && ltb (length room) module_count) ≡ true → outcome no_room room ≡ summed_to answer room
+      by (Ok shares) e = rw e
+      by (Err Full) e = absurd (true≢false (sym e))
+      by (Err NotBooks) e = absurd (true≢false (sym e))
+
+  pub summed_put :
+      (room' : List ℕ) (n : ℕ) → (eqb (summed_number (summary_of books)) 0 && ltb (length room) module_count) ≡ false →
+      n ≡ summed_number (summary_of books) → room' ≡ put_into (summed_shares (summary_of books)) room → outcome n room' ≡ summary_reply books room
+  unfolding summary_reply
+  summed_put room' n = by (summary_of books)
+    where
+      by :
+          (answer : Result (List ℕ) BookFault) → (eqb (summed_number answer) 0 && ltb (length room) module_count) ≡ false →
+          n ≡ summed_number answer → room' ≡ put_into (summed_shares answer) room → outcome n room' ≡ summed_to answer room
+      by (Ok shares) e number puts = rw (e, number, puts)
+      by (Err fault) e number puts = rw (number, puts)
 
 -- bytes of another layout
 module _ (image room : List ℕ) (nothing : fields_say image ≡ None) where
@@ -301,3 +324,22 @@ read_replied {room' = room'} given r e =
 pub tracked_by : {n : ℕ} (point : ℕ) (step : ℤ) (answer : Result Tracked OutOfRange) → n ≡ track_answer answer
     → tracks n (left_at point step answer).point (left_at point step answer).step ≡ tracked_to point step answer
 tracked_by point step answer p = rw p
+
+-- a call of the tracker that is refused leaves set point and step where they stand
+pub tracks_stand :
+    (volts_before amps_before volts_after amps_after point : ℕ) (step : ℤ) →
+    (tracks_of volts_before amps_before volts_after amps_after point step).number ≡ 16 →
+    ((tracks_of volts_before amps_before volts_after amps_after point step).point ≡ point)
+    × ((tracks_of volts_before amps_before volts_after amps_after point step).step ≡ step)
+unfolding tracks_of
+tracks_stand volts_before amps_before volts_after amps_after point step =
+    by
+    (track_of
+    (record { millivolts = volts_before; milliamperes = amps_before })
+    (record { millivolts = volts_after; milliamperes = amps_after })
+    point step)
+  where
+    by : (answer : Result Tracked OutOfRange) → (tracked_to point step answer).number ≡ 16 →
+        ((tracked_to point step answer).point ≡ point) × ((tracked_to point step answer).step ≡ step)
+    by (Ok tracked) e = absurd (omega (arith, e))
+    by (Err refusal) e = (refl, refl)

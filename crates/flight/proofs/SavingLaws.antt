@@ -100,15 +100,13 @@ quad_of n h = ap (λ high. n % 256 ∷ n / 256 % 256 ∷ n / 65536 % 256 ∷ hig
 
 -- a module's bytes, and then those of the modules after it
 pub stored_turn :
-    (ms : List Module) (i : ℕ) (room bytes : List ℕ) (d : Module) → i < length ms → bytes ≡ pair_bytes (module_code (get_or ms i d)) →
-    sets (sets room (modules_place + 2 * i) bytes) (modules_place + 2 * (i + 1)) (modules_bytes (drop (i + 1) ms))
-    ≡ sets room (modules_place + 2 * i) (modules_bytes (drop i ms))
+    (ms : List Module) (i at next : ℕ) (room bytes : List ℕ) (d : Module) → i < length ms → bytes ≡ pair_bytes (module_code (get_or ms i d)) →
+    next ≡ at + 2 → sets (sets room at bytes) next (modules_bytes (drop (i + 1) ms)) ≡ sets room at (modules_bytes (drop i ms))
 unfolding modules_bytes
-stored_turn ms i room bytes d h e =
+stored_turn ms i at next room bytes d h e n =
     let own = pair_bytes (module_code (get_or ms i d)) in
     let rest : drop i ms ≡ get_or ms i d ∷ drop (i + 1) ms = rw add-one (drop-cons ms i d h) in
-    let next : modules_place + 2 * (i + 1) ≡ modules_place + 2 * i + 2 = omega arith in
-    rw (e, rest, next) (sym (sets_append own (modules_bytes (drop (i + 1) ms)) room (modules_place + 2 * i)))
+    rw (e, rest, n) (sym (sets_append own (modules_bytes (drop (i + 1) ms)) room at))
 
 -- a part of a room, from a place on, that is written over
 pub part_stored :

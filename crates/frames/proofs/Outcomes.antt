@@ -2,6 +2,7 @@
 -- Assumes nothing.
 use Rattle.std.proofs.Common.{sym, ◌∙◌}
 use Rattle.basics.specs.OneOutcome.{OneOutcome}
+use Rattle.frames.proofs.NumberLaws.{kind_read_one, origin_read_one}
 use Rattle.frames.specs.contracts.answer.Answer.number as answer_number
 use Rattle.frames.proofs.answer.Answer.number.Reads as answer_number_reads
 use Rattle.frames.specs.contracts.answer.Answer.is_reported
@@ -26,6 +27,14 @@ use Rattle.frames.specs.contracts.kind.Kind.total as kind_total
 use Rattle.frames.proofs.kind.Kind.total.Reads as kind_total_reads
 use Rattle.frames.specs.contracts.kind.total
 use Rattle.frames.proofs.kind.total.Reads as total_reads
+use Rattle.frames.specs.contracts.kind.KindTryFromU8.try_from as kind_try_from
+use Rattle.frames.proofs.kind.KindTryFromU8.try_from.Reads as kind_try_from_reads
+use Rattle.frames.specs.contracts.sender.OriginTryFromU8.try_from as origin_try_from
+use Rattle.frames.proofs.sender.OriginTryFromU8.try_from.Reads as origin_try_from_reads
+use Rattle.frames.specs.contracts.answer.AnswerFromNoKind.from as from_no_kind
+use Rattle.frames.proofs.answer.AnswerFromNoKind.from.Reads as from_no_kind_reads
+use Rattle.frames.specs.contracts.answer.AnswerFromNoOrigin.from as from_no_origin
+use Rattle.frames.proofs.answer.AnswerFromNoOrigin.from.Reads as from_no_origin_reads
 use Rattle.frames.specs.contracts.greeting.is_greeting
 use Rattle.frames.proofs.greeting.is_greeting.Reads as is_greeting_reads
 use Rattle.frames.specs.contracts.greeting.text_of
@@ -87,3 +96,15 @@ are_thresholds_one = record { taken = λ κs a. tt; one = λ κs a x y p q i. ((
 
 pub read_one : OneOutcome read.ended read_reads.Asked read_reads.Learnt
 read_one = record { taken = λ κs a. tt; one = λ κs a x y p q i. ((p ∙ sym q) i, (tt, tt)) }
+
+pub kind_try_from_one : OneOutcome kind_try_from.ended kind_try_from_reads.Asked kind_try_from_reads.Learnt
+kind_try_from_one = record { taken = λ κs a. tt; one = λ κs a x y p q i. (kind_read_one _ _ _ p q i, (tt, tt)) }
+
+pub origin_try_from_one : OneOutcome origin_try_from.ended origin_try_from_reads.Asked origin_try_from_reads.Learnt
+origin_try_from_one = record { taken = λ κs a. tt; one = λ κs a x y p q i. (origin_read_one _ _ _ p q i, (tt, tt)) }
+
+pub from_no_kind_one : OneOutcome from_no_kind.ended from_no_kind_reads.Asked from_no_kind_reads.Learnt
+from_no_kind_one = record { taken = λ κs a. tt; one = λ κs a x y p q i. ((p ∙ sym q) i, (tt, tt)) }
+
+pub from_no_origin_one : OneOutcome from_no_origin.ended from_no_origin_reads.Asked from_no_origin_reads.Learnt
+from_no_origin_one = record { taken = λ κs a. tt; one = λ κs a x y p q i. ((p ∙ sym q) i, (tt, tt)) }

@@ -14,6 +14,8 @@ use Rattle.morse.specs.contracts.units.put
 use Rattle.morse.proofs.units.put.Reads as put_reads
 use Rattle.morse.specs.contracts.keying.KeyFaultRefusal.number as keyed_number
 use Rattle.morse.proofs.keying.KeyFaultRefusal.number.Reads as keyed_number_reads
+use Rattle.morse.specs.contracts.keying.KeyFaultFromFault.from as from_fault
+use Rattle.morse.proofs.keying.KeyFaultFromFault.from.Reads as from_fault_reads
 use Rattle.morse.specs.contracts.keying.key
 use Rattle.morse.proofs.keying.key.Reads as key_reads
 
@@ -28,6 +30,9 @@ put_one = record { taken = λ κs a. tt; one = λ κs a x y p q i. (tt, ((p ∙ 
 
 pub keyed_number_one : OneOutcome keyed_number.ended keyed_number_reads.Asked keyed_number_reads.Learnt
 keyed_number_one = record { taken = λ κs a. tt; one = λ κs a x y p q i. ((p ∙ sym q) i, (tt, tt)) }
+
+pub from_fault_one : OneOutcome from_fault.ended from_fault_reads.Asked from_fault_reads.Learnt
+from_fault_one = record { taken = λ κs a. tt; one = λ κs a x y p q i. ((p ∙ sym q) i, (tt, tt)) }
 
 pub key_one : OneOutcome key.ended key_reads.Asked key_reads.Learnt
 key_one = record {

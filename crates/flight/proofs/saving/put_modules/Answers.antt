@@ -27,7 +27,11 @@ loop-i-preserved c =
     let eight : length modules ≡ module_count = search (rules, length_mapped) in
     record {
       size = ap length c.put.ensures ∙ length-sets l.image (modules_place + 2 * l.i) c.to_le_bytes.result ∙ l.invariant.size;
-      rest = rw c.put.ensures (stored_turn modules l.i l.image _ _ (omega arith) (c.to_le_bytes.ensures ∙ pair_of _ (search rules) ∙ ap pair_bytes c.module_code.ensures) ∙ l.invariant.rest);
+      rest =
+          rw c.put.ensures
+          (stored_turn modules l.i (modules_place + 2 * l.i) (modules_place + 2 * (l.i + 1)) l.image _ _ (omega arith)
+          (c.to_le_bytes.ensures ∙ pair_of _ (search rules) ∙ ap pair_bytes c.module_code.ensures) (omega arith)
+          ∙ l.invariant.rest);
     }
 
 pub returns : goal.returns
