@@ -14,18 +14,20 @@ use Rattle.beacon.proofs.WritingLaws.{beacon_outside, beacon_silent, beacon_shor
 use Rattle.beacon.proofs.writing.write.Goals as goal
 
 pub returns-then-not-in_range : goal.returns-then-not-in_range
-returns-then-not-in_range c = beacon_outside _ _ _ (sym c.in_range.ensures ∙ c.if-not-in_range.true)
+returns-then-not-in_range c =
+    rw (← (beacon_outside c.args.form c.args.state _ (sym c.in_range.ensures ∙ c.if-not-in_range.true)))
 
 pub returns-then-not-has_text : goal.returns-then-not-has_text
 returns-then-not-has_text c =
-    beacon_silent _ _ _ (sym c.in_range.ensures ∙ c.if-not-in_range.false) (sym c.has_text.ensures ∙ c.if-not-has_text.true)
+    let e : in_range c.args.state ≡ true = sym c.in_range.ensures ∙ c.if-not-in_range.false in
+    rw (← (beacon_silent c.args.form c.args.state _ e (sym c.has_text.ensures ∙ c.if-not-has_text.true)))
 
 pub returns-then-text-n : goal.returns-then-text-n
 returns-then-text-n c =
     let a = c.args in
     let e : in_range a.state ≡ true = sym c.in_range.ensures ∙ c.if-not-in_range.false in
     let told : has_text a.form a.state.message.length ≡ true = sym c.has_text.ensures ∙ c.if-not-has_text.false in
-    beacon_short _ _ _ e told (omega (arith, text_length a.state (message_fair a.state (holds _ e)) a.form, c.form_bytes-n.ensures))
+    rw (← (beacon_short a.form a.state a.text.now e told (omega (arith, text_length a.state (message_fair a.state (holds _ e)) a.form, c.form_bytes-n.ensures))))
 
 pub full_text-requires : goal.full_text-requires
 full_text-requires c =
@@ -51,4 +53,4 @@ returns c =
     ap (take (c.form_bytes-n.result - 0)) c.full_text.ensures
     ∙ ap (λ k. take k (full_text a.state)) n
     ∙ text_front a.state f a.form in
-    beacon_copied _ _ _ e told _ src (omega (arith, text_length a.state f a.form, c.form_bytes-n.ensures)) copy.0 copy.1
+    rw (← (beacon_copied a.form a.state a.text.now e told _ src (omega (arith, text_length a.state f a.form, c.form_bytes-n.ensures)) copy.0 copy.1))
