@@ -9,7 +9,7 @@ use Rattle.morse.specs.Texts.{is_keyable, fault_of}
 use Rattle.morse.proofs.TextsLaws.{keyable_fault}
 use Rattle.frames.specs.Greeting.{longest_greeting, all_zero, is_greeting}
 
-zero_step : (bytes : List ℕ) (i : ℕ) → i < length bytes → all_zero (drop i bytes) ≡ (eqb (get_or bytes i 0) 0 && all_zero (drop (i + 1) bytes))
+pub zero_step : (bytes : List ℕ) (i : ℕ) → i < length bytes → all_zero (drop i bytes) ≡ (eqb (get_or bytes i 0) 0 && all_zero (drop (i + 1) bytes))
 zero_step bytes i h = rw (add-one, drop-cons bytes i 0)
 
 -- one byte more: it is among what was found, or among what is left

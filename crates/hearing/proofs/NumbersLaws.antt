@@ -38,7 +38,7 @@ past_on (suc turns) first part t h =
     rw (ne_eqb part four_marks (omega arith), e)
 
 -- beyond 32, there is none
-past_never : (turns first part : ℕ) → four_marks < part → past_by turns first part ≡ None
+pub past_never : (turns first part : ℕ) → four_marks < part → past_by turns first part ≡ None
 past_never zero first part h = refl
 past_never (suc turns) first part h =
     simp (ne_eqb part four_marks (omega arith)) (past_never turns (first + 1) (2 * part) (omega arith))

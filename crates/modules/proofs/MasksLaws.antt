@@ -139,7 +139,7 @@ unfolding packed masks_of mask_of
 packed_none = refl
 
 -- seven modules leave room for one more
-packed_room : (ms : List Module) → length ms ≤ 7 → packed ms < 8421504
+pub packed_room : (ms : List Module) → length ms ≤ 7 → packed ms < 8421504
 unfolding packed masks_of
 packed_room ms h =
     let small : (test : Module → Bool) → mask_of test ms < 128 = λ test. mask_of_small test 7 ms h in

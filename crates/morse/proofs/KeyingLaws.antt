@@ -32,7 +32,7 @@ unfolding key_of
 key_by_law t room found e = ap (λ x. key_by x (units_of t) room) e
 
 module _ (units room : List ℕ) where
-  key_short : length room < length units → outcome (Err NoRoom) room ≡ key_units units room
+  pub key_short : length room < length units → outcome (Err NoRoom) room ≡ key_units units room
   unfolding key_units
   key_short h = simp (lt-ltb (length room) (length units) h)
 
@@ -40,7 +40,7 @@ module _ (units room : List ℕ) where
   unfolding key_units
   key_within h = simp (le-ltb (length room) (length units) h)
 
-  key_stored : {n : ℕ} {later : List ℕ} → Stored 0 units room n later → length units ≤ length room
+  pub key_stored : {n : ℕ} {later : List ℕ} → Stored 0 units room n later → length units ≤ length room
       → outcome (Ok n) later ≡ key_units units room
   key_stored {n} s h =
       let e : n ≡ length units = omega arith in
